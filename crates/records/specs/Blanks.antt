@@ -1,0 +1,175 @@
+-- The blank of every record: no bytes, no number but 0, no flag set, nothing counted.
+use mathlib.Core.Bool.{false}
+use lib.IntN.{pos}
+use lib.ListN.{replicate}
+use Rattle.records.specs.declared.counters.SnapshotId.{SnapshotId}
+use Rattle.records.specs.declared.counters.SchemaId.{SchemaId}
+use Rattle.records.specs.declared.text.RefName.{RefName}
+use Rattle.records.specs.declared.text.Location.{Location}
+use Rattle.records.specs.declared.text.FileName.{FileName}
+use Rattle.records.specs.declared.snapshot.Snapshot.{Snapshot}
+use Rattle.records.specs.declared.snapshot.Snapshots.{Snapshots}
+use Rattle.records.specs.declared.snapshot.SnapshotIds.{SnapshotIds}
+use Rattle.records.specs.declared.snapshot.SnapshotLogEntry.{SnapshotLogEntry}
+use Rattle.records.specs.declared.snapshot.SnapshotLog.{SnapshotLog}
+use Rattle.records.specs.declared.reference.SnapshotReference.{SnapshotReference}
+use Rattle.records.specs.declared.reference.NamedRef.{NamedRef}
+use Rattle.records.specs.declared.reference.Refs.{Refs}
+use Rattle.records.specs.declared.schema.SchemaField.{SchemaField}
+use Rattle.records.specs.declared.schema.Schema.{Schema}
+use Rattle.records.specs.declared.schema.Schemas.{Schemas}
+use Rattle.records.specs.declared.schema.SchemaIds.{SchemaIds}
+use Rattle.records.specs.declared.«sort_order».SortField.{SortField}
+use Rattle.records.specs.declared.«sort_order».SortOrder.{SortOrder}
+use Rattle.records.specs.declared.«sort_order».SortOrders.{SortOrders}
+use Rattle.records.specs.declared.metadata.MetadataLogEntry.{MetadataLogEntry}
+use Rattle.records.specs.declared.metadata.MetadataLog.{MetadataLog}
+use Rattle.records.specs.declared.metadata.SingleFields.{SingleFields}
+use Rattle.records.specs.declared.metadata.TableMetadata.{TableMetadata}
+use Rattle.records.specs.declared.update.TableUpdate.{TableUpdate}
+use Rattle.records.specs.declared.update.UpdateList.{UpdateList}
+
+-- ---- texts
+
+abbrev pub noRefName : RefName
+noRefName = record { bytes = replicate 32 0; len = 0 }
+
+abbrev pub noLocation : Location
+noLocation = record { bytes = replicate 96 0; len = 0 }
+
+abbrev pub noFileName : FileName
+noFileName = record { bytes = replicate 96 0; len = 0 }
+
+-- ---- snapshots
+
+abbrev pub noSnapshotId : SnapshotId
+noSnapshotId = record { 0 = pos 0 }
+
+abbrev pub noSnapshot : Snapshot
+noSnapshot = record {
+  «snapshot_id» = noSnapshotId;
+  «has_parent» = false;
+  «parent_snapshot_id» = noSnapshotId;
+  «sequence_number» = record { 0 = pos 0 };
+  «timestamp_ms» = record { 0 = pos 0 };
+  «has_rows» = false;
+  «first_row_id» = record { 0 = 0 };
+  «added_rows» = 0;
+}
+
+unfoldable pub noSnapshots : Snapshots
+noSnapshots = record { items = replicate 64 noSnapshot; count = 0 }
+
+abbrev pub noSnapshotIds : SnapshotIds
+noSnapshotIds = record { items = replicate 16 noSnapshotId; count = 0 }
+
+abbrev pub noLogEntry : SnapshotLogEntry
+noLogEntry = record { «snapshot_id» = noSnapshotId; «timestamp_ms» = record { 0 = pos 0 } }
+
+unfoldable pub noSnapshotLog : SnapshotLog
+noSnapshotLog = record { items = replicate 128 noLogEntry; count = 0 }
+
+-- ---- refs
+
+abbrev pub noReference : SnapshotReference
+noReference = record {
+  «snapshot_id» = noSnapshotId;
+  kind = 0;
+  «has_min» = false;
+  «min_snapshots_to_keep» = record { 0 = pos 0 };
+  «has_age» = false;
+  «max_snapshot_age_ms» = record { 0 = pos 0 };
+  «has_ref_age» = false;
+  «max_ref_age_ms» = record { 0 = pos 0 };
+}
+
+abbrev pub noRef : NamedRef
+noRef = record { name = noRefName; reference = noReference }
+
+unfoldable pub noRefs : Refs
+noRefs = record { items = replicate 16 noRef; count = 0 }
+
+-- ---- schemas
+
+abbrev pub noSchemaField : SchemaField
+noSchemaField = record { id = record { 0 = pos 0 } }
+
+unfoldable pub noSchema : Schema
+noSchema = record { «schema_id» = record { 0 = pos 0 }; items = replicate 32 noSchemaField; count = 0 }
+
+unfoldable pub noSchemas : Schemas
+noSchemas = record { items = replicate 16 noSchema; count = 0 }
+
+abbrev pub noSchemaId : SchemaId
+noSchemaId = record { 0 = pos 0 }
+
+abbrev pub noSchemaIds : SchemaIds
+noSchemaIds = record { items = replicate 16 noSchemaId; count = 0 }
+
+-- ---- sort orders
+
+abbrev pub noSortField : SortField
+noSortField = record { «source_id» = record { 0 = pos 0 }; direction = 0; «null_order» = 0 }
+
+unfoldable pub noSortOrder : SortOrder
+noSortOrder = record { «order_id» = record { 0 = pos 0 }; items = replicate 8 noSortField; count = 0 }
+
+unfoldable pub noSortOrders : SortOrders
+noSortOrders = record { items = replicate 16 noSortOrder; count = 0 }
+
+-- ---- metadata
+
+abbrev pub noMetadataLogEntry : MetadataLogEntry
+noMetadataLogEntry = record { «metadata_file» = noFileName; «timestamp_ms» = record { 0 = pos 0 } }
+
+-- 01, "Forms we want to see": the log starts as a blank entry repeated 128 times
+unfoldable pub noMetadataLog : MetadataLog
+noMetadataLog = record { items = replicate 128 noMetadataLogEntry; count = 0 }
+
+unfoldable pub noFields : SingleFields
+noFields = record {
+  «format_version» = 0;
+  «table_uuid» = replicate 16 0;
+  location = noLocation;
+  «last_updated_ms» = record { 0 = pos 0 };
+  «last_sequence_number» = record { 0 = pos 0 };
+  «next_row_id» = record { 0 = 0 };
+  «last_column_id» = record { 0 = pos 0 };
+  «has_current» = false;
+  «current_snapshot_id» = noSnapshotId;
+  «current_schema_id» = record { 0 = pos 0 };
+  «default_sort_order_id» = record { 0 = pos 0 };
+}
+
+unfoldable pub noMetadata : TableMetadata
+noMetadata = record {
+  fields = noFields;
+  snapshots = noSnapshots;
+  refs = noRefs;
+  «snapshot_log» = noSnapshotLog;
+  «metadata_log» = noMetadataLog;
+  schemas = noSchemas;
+  «sort_orders» = noSortOrders;
+}
+
+-- ---- updates
+
+unfoldable pub noUpdate : TableUpdate
+noUpdate = record {
+  kind = 0;
+  uuid = replicate 16 0;
+  «format_version» = 0;
+  location = noLocation;
+  snapshot = noSnapshot;
+  «snapshot_ids» = noSnapshotIds;
+  «ref_name» = noRefName;
+  reference = noReference;
+  schema = noSchema;
+  «schema_id» = record { 0 = pos 0 };
+  «schema_ids» = noSchemaIds;
+  «sort_order» = noSortOrder;
+  «sort_order_id» = record { 0 = pos 0 };
+}
+
+unfoldable pub noUpdates : UpdateList
+noUpdates = record { items = replicate 64 noUpdate; count = 0 }

@@ -1,0 +1,26 @@
+// How many of each a record has room for: document 01, "Capacities and well-formed records".
+pub const SNAPSHOTS: usize = 64;
+
+pub const REFS: usize = 16;
+
+pub const SNAPSHOT_LOG: usize = 128;
+
+pub const METADATA_LOG: usize = 128;
+
+pub const SCHEMAS: usize = 16;
+
+pub const SCHEMA_FIELDS: usize = 32;
+
+pub const SORT_ORDERS: usize = 16;
+
+pub const SORT_FIELDS: usize = 8;
+
+pub const REMOVALS: usize = 16;
+
+pub const REF_NAME: usize = 32;
+
+pub const LOCATION: usize = 96;
+
+pub const FILE_NAME: usize = 96;
+
+pub const UPDATES: usize = 64;

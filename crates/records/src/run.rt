@@ -1,0 +1,22 @@
+// What a run is given beside metadata, updates and the limit text, and what it answers.
+use crate::counters::Time;
+use crate::metadata::MetadataLog;
+use crate::metadata::TableMetadata;
+use crate::text::FileName;
+use crate::update::UpdateList;
+
+// The terms of a run. The text that limits the metadata log has any length, so it is lent beside this.
+pub struct RunTerms {
+    pub clock_ms: Time,
+    pub has_file: bool,
+    pub file: FileName,
+}
+
+// The number is 0 for an accepted run; a refused one gives the metadata that it was given, no changes and no expired entries.
+pub struct Answer {
+    pub number: u8,
+    pub place: usize,
+    pub metadata: TableMetadata,
+    pub changes: UpdateList,
+    pub expired: MetadataLog,
+}

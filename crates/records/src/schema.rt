@@ -1,0 +1,72 @@
+// Schemas: flat lists of optional longs. A field is a record, so that it can gain a name and a type.
+ghost use mathlib.Core.Path.{_≡_};
+ghost use Rattle.records.specs.Blanks.{noSchemaField, noSchema, noSchemas, noSchemaIds};
+use crate::capacities::REMOVALS;
+use crate::capacities::SCHEMA_FIELDS;
+use crate::capacities::SCHEMAS;
+use crate::counters::FieldId;
+use crate::counters::SchemaId;
+
+pub struct SchemaField {
+    pub id: FieldId,
+}
+
+pub struct Schema {
+    pub schema_id: SchemaId,
+    pub items: [SchemaField; SCHEMA_FIELDS],
+    pub count: usize,
+}
+
+// Ascending by id.
+pub struct Schemas {
+    pub items: [Schema; SCHEMAS],
+    pub count: usize,
+}
+
+// The ids of a removal.
+pub struct SchemaIds {
+    pub items: [SchemaId; REMOVALS],
+    pub count: usize,
+}
+
+impl SchemaField {
+    pub fn blank() -> SchemaField
+        ensures { λ r. ⌜ r ≡ noSchemaField ⌝ }
+    {
+        SchemaField { id: FieldId(0) }
+    }
+}
+
+impl Schema {
+    pub fn blank() -> Schema
+        ensures { λ r. ⌜ r ≡ noSchema ⌝ }
+    {
+        let none = SchemaField::blank();
+        let items = [none; SCHEMA_FIELDS];
+        Schema {
+            schema_id: SchemaId(0),
+            items,
+            count: 0,
+        }
+    }
+}
+
+impl Schemas {
+    pub fn blank() -> Schemas
+        ensures { λ r. ⌜ r ≡ noSchemas ⌝ }
+    {
+        let none = Schema::blank();
+        let items = [none; SCHEMAS];
+        Schemas { items, count: 0 }
+    }
+}
+
+impl SchemaIds {
+    pub fn blank() -> SchemaIds
+        ensures { λ r. ⌜ r ≡ noSchemaIds ⌝ }
+    {
+        let none = SchemaId(0);
+        let items = [none; REMOVALS];
+        SchemaIds { items, count: 0 }
+    }
+}

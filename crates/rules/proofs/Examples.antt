@@ -1,0 +1,20 @@
+-- P1 to P12, and the easy wrong turns, hold of the written rules: one statement over the list of examples, by computation.
+use mathlib.Core.Path.{_≡_, refl}
+use mathlib.Core.List.{map}
+use Rattle.rules.specs.Limit.{limitOf}
+use Rattle.rules.specs.Names.{trimmed}
+use Rattle.rules.specs.Window.{isBefore}
+use Rattle.rules.specs.Walk.{follow, ancestors}
+use Rattle.rules.specs.WellFormed.{snapshotsFormed, refsFormed, snapshotLogFormed, metadataLogFormed, schemasFormed, ordersFormed, refsHeld, mainAgrees, currentSchemaHeld, defaultOrderHeld, fieldsFormed, metadataFormed, updateFormed}
+use Rattle.rules.specs.ChangeLog.{logsAddition, logsMain, logsRemoval}
+use Rattle.rules.specs.SnapshotUpdates.{addSnapshotChecks, addSnapshot, removeSnapshots}
+use Rattle.rules.specs.RefUpdates.{setRefChecks, setRef}
+use Rattle.rules.specs.SchemaUpdates.{addSchemaChecks, addSchema, setCurrentSchemaChecks, setCurrentSchema, removeSchemasChecks, removeSchemas}
+use Rattle.rules.specs.Updates.{checks, updateNumber, effect}
+use Rattle.rules.specs.Close.{isDefaultUnfit, intermediates, rebuilt, endsElsewhere, expired, staying, closeChecks, closed}
+use Rattle.rules.specs.Run.{listSum, runFrom, close, run}
+use Rattle.rules.specs.Examples.{Example, replyTo, examples}
+
+pub examples-hold : map (λ (e : Example). replyTo (e .asked)) examples ≡ map (λ (e : Example). e .reply) examples
+unfolding limitOf trimmed isBefore follow ancestors snapshotsFormed refsFormed snapshotLogFormed metadataLogFormed schemasFormed ordersFormed refsHeld mainAgrees currentSchemaHeld defaultOrderHeld fieldsFormed metadataFormed updateFormed logsAddition logsMain logsRemoval addSnapshotChecks addSnapshot removeSnapshots setRefChecks setRef addSchemaChecks addSchema setCurrentSchemaChecks setCurrentSchema removeSchemasChecks removeSchemas checks updateNumber effect isDefaultUnfit intermediates rebuilt endsElsewhere expired staying closeChecks closed listSum runFrom close run
+examples-hold = refl

@@ -1,0 +1,3 @@
+pub mod Checks
+pub mod Examples
+pub mod Relaid

@@ -1,0 +1,54 @@
+-- How many of each there may be, and the largest numbers: document 01, "Capacities and well-formed records".
+use Prim.Native.Nat.{ℕ}
+use lib.IntN.{ℤ, pos}
+
+abbrev pub snapshotRoom : ℕ
+snapshotRoom = 64
+
+abbrev pub refRoom : ℕ
+refRoom = 16
+
+abbrev pub snapshotLogRoom : ℕ
+snapshotLogRoom = 128
+
+abbrev pub metadataLogRoom : ℕ
+metadataLogRoom = 128
+
+abbrev pub schemaRoom : ℕ
+schemaRoom = 16
+
+abbrev pub schemaFieldRoom : ℕ
+schemaFieldRoom = 32
+
+abbrev pub sortOrderRoom : ℕ
+sortOrderRoom = 16
+
+abbrev pub sortFieldRoom : ℕ
+sortFieldRoom = 8
+
+abbrev pub removalRoom : ℕ
+removalRoom = 16
+
+abbrev pub refNameRoom : ℕ
+refNameRoom = 32
+
+abbrev pub locationRoom : ℕ
+locationRoom = 96
+
+abbrev pub fileNameRoom : ℕ
+fileNameRoom = 96
+
+-- "the sum is at most 64"
+abbrev pub listRoom : ℕ
+listRoom = 64
+
+-- "2^64 - 1": the largest row id, and the largest number of the limit text
+abbrev pub largestRowId : ℕ
+largestRowId = 18446744073709551615
+
+-- "the type's largest": schema ids are i32 and sort-order ids i64, in the Rust and in the public format
+abbrev pub largestSchemaId : ℤ
+largestSchemaId = pos 2147483647
+
+abbrev pub largestSortOrderId : ℤ
+largestSortOrderId = pos 9223372036854775807

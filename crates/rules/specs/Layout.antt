@@ -1,0 +1,284 @@
+-- From records with slots to plain lists (`read`) and back (`laid`), defined once. What is read of a count is as many elements as the
+-- count says: a slot that is not there reads as blank, so nothing is lost of a count above the capacity. Laying pads with blanks.
+-- For well-formed metadata going there and back changes nothing (`relaid`, in proofs/Relaid).
+use Prim.Native.Nat.{ℕ, _-_}
+use mathlib.Core.Bool.{Bool, true, false, cond}
+use mathlib.Core.List.{List, [], _∷_, _++_, map}
+use mathlib.Core.Option.{Option, none, some}
+use lib.Dec.{eqb}
+use lib.IntN.{ℤ, pos}
+use lib.ListN.{length, take, replicate}
+use Rattle.records.specs.Blanks.{noRefName, noLocation, noFileName, noSnapshotId, noSnapshot, noSnapshotIds, noLogEntry, noReference, noRef, noSchemaField, noSchema, noSchemaId, noSchemaIds, noSortField, noSortOrder, noMetadataLogEntry, noUpdate}
+use Rattle.records.specs.declared.counters.RowId.{RowId}
+use Rattle.records.specs.declared.counters.SnapshotId.{SnapshotId}
+use Rattle.records.specs.declared.counters.SchemaId.{SchemaId}
+use Rattle.records.specs.declared.text.RefName.{RefName}
+use Rattle.records.specs.declared.text.Location.{Location}
+use Rattle.records.specs.declared.text.FileName.{FileName}
+use Rattle.records.specs.declared.snapshot.Snapshot.{Snapshot}
+use Rattle.records.specs.declared.snapshot.Snapshots.{Snapshots}
+use Rattle.records.specs.declared.snapshot.SnapshotIds.{SnapshotIds}
+use Rattle.records.specs.declared.snapshot.SnapshotLogEntry.{SnapshotLogEntry}
+use Rattle.records.specs.declared.snapshot.SnapshotLog.{SnapshotLog}
+use Rattle.records.specs.declared.reference.SnapshotReference.{SnapshotReference}
+use Rattle.records.specs.declared.reference.NamedRef.{NamedRef}
+use Rattle.records.specs.declared.reference.Refs.{Refs}
+use Rattle.records.specs.declared.schema.SchemaField.{SchemaField}
+use Rattle.records.specs.declared.schema.Schema.{Schema}
+use Rattle.records.specs.declared.schema.Schemas.{Schemas}
+use Rattle.records.specs.declared.schema.SchemaIds.{SchemaIds}
+use Rattle.records.specs.declared.«sort_order».SortField.{SortField}
+use Rattle.records.specs.declared.«sort_order».SortOrder.{SortOrder}
+use Rattle.records.specs.declared.«sort_order».SortOrders.{SortOrders}
+use Rattle.records.specs.declared.metadata.MetadataLogEntry.{MetadataLogEntry}
+use Rattle.records.specs.declared.metadata.MetadataLog.{MetadataLog}
+use Rattle.records.specs.declared.metadata.SingleFields.{SingleFields}
+use Rattle.records.specs.declared.metadata.TableMetadata.{TableMetadata}
+use Rattle.rules.specs.Words.{isSome, orElse}
+use Rattle.rules.specs.Capacities.{snapshotRoom, refRoom, snapshotLogRoom, metadataLogRoom, schemaRoom, schemaFieldRoom, sortOrderRoom, sortFieldRoom, removalRoom, refNameRoom, locationRoom, fileNameRoom}
+use Rattle.rules.specs.Register as plain
+
+-- ---- slots and flags
+
+module _ {A : Type 0} where
+  -- the first n slots; one that is not there reads as blank
+  abbrev pub counted : A → List A → ℕ → List A
+  counted blank items n = take n items ++ replicate (n - length items) blank
+
+  -- the list, and blanks up to so many slots
+  abbrev pub pad : ℕ → A → List A → List A
+  pad room blank l = l ++ replicate (room - length l) blank
+
+  -- a value behind a flag
+  abbrev pub given : Bool → A → Option A
+  given true a = some a
+  given false a = none
+
+-- ---- texts
+
+abbrev pub readRefName : RefName → List ℕ
+readRefName t = counted 0 (t .bytes) (t .len)
+
+unfoldable pub laidRefName : List ℕ → RefName
+laidRefName l = record { bytes = pad refNameRoom 0 l; len = length l }
+
+abbrev pub readLocation : Location → List ℕ
+readLocation t = counted 0 (t .bytes) (t .len)
+
+unfoldable pub laidLocation : List ℕ → Location
+laidLocation l = record { bytes = pad locationRoom 0 l; len = length l }
+
+abbrev pub readFileName : FileName → List ℕ
+readFileName t = counted 0 (t .bytes) (t .len)
+
+unfoldable pub laidFileName : List ℕ → FileName
+laidFileName l = record { bytes = pad fileNameRoom 0 l; len = length l }
+
+-- ---- snapshots
+
+abbrev pub readSnapshot : Snapshot → plain.Snapshot
+readSnapshot s =
+    record {
+      id = s .«snapshot_id» .0;
+      parent = given (s .«has_parent») (s .«parent_snapshot_id» .0);
+      sequence = s .«sequence_number»;
+      time = s .«timestamp_ms» .0;
+      rows = given (s .«has_rows») (record { first = s .«first_row_id»; added = s .«added_rows» });
+    }
+
+abbrev pub firstRow : Option plain.RowRange → RowId
+firstRow none = record { 0 = 0 }
+firstRow (some r) = r .first
+
+abbrev pub addedRows : Option plain.RowRange → ℕ
+addedRows none = 0
+addedRows (some r) = r .added
+
+unfoldable pub laidSnapshot : plain.Snapshot → Snapshot
+laidSnapshot s =
+    record {
+      «snapshot_id» = record { 0 = s .id };
+      «has_parent» = isSome (s .parent);
+      «parent_snapshot_id» = record { 0 = orElse (s .parent) (pos 0) };
+      «sequence_number» = s .sequence;
+      «timestamp_ms» = record { 0 = s .time };
+      «has_rows» = isSome (s .rows);
+      «first_row_id» = firstRow (s .rows);
+      «added_rows» = addedRows (s .rows);
+    }
+
+abbrev pub readSnapshots : Snapshots → List plain.Snapshot
+readSnapshots t = map readSnapshot (counted noSnapshot (t .items) (t .count))
+
+unfoldable pub laidSnapshots : List plain.Snapshot → Snapshots
+laidSnapshots l = record { items = pad snapshotRoom noSnapshot (map laidSnapshot l); count = length l }
+
+abbrev pub readSnapshotIds : SnapshotIds → List ℤ
+readSnapshotIds t = map (λ (i : SnapshotId). i .0) (counted noSnapshotId (t .items) (t .count))
+
+unfoldable pub laidSnapshotIds : List ℤ → SnapshotIds
+laidSnapshotIds l = record { items = pad removalRoom noSnapshotId (map (λ (z : ℤ). record { 0 = z }) l); count = length l }
+
+abbrev pub readLogEntry : SnapshotLogEntry → plain.LogEntry
+readLogEntry e = record { snapshot = e .«snapshot_id» .0; time = e .«timestamp_ms» .0 }
+
+abbrev pub laidLogEntry : plain.LogEntry → SnapshotLogEntry
+laidLogEntry e = record { «snapshot_id» = record { 0 = e .snapshot }; «timestamp_ms» = record { 0 = e .time } }
+
+abbrev pub readSnapshotLog : SnapshotLog → List plain.LogEntry
+readSnapshotLog t = map readLogEntry (counted noLogEntry (t .items) (t .count))
+
+unfoldable pub laidSnapshotLog : List plain.LogEntry → SnapshotLog
+laidSnapshotLog l = record { items = pad snapshotLogRoom noLogEntry (map laidLogEntry l); count = length l }
+
+-- ---- refs
+
+abbrev pub readReference : SnapshotReference → plain.Reference
+readReference r =
+    record {
+      snapshot = r .«snapshot_id» .0;
+      kind = r .kind;
+      minSnapshots = given (r .«has_min») (r .«min_snapshots_to_keep» .0);
+      maxSnapshotAge = given (r .«has_age») (r .«max_snapshot_age_ms» .0);
+      maxRefAge = given (r .«has_ref_age») (r .«max_ref_age_ms» .0);
+    }
+
+unfoldable pub laidReference : plain.Reference → SnapshotReference
+laidReference r =
+    record {
+      «snapshot_id» = record { 0 = r .snapshot };
+      kind = r .kind;
+      «has_min» = isSome (r .minSnapshots);
+      «min_snapshots_to_keep» = record { 0 = orElse (r .minSnapshots) (pos 0) };
+      «has_age» = isSome (r .maxSnapshotAge);
+      «max_snapshot_age_ms» = record { 0 = orElse (r .maxSnapshotAge) (pos 0) };
+      «has_ref_age» = isSome (r .maxRefAge);
+      «max_ref_age_ms» = record { 0 = orElse (r .maxRefAge) (pos 0) };
+    }
+
+abbrev pub readRef : NamedRef → plain.NamedRef
+readRef r = record { name = readRefName (r .name); reference = readReference (r .reference) }
+
+unfoldable pub laidRef : plain.NamedRef → NamedRef
+laidRef r = record { name = laidRefName (r .name); reference = laidReference (r .reference) }
+
+abbrev pub readRefs : Refs → List plain.NamedRef
+readRefs t = map readRef (counted noRef (t .items) (t .count))
+
+unfoldable pub laidRefs : List plain.NamedRef → Refs
+laidRefs l = record { items = pad refRoom noRef (map laidRef l); count = length l }
+
+-- ---- schemas
+
+abbrev pub readSchemaField : SchemaField → plain.SchemaField
+readSchemaField f = record { id = f .id .0 }
+
+abbrev pub laidSchemaField : plain.SchemaField → SchemaField
+laidSchemaField f = record { id = record { 0 = f .id } }
+
+abbrev pub readSchema : Schema → plain.Schema
+readSchema s = record { id = s .«schema_id» .0; fields = map readSchemaField (counted noSchemaField (s .items) (s .count)) }
+
+unfoldable pub laidSchema : plain.Schema → Schema
+laidSchema s = record { «schema_id» = record { 0 = s .id }; items = pad schemaFieldRoom noSchemaField (map laidSchemaField (s .fields)); count = length (s .fields) }
+
+abbrev pub readSchemas : Schemas → List plain.Schema
+readSchemas t = map readSchema (counted noSchema (t .items) (t .count))
+
+unfoldable pub laidSchemas : List plain.Schema → Schemas
+laidSchemas l = record { items = pad schemaRoom noSchema (map laidSchema l); count = length l }
+
+abbrev pub readSchemaIds : SchemaIds → List ℤ
+readSchemaIds t = map (λ (i : SchemaId). i .0) (counted noSchemaId (t .items) (t .count))
+
+unfoldable pub laidSchemaIds : List ℤ → SchemaIds
+laidSchemaIds l = record { items = pad removalRoom noSchemaId (map (λ (z : ℤ). record { 0 = z }) l); count = length l }
+
+-- ---- sort orders
+
+abbrev pub readSortField : SortField → plain.SortField
+readSortField f = record { source = f .«source_id» .0; direction = f .direction; nulls = f .«null_order» }
+
+abbrev pub laidSortField : plain.SortField → SortField
+laidSortField f = record { «source_id» = record { 0 = f .source }; direction = f .direction; «null_order» = f .nulls }
+
+abbrev pub readSortOrder : SortOrder → plain.SortOrder
+readSortOrder o = record { id = o .«order_id» .0; fields = map readSortField (counted noSortField (o .items) (o .count)) }
+
+unfoldable pub laidSortOrder : plain.SortOrder → SortOrder
+laidSortOrder o = record { «order_id» = record { 0 = o .id }; items = pad sortFieldRoom noSortField (map laidSortField (o .fields)); count = length (o .fields) }
+
+abbrev pub readSortOrders : SortOrders → List plain.SortOrder
+readSortOrders t = map readSortOrder (counted noSortOrder (t .items) (t .count))
+
+unfoldable pub laidSortOrders : List plain.SortOrder → SortOrders
+laidSortOrders l = record { items = pad sortOrderRoom noSortOrder (map laidSortOrder l); count = length l }
+
+-- ---- metadata
+
+abbrev pub readMetadataLogEntry : MetadataLogEntry → plain.FileEntry
+readMetadataLogEntry e = record { file = readFileName (e .«metadata_file»); time = e .«timestamp_ms» .0 }
+
+unfoldable pub laidMetadataLogEntry : plain.FileEntry → MetadataLogEntry
+laidMetadataLogEntry e = record { «metadata_file» = laidFileName (e .file); «timestamp_ms» = record { 0 = e .time } }
+
+abbrev pub readMetadataLog : MetadataLog → List plain.FileEntry
+readMetadataLog t = map readMetadataLogEntry (counted noMetadataLogEntry (t .items) (t .count))
+
+unfoldable pub laidMetadataLog : List plain.FileEntry → MetadataLog
+laidMetadataLog l = record { items = pad metadataLogRoom noMetadataLogEntry (map laidMetadataLogEntry l); count = length l }
+
+abbrev pub readFields : SingleFields → plain.SingleFields
+readFields f =
+    record {
+      version = f .«format_version»;
+      uuid = f .«table_uuid»;
+      location = readLocation (f .location);
+      lastUpdated = f .«last_updated_ms» .0;
+      lastSequence = f .«last_sequence_number»;
+      nextRow = f .«next_row_id»;
+      lastColumn = f .«last_column_id» .0;
+      current = given (f .«has_current») (f .«current_snapshot_id» .0);
+      currentSchema = f .«current_schema_id» .0;
+      defaultOrder = f .«default_sort_order_id» .0;
+    }
+
+unfoldable pub laidFields : plain.SingleFields → SingleFields
+laidFields f =
+    record {
+      «format_version» = f .version;
+      «table_uuid» = f .uuid;
+      location = laidLocation (f .location);
+      «last_updated_ms» = record { 0 = f .lastUpdated };
+      «last_sequence_number» = f .lastSequence;
+      «next_row_id» = f .nextRow;
+      «last_column_id» = record { 0 = f .lastColumn };
+      «has_current» = isSome (f .current);
+      «current_snapshot_id» = record { 0 = orElse (f .current) (pos 0) };
+      «current_schema_id» = record { 0 = f .currentSchema };
+      «default_sort_order_id» = record { 0 = f .defaultOrder };
+    }
+
+abbrev pub readMetadata : TableMetadata → plain.Metadata
+readMetadata m =
+    record {
+      fields = readFields (m .fields);
+      snapshots = readSnapshots (m .snapshots);
+      refs = readRefs (m .refs);
+      snapshotLog = readSnapshotLog (m .«snapshot_log»);
+      metadataLog = readMetadataLog (m .«metadata_log»);
+      schemas = readSchemas (m .schemas);
+      orders = readSortOrders (m .«sort_orders»);
+    }
+
+unfoldable pub laidMetadata : plain.Metadata → TableMetadata
+laidMetadata m =
+    record {
+      fields = laidFields (m .fields);
+      snapshots = laidSnapshots (m .snapshots);
+      refs = laidRefs (m .refs);
+      «snapshot_log» = laidSnapshotLog (m .snapshotLog);
+      «metadata_log» = laidMetadataLog (m .metadataLog);
+      schemas = laidSchemas (m .schemas);
+      «sort_orders» = laidSortOrders (m .orders);
+    }

@@ -1,0 +1,25 @@
+-- Document 01, in the order in which it is read: words, records, leaves, well-formed records, updates, the close, the run, the layout of records.
+pub mod Words
+pub mod Replies
+pub mod Capacities
+pub mod Register
+pub mod Limit
+pub mod Window
+pub mod RowIds
+pub mod Names
+pub mod Walk
+pub mod WellFormed
+pub mod ChangeLog
+pub mod SingleUpdates
+pub mod SnapshotUpdates
+pub mod RefUpdates
+pub mod SchemaUpdates
+pub mod OrderUpdates
+pub mod Updates
+pub mod Close
+pub mod Run
+pub mod Blanks
+pub mod Layout
+pub mod Kinds
+pub mod Answer
+pub mod Examples

@@ -1,0 +1,75 @@
+-- The run: document 01, "Numbers of the replies", last paragraph: "1, then 2, then updates in order, then the close; the first refusal ends the run."
+use Prim.Native.Nat.{ℕ, suc}
+use mathlib.Core.Bool.{Bool, cond, not, _&&_}
+use mathlib.Core.List.{List, [], _∷_}
+use mathlib.Core.Option.{Option, none, some}
+use lib.Dec.{eqb, leb}
+use lib.ListN.{length}
+use Rattle.rules.specs.Words.{ifSome, total, firstOf}
+use Rattle.rules.specs.Replies.{accepted, startNotFormed, listTooLong}
+use Rattle.rules.specs.Capacities.{listRoom}
+use Rattle.rules.specs.Register.{Metadata, Update, Terms, State, Outcome}
+use Rattle.rules.specs.Register.Outcome.{Refused, Accepted}
+use Rattle.rules.specs.Register.Update.{AssignUuid, UpgradeFormatVersion, SetLocation, AddSnapshot, SetBranchSnapshot, RemoveSnapshots, SetRef, RemoveRef, AddSchema, SetCurrentSchema, RemoveSchemas, AddSortOrder, SetDefaultSortOrder, NotFormed}
+use Rattle.rules.specs.WellFormed.{metadataFormed, fileNameFormed}
+use Rattle.rules.specs.Updates.{updateNumber, effect}
+use Rattle.rules.specs.Close.{closeChecks, closed, expired}
+
+-- "The updates of a list count 1 each, a branch commit 2"
+abbrev pub weight : Update → ℕ
+weight (AssignUuid uuid) = 1
+weight (UpgradeFormatVersion v) = 1
+weight (SetLocation location) = 1
+weight (AddSnapshot s) = 1
+weight (SetBranchSnapshot name s) = 2
+weight (RemoveSnapshots ids) = 1
+weight (SetRef name r) = 1
+weight (RemoveRef name) = 1
+weight (AddSchema s) = 1
+weight (SetCurrentSchema id) = 1
+weight (RemoveSchemas ids) = 1
+weight (AddSortOrder o) = 1
+weight (SetDefaultSortOrder id) = 1
+weight (NotFormed counts) = counts
+
+-- "the sum is at most 64"
+unfoldable pub listSum : List Update → ℕ
+listSum us = total weight us
+
+-- where the updates of a run lead: a refusal with its number and place, or a state
+pub data Ran : Type 0 where
+  Stopped : ℕ → ℕ → Ran
+  Reached : State → Ran
+
+-- the updates in order, the first of them at a place
+unfoldable pub runFrom : Terms → List Update → ℕ → State → Ran
+runFrom terms [] place st = Reached st
+runFrom terms (u ∷ us) place st =
+    cond (eqb (updateNumber u st) accepted)
+    (runFrom terms us (suc place) (effect terms u st))
+    (Stopped (updateNumber u st) place)
+
+-- nothing changed, nothing added, nothing logged yet
+abbrev pub started : Metadata → State
+started m = record { metadata = m; own = none; added = record { schema = none; order = none }; log = [] }
+
+-- "for a close it is the list's length"
+unfoldable pub close : Terms → ℕ → State → Outcome
+close terms place st =
+    cond (eqb (firstOf (closeChecks terms (st .log) (st .metadata))) accepted)
+    (Accepted (closed terms st) (st .log) (expired terms (st .metadata)))
+    (Refused (firstOf (closeChecks terms (st .log) (st .metadata))) place)
+
+abbrev pub closeRan : Terms → ℕ → Ran → Outcome
+closeRan terms place (Stopped number at) = Refused number at
+closeRan terms place (Reached st) = close terms place st
+
+-- 1: "starting metadata not well formed, current file's name too long"
+abbrev pub startFormed : Terms → Metadata → Bool
+startFormed terms m = metadataFormed m && ifSome fileNameFormed (terms .file)
+
+unfoldable pub run : Terms → Metadata → List Update → Outcome
+run terms m us =
+    cond (startFormed terms m)
+    (cond (leb (listSum us) listRoom) (closeRan terms (length us) (runFrom terms us 0 (started m))) (Refused listTooLong 0))
+    (Refused startNotFormed 0)

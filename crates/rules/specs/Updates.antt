@@ -1,0 +1,52 @@
+-- Any update: document 01, "Rules for each update": "An update that takes effect is logged once, as given, unless said below."
+use Prim.Native.Nat.{ℕ}
+use mathlib.Core.Bool.{not}
+use mathlib.Core.List.{List, [], _∷_}
+use Rattle.rules.specs.Words.{firstOf, Check}
+use Rattle.rules.specs.Replies.{updateNotFormed}
+use Rattle.rules.specs.Register.{Update, Terms, State}
+use Rattle.rules.specs.Register.Update.{AssignUuid, UpgradeFormatVersion, SetLocation, AddSnapshot, SetBranchSnapshot, RemoveSnapshots, SetRef, RemoveRef, AddSchema, SetCurrentSchema, RemoveSchemas, AddSortOrder, SetDefaultSortOrder, NotFormed}
+use Rattle.rules.specs.WellFormed.{updateFormed}
+use Rattle.rules.specs.SingleUpdates.{assignUuid, upgradeFormatVersionChecks, upgradeFormatVersion, setLocation}
+use Rattle.rules.specs.SnapshotUpdates.{addSnapshotChecks, addSnapshot, removeSnapshots}
+use Rattle.rules.specs.RefUpdates.{setRefChecks, setRef, setBranchSnapshotChecks, setBranchSnapshot, removeRef}
+use Rattle.rules.specs.SchemaUpdates.{addSchemaChecks, addSchema, setCurrentSchemaChecks, setCurrentSchema, removeSchemasChecks, removeSchemas}
+use Rattle.rules.specs.OrderUpdates.{addSortOrderChecks, addSortOrder, setDefaultSortOrderChecks, setDefaultSortOrder}
+
+-- the checks of an update beside its own form
+unfoldable pub checks : Update → State → List Check
+checks (AssignUuid uuid) st = []
+checks (UpgradeFormatVersion v) st = upgradeFormatVersionChecks v st
+checks (SetLocation location) st = []
+checks (AddSnapshot s) st = addSnapshotChecks s st
+checks (SetBranchSnapshot name s) st = setBranchSnapshotChecks name s st
+checks (RemoveSnapshots ids) st = []
+checks (SetRef name r) st = setRefChecks name r st
+checks (RemoveRef name) st = []
+checks (AddSchema s) st = addSchemaChecks s st
+checks (SetCurrentSchema id) st = setCurrentSchemaChecks id st
+checks (RemoveSchemas ids) st = removeSchemasChecks ids st
+checks (AddSortOrder o) st = addSortOrderChecks o st
+checks (SetDefaultSortOrder id) st = setDefaultSortOrderChecks id st
+checks (NotFormed counts) st = []
+
+-- "3 comes first within an update."
+unfoldable pub updateNumber : Update → State → ℕ
+updateNumber u st = firstOf ((not (updateFormed u), updateNotFormed) ∷ checks u st)
+
+-- what an accepted update does
+unfoldable pub effect : Terms → Update → State → State
+effect terms (AssignUuid uuid) st = assignUuid uuid st
+effect terms (UpgradeFormatVersion v) st = upgradeFormatVersion v st
+effect terms (SetLocation location) st = setLocation location st
+effect terms (AddSnapshot s) st = addSnapshot s st
+effect terms (SetBranchSnapshot name s) st = setBranchSnapshot terms name s st
+effect terms (RemoveSnapshots ids) st = removeSnapshots ids st
+effect terms (SetRef name r) st = setRef terms name r st
+effect terms (RemoveRef name) st = removeRef name st
+effect terms (AddSchema s) st = addSchema s st
+effect terms (SetCurrentSchema id) st = setCurrentSchema id st
+effect terms (RemoveSchemas ids) st = removeSchemas ids st
+effect terms (AddSortOrder o) st = addSortOrder o st
+effect terms (SetDefaultSortOrder id) st = setDefaultSortOrder id st
+effect terms (NotFormed counts) st = st
