@@ -1,10 +1,10 @@
 -- Tests and checks: what a test that passed says of its parts, and what it says that no check of a list failed.
-use Prim.Native.Nat.{ℕ, zero, suc, _<_}
+use Prim.Native.Nat.{ℕ, _<_}
 use native.Mathlib.Omega.{arith}
 use mathlib.Core.Path.{_≡_, refl}
-use mathlib.Core.Logic.{_⊎_, inl, inr}
 use mathlib.Core.Bool.{Bool, true, false, cond, _&&_, _||_, false≢true, true≢false}
 use mathlib.Core.List.{List, [], _∷_, _++_}
+use mathlib.Core.Option.{Option, none, some}
 use lib.Dec.{ltb}
 use borrow.Author.Tests.{ltb-true}
 use Rattle.rules.specs.Words.{all, firstOf, Check}
@@ -15,6 +15,16 @@ use Rattle.rules.specs.Words.{all, firstOf, Check}
 pub by-test : {A : Type 0} (P : A → Type 0) (b : Bool) {x y : A} → (b ≡ true → P x) → (b ≡ false → P y) → P (cond b x y)
 by-test P true f g = f refl
 by-test P false f g = g refl
+
+-- the same of what may be absent
+pub by-option : {A B : Type 0} (P : B → Type 0) (o : Option A) {x : B} {f : A → B} → (o ≡ none → P x) → ((a : A) → o ≡ some a → P (f a)) → P (elim o [ none ↦ x | some a ↦ f a ])
+by-option P none g h = g refl
+by-option P (some a) g h = h a refl
+
+-- an answer that is not the second choice is the first, and the test holds
+pub only-then : {A : Type 0} (b : Bool) {x y z : A} → (y ≡ z → ⊥) → cond b x y ≡ z → (b ≡ true) × (x ≡ z)
+only-then true n e = (refl, e)
+only-then false n e = absurd (n e)
 
 pub both : {a b : Bool} → a ≡ true → b ≡ true → (a && b) ≡ true
 both p q = rw (p, q)
@@ -34,9 +44,10 @@ pub or-right : (a : Bool) {b : Bool} → b ≡ true → (a || b) ≡ true
 or-right true q = refl
 or-right false q = q
 
-pub either : (a b : Bool) → (a || b) ≡ true → (a ≡ true) ⊎ (b ≡ true)
-either true b e = inl refl
-either false b e = inr e
+-- what follows from each of two tests follows where one of them holds
+pub by-either : {P : Type 0} (a b : Bool) → (a ≡ true → P) → (b ≡ true → P) → (a || b) ≡ true → P
+by-either true b f g e = f refl
+by-either false b f g e = g e
 
 pub neither : (a b : Bool) → (a || b) ≡ false → (a ≡ false) × (b ≡ false)
 neither true b e = absurd (true≢false e)
@@ -83,6 +94,10 @@ passed (c ∷ cs) p e = go (c .0) refl (passed cs (and-right (ltb 0 (c .1)) (num
     go : (b : Bool) → c .0 ≡ b → (firstOf cs ≡ 0 → Passed cs) → cond b (c .1) (firstOf cs) ≡ 0 → Passed (c ∷ cs)
     go true q ih e = failed (c .1) (and-left (ltb 0 (c .1)) (numbered cs) p) e
     go false q ih e = (q, ih e)
+
+-- checks that are made only where a test fails
+pub passed-unless : (b : Bool) (cs : List Check) → numbered cs ≡ true → b ≡ false → firstOf (cond b [] cs) ≡ 0 → Passed cs
+passed-unless b cs p n e = passed cs p (rw n at e)
 
 -- none of a list and of another after it
 pub passed-before : (cs ds : List Check) → firstOf (cs ++ ds) ≡ 0 → firstOf cs ≡ 0

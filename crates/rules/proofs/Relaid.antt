@@ -39,15 +39,10 @@ use Rattle.rules.specs.WellFormed.{snapshotFormed, refFormed, refNameFor
 use Rattle.rules.specs.Blanks.{isZero, isZeroZ, restBlank, tidySlots, noneUsed, isTidyRefName, isBlankRefName, isTidyLocation, isTidyFileName, isBlankFileName, isTidySnapshot, isBlankSnapshot, isTidySnapshots, isBlankLogEntry, isTidySnapshotLog, isTidyReference, isBlankReference, isTidyRef, isBlankRef, isTidyRefs, isBlankSchemaField, isTidySchema, isBlankSchema, isTidySchemas, isBlankSortField, isTidySortOrder, isBlankSortOrder, isTidySortOrders, isTidyMetadataLogEntry, isBlankMetadataLogEntry, isTidyMetadataLog, isTidyFields, isTidyMetadata}
 use Rattle.rules.specs.Layout.{counted, pad, given, firstRow, addedRows, readRefName, laidRefName, readLocation, laidLocation, readFileName, laidFileName, readSnapshot, laidSnapshot, readSnapshots, laidSnapshots, readLogEntry, laidLogEntry, readSnapshotLog, laidSnapshotLog, readReference, laidReference, readRef, laidRef, readRefs, laidRefs, readSchemaField, laidSchemaField, readSchema, laidSchema, readSchemas, laidSchemas, readSortField, laidSortField, readSortOrder, laidSortOrder, readSortOrders, laidSortOrders, readMetadataLogEntry, laidMetadataLogEntry, readMetadataLog, laidMetadataLog, readFields, laidFields, readMetadata, laidMetadata}
 use Rattle.rules.specs.Register as plain
+use Rattle.rules.proofs.Orders.{eqZ-equal}
 use Rattle.rules.proofs.Checks.{and-left, and-right, parts}
 
 -- ---- numbers and flags
-
-pub eqZ-true : (a b : ℤ) → eqZ a b ≡ true → a ≡ b
-eqZ-true (pos a) (pos b) e = ap pos (eqb-true a b e)
-eqZ-true (pos a) (negsuc b) e = cc
-eqZ-true (negsuc a) (pos b) e = cc
-eqZ-true (negsuc a) (negsuc b) e = ap negsuc (eqb-true a b e)
 
 module _ {A : Type 0} where
   pub flag-given : (f : Bool) (x : A) → isSome (given f x) ≡ f
@@ -57,10 +52,10 @@ module _ {A : Type 0} where
 -- a number behind a flag, which is 0 where the flag is not set
 pub number-given : (f : Bool) (x : ℤ) → (f || isZeroZ x) ≡ true → orElse (given f x) (pos 0) ≡ x
 number-given true x e = refl
-number-given false x e = sym (eqZ-true x (pos 0) e)
+number-given false x e = sym (eqZ-equal x (pos 0) e)
 
 pub zeroZ : (z : ℤ) → isZeroZ z ≡ true → z ≡ pos 0
-zeroZ z e = eqZ-true z (pos 0) e
+zeroZ z e = eqZ-equal z (pos 0) e
 
 pub zero : (n : ℕ) → isZero n ≡ true → n ≡ 0
 zero n e = eqb-true n 0 e

@@ -1,0 +1,56 @@
+-- What it says that a run is accepted: it passes 1 and 2, its updates lead to a state, and the close passes its checks there.
+use Prim.Native.Nat.{ℕ, _≤_}
+use native.Mathlib.Omega.{arith}
+use mathlib.Core.Path.{_≡_, refl}
+use mathlib.Core.Bool.{true}
+use mathlib.Core.List.{List}
+use lib.Dec.{eqb, leb}
+use lib.ListN.{length}
+use borrow.Author.Tests.{eqb-true, leb-true}
+use Rattle.rules.specs.Words.{firstOf}
+use Rattle.rules.specs.Replies.{accepted, startNotFormed, listTooLong}
+use Rattle.rules.specs.Capacities.{listRoom}
+use Rattle.rules.specs.Register.{FileEntry, Metadata, Update, Terms, State}
+use Rattle.rules.specs.Register.Outcome.{Refused, Accepted}
+use Rattle.rules.specs.Close.{expired, closeChecks, closed}
+use Rattle.rules.specs.Run.{listSum, Ran, runFrom, started, close, closeRan, startFormed, run}
+use Rattle.rules.specs.Run.Ran.{Stopped, Reached}
+use Rattle.rules.proofs.Checks.{only-then}
+
+-- a refusal is no acceptance
+refused : (number place : ℕ) (m : Metadata) (log : List Update) (gone : List FileEntry) → Refused number place ≡ Accepted m log gone → ⊥
+refused number place m log gone e = let z : _≡_ {A = ℕ} 0 1 = cc in omega arith
+
+module _ (terms : Terms) (m : Metadata) (log : List Update) (gone : List FileEntry) where
+  -- the state closes with this metadata, log and expired entries
+  pub record Closes (st : State) : Type 0 where
+    pub passes : firstOf (closeChecks terms (st .log) (st .metadata)) ≡ 0
+    pub metadata : closed terms st ≡ m
+    pub logged : st .log ≡ log
+    pub expired : expired terms (st .metadata) ≡ gone
+
+  pub close-accepted : (place : ℕ) (st : State) → close terms place st ≡ Accepted m log gone → Closes st
+  unfolding close
+  close-accepted place st e =
+      let number : ℕ = firstOf (closeChecks terms (st .log) (st .metadata)) in
+      let k = only-then (eqb number accepted) (refused number place m log gone) e in
+      record { passes = eqb-true number accepted (k .0); metadata = cc; logged = cc; expired = cc }
+
+  -- the run comes to a state that closes so
+  pub record Ends (start : Metadata) (us : List Update) : Type 0 where
+    pub formed : startFormed terms start ≡ true
+    pub short : listSum us ≤ listRoom
+    pub end : State
+    pub reached : runFrom terms us 0 (started start) ≡ Reached end
+    pub closes : Closes end
+
+  pub run-accepted : (start : Metadata) (us : List Update) → run terms start us ≡ Accepted m log gone → Ends start us
+  unfolding run
+  run-accepted start us e =
+      let k = only-then (startFormed terms start) (refused startNotFormed 0 m log gone) e in
+      let l = only-then (leb (listSum us) listRoom) (refused listTooLong 0 m log gone) (k .1) in
+      from-end (k .0) (leb-true (listSum us) listRoom (l .0)) (runFrom terms us 0 (started start)) refl (l .1)
+    where
+      from-end : startFormed terms start ≡ true → listSum us ≤ listRoom → (r : Ran) → runFrom terms us 0 (started start) ≡ r → closeRan terms (length us) r ≡ Accepted m log gone → Ends start us
+      from-end f s (Stopped number at) q e = absurd (refused number at m log gone e)
+      from-end f s (Reached st) q e = record { formed = f; short = s; end = st; reached = q; closes = close-accepted (length us) st e }
