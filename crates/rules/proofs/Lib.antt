@@ -13,3 +13,15 @@ pub mod SoundOrders
 pub mod SoundUpdates
 pub mod AcceptedRun
 pub mod SoundRun
+pub mod ReplayLists
+pub mod ReplayKeys
+pub mod ReplayLog
+pub mod ReplaySteps
+pub mod ReplaySingles
+pub mod ReplaySnapshots
+pub mod ReplayRefs
+pub mod ReplayChoices
+pub mod ReplaySchemas
+pub mod ReplayOrders
+pub mod ReplayClose
+pub mod Replay
