@@ -25,11 +25,11 @@ module _ (terms : Terms) (m : Metadata) (log : List Update) (gone : List FileEnt
   -- the state closes with this metadata, log and expired entries
   pub record Closes (st : State) : Type 0 where
     pub passes : firstOf (closeChecks terms (st .log) (st .metadata)) ≡ 0
-    pub metadata : closed terms st ≡ m
+    pub metadata : closed terms (st .log) st ≡ m
     pub logged : st .log ≡ log
     pub expired : expired terms (st .metadata) ≡ gone
 
-  pub close-accepted : (place : ℕ) (st : State) → close terms place st ≡ Accepted m log gone → Closes st
+  pub close-accepted : (place : ℕ) (st : State) → close terms place (st .log) st ≡ Accepted m log gone → Closes st
   unfolding close
   close-accepted place st e =
       let number : ℕ = firstOf (closeChecks terms (st .log) (st .metadata)) in
@@ -51,6 +51,6 @@ module _ (terms : Terms) (m : Metadata) (log : List Update) (gone : List FileEnt
       let l = only-then (leb (listSum us) listRoom) (refused listTooLong 0 m log gone) (k .1) in
       from-end (k .0) (leb-true (listSum us) listRoom (l .0)) (runFrom terms us 0 (started start)) refl (l .1)
     where
-      from-end : startFormed terms start ≡ true → listSum us ≤ listRoom → (r : Ran) → runFrom terms us 0 (started start) ≡ r → closeRan terms (length us) r ≡ Accepted m log gone → Ends start us
+      from-end : startFormed terms start ≡ true → listSum us ≤ listRoom → (r : Ran) → runFrom terms us 0 (started start) ≡ r → closeRan terms us r ≡ Accepted m log gone → Ends start us
       from-end f s (Stopped number at) q e = absurd (refused number at m log gone e)
       from-end f s (Reached st) q e = record { formed = f; short = s; end = st; reached = q; closes = close-accepted (length us) st e }

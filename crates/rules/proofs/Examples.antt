@@ -1,6 +1,7 @@
 -- P1 to P12, and the easy wrong turns, hold of the written rules: one statement over the list of examples, by computation.
 use mathlib.Core.Path.{_≡_, refl}
-use mathlib.Core.List.{map}
+use mathlib.Core.List.{List, map}
+use Rattle.rules.specs.Register.{Metadata, Update, Terms, Outcome}
 use Rattle.rules.specs.Limit.{limitOf}
 use Rattle.rules.specs.Names.{trimmed}
 use Rattle.rules.specs.Window.{isBefore}
@@ -15,6 +16,11 @@ use Rattle.rules.specs.Close.{isDefaultUnfit, intermediates, rebuilt, en
 use Rattle.rules.specs.Run.{listSum, runFrom, close, run}
 use Rattle.rules.specs.Examples.{Example, replyTo, examples}
 
+-- a run, such that whoever opens this opens every definition that a run comes to
+unfoldable pub computed : Terms → Metadata → List Update → Outcome
+unfolding limitOf trimmed isBefore snapshotsFormed refsFormed snapshotLogFormed metadataLogFormed schemasFormed ordersFormed refsHeld mainAgrees currentSchemaHeld defaultOrderHeld fieldsFormed metadataFormed updateFormed logsAddition logsMain logsRemoval addSnapshotChecks addSnapshot removeSnapshots setRefChecks setRef addSchemaChecks addSchema setCurrentSchemaChecks setCurrentSchema removeSchemasChecks removeSchemas checks updateNumber effect isDefaultUnfit intermediates rebuilt endsElsewhere expired staying closeChecks closed listSum runFrom close run
+computed terms m us = run terms m us
+
 pub examples-hold : map (λ (e : Example). replyTo (e .asked)) examples ≡ map (λ (e : Example). e .reply) examples
-unfolding limitOf trimmed isBefore follow ancestors snapshotsFormed refsFormed snapshotLogFormed metadataLogFormed schemasFormed ordersFormed refsHeld mainAgrees currentSchemaHeld defaultOrderHeld fieldsFormed metadataFormed updateFormed logsAddition logsMain logsRemoval addSnapshotChecks addSnapshot removeSnapshots setRefChecks setRef addSchemaChecks addSchema setCurrentSchemaChecks setCurrentSchema removeSchemasChecks removeSchemas checks updateNumber effect isDefaultUnfit intermediates rebuilt endsElsewhere expired staying closeChecks closed listSum runFrom close run
+unfolding computed limitOf follow ancestors
 examples-hold = refl

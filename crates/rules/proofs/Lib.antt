@@ -25,3 +25,4 @@ pub mod ReplaySchemas
 pub mod ReplayOrders
 pub mod ReplayClose
 pub mod Replay
+pub mod Suffices

@@ -29,11 +29,11 @@ checks-alike : (terms : Terms) (log : List Update) (m : Metadata) → closeCheck
 unfolding closeChecks endsElsewhere
 checks-alike terms log m = rw (strip-removals log, intermediates-alike log (m .fields .current), rebuilt-alike log m)
 
-closed-alike : (terms : Terms) (st : State) → closed terms (withLog (strip (st .log)) st) ≡ closed terms st
+closed-alike : (terms : Terms) (st : State) → closed terms (strip (st .log)) (withLog (strip (st .log)) st) ≡ closed terms (st .log) st
 unfolding closed
 closed-alike terms st = rw (history-alike (st .log) (st .metadata))
 
 -- the same close with the log stripped, at any place
-pub close-alike : (terms : Terms) (m : Metadata) (log : List Update) (gone : List FileEntry) (place : ℕ) (st : State) → Closes terms m log gone st → close terms place (withLog (strip (st .log)) st) ≡ Accepted m (strip log) gone
+pub close-alike : (terms : Terms) (m : Metadata) (log : List Update) (gone : List FileEntry) (place : ℕ) (st : State) → Closes terms m log gone st → close terms place (strip (st .log)) (withLog (strip (st .log)) st) ≡ Accepted m (strip log) gone
 unfolding close
 close-alike terms m log gone place st c = rw (checks-alike terms (st .log) (st .metadata), c .passes, closed-alike terms st, c .metadata, c .logged, c .expired)

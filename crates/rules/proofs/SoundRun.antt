@@ -70,7 +70,7 @@ staying-formed terms m f r h =
     let p : FileEntry → Bool = λ e. fileNameFormed (e .file) in
     log-formed metadataLogRoom p (staying terms m) r (all-drop p (surplus terms m) (joined terms m) (joined-formed terms m f (log-all metadataLogRoom p (m .metadataLog) h)))
 
-closed-sound : (terms : Terms) (st : State) → Sound (st .metadata) → ifSome fileNameFormed (terms .file) ≡ true → length (staying terms (st .metadata)) ≤ metadataLogRoom → Sound (closed terms st)
+closed-sound : (terms : Terms) (st : State) → Sound (st .metadata) → ifSome fileNameFormed (terms .file) ≡ true → length (staying terms (st .metadata)) ≤ metadataLogRoom → Sound (closed terms (st .log) st)
 unfolding closed fieldsFormed
 closed-sound terms st s f r =
     let m : Metadata = st .metadata in
@@ -81,7 +81,7 @@ closed-sound terms st s f r =
     with-fields past b (withLastUpdated (orElse (st .own) (terms .clock)) (m .fields)) (s .fields) refl refl
 
 -- 22: main agrees, also after the close, which changes neither of the two
-closed-agrees : (terms : Terms) (st : State) → mainAgrees (st .metadata) ≡ true → mainAgrees (closed terms st) ≡ true
+closed-agrees : (terms : Terms) (st : State) → mainAgrees (st .metadata) ≡ true → mainAgrees (closed terms (st .log) st) ≡ true
 unfolding closed mainAgrees
 closed-agrees terms st h = h
 
@@ -91,10 +91,10 @@ close-passed terms log m e =
     let k = passed (closeChecks terms log m) refl e in
     (not-false (mainAgrees m) (k .1 .1 .0), ltb-false metadataLogRoom (length (staying terms m)) (k .1 .1 .1 .0))
 
-pub close-formed : (terms : Terms) (st : State) → Sound (st .metadata) → ifSome fileNameFormed (terms .file) ≡ true → firstOf (closeChecks terms (st .log) (st .metadata)) ≡ 0 → metadataFormed (closed terms st) ≡ true
+pub close-formed : (terms : Terms) (st : State) → Sound (st .metadata) → ifSome fileNameFormed (terms .file) ≡ true → firstOf (closeChecks terms (st .log) (st .metadata)) ≡ 0 → metadataFormed (closed terms (st .log) st) ≡ true
 close-formed terms st s f e =
     let k = close-passed terms (st .log) (st .metadata) e in
-    sound-formed (closed terms st) (closed-sound terms st s f (k .1)) (closed-agrees terms st (k .0))
+    sound-formed (closed terms (st .log) st) (closed-sound terms st s f (k .1)) (closed-agrees terms st (k .0))
 
 -- ---- the run
 

@@ -85,8 +85,8 @@ closeChecks terms log m =
     ∷ []
 
 -- "Last update becomes the run's own, else the clock, even if that goes back."
-unfoldable pub closed : Terms → State → Metadata
-closed terms st =
+unfoldable pub closed : Terms → List Update → State → Metadata
+closed terms log st =
     withFields (withLastUpdated (orElse (st .own) (terms .clock)) (st .metadata .fields))
-    (withSnapshotLog (history (st .log) (st .metadata))
+    (withSnapshotLog (history log (st .metadata))
     (withMetadataLog (staying terms (st .metadata)) (st .metadata)))

@@ -1,4 +1,5 @@
--- P1 to P12 of document 01, "Examples on both sides": every clause a question and the reply that it must get.
+-- P1 to P12 of document 01, "Examples on both sides", every clause a question and the reply that it must get; then its "Easy wrong turns",
+-- and sentences that no P shows.
 -- That the rules give these replies is one statement over the list (`examples-hold`, in proofs/Examples).
 use Prim.Native.Nat.{ℕ}
 use mathlib.Core.Bool.{Bool, true, false}
@@ -93,6 +94,10 @@ terms = record { clock = pos 500000; file = none; limit = none }
 abbrev pub fileTerms : Terms
 fileTerms = record { clock = pos 500000; file = some (100 ∷ []); limit = some (50 ∷ []) }
 
+-- a clock before 1970
+abbrev pub earlyTerms : Terms
+earlyTerms = record { clock = negsuc 199999; file = none; limit = none }
+
 -- one schema with field 1, and the order of no fields
 abbrev pub register : ℕ → ℕ → ℕ → ℤ → List Snapshot → Option ℤ → List NamedRef → List LogEntry → List FileEntry → Metadata
 register version sequence next updated snapshots current refs log files =
@@ -145,6 +150,10 @@ gapped = register 2 1 0 (pos 100000) (snap 1 none 1 (pos 100000) ∷ []) (some (
 
 abbrev pub astray : Metadata
 astray = register 2 1 0 (pos 100000) (snap 1 none 1 (pos 100000) ∷ []) (some (pos 1)) (mainAt 1) (entry 1 100000 ∷ entry 2 50000 ∷ []) []
+
+-- a snapshot that no ref names, before 1970
+abbrev pub unnamed : Metadata
+unnamed = register 2 1 0 (negsuc 99999) (snap 1 none 1 (negsuc 299999) ∷ []) none [] [] []
 
 -- a schema of one field, with an id
 abbrev pub schemaOf : ℕ → ℕ → Schema
@@ -215,4 +224,11 @@ examples =
     ∷ (OfRun AtUpdated terms three
     (AddSnapshot (snap 4 (some (pos 3)) 6 (pos 420000)) ∷ toDraft 4 ∷ AddSnapshot (snap 5 (some (pos 4)) 7 (pos 410000)) ∷ toDraft 4 ∷ [])
     gives Updated (pos 410000))
+    -- Sentences that no P shows. Logged as given, a removal with the held ids; refs to missing snapshots go unlogged
+    ∷ (OfRun AtLog terms three (AddSnapshot (snap 4 none 6 (pos 400000)) ∷ toDraft 4 ∷ RemoveSnapshots (pos 9 ∷ pos 4 ∷ []) ∷ [])
+    gives Log (AddSnapshot (snap 4 none 6 (pos 400000)) ∷ toDraft 4 ∷ RemoveSnapshots (pos 4 ∷ []) ∷ []))
+    -- last update becomes the clock, even if that goes back
+    ∷ (OfRun AtUpdated terms (empty 2 0 (pos 900000) []) [] gives Updated (pos 500000))
+    -- `main` makes the clock the run's last update, against which 8 is checked
+    ∷ (OfRun AtUpdated earlyTerms unnamed (toMain 1 ∷ AddSnapshot (snap 2 none 2 (negsuc 149999)) ∷ []) gives Updated (negsuc 149999))
     ∷ []

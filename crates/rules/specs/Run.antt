@@ -53,16 +53,17 @@ runFrom terms (u ∷ us) place st =
 abbrev pub started : Metadata → State
 started m = record { metadata = m; own = none; added = record { schema = none; order = none }; log = [] }
 
--- "for a close it is the list's length"
-unfoldable pub close : Terms → ℕ → State → Outcome
-close terms place st =
-    cond (eqb (firstOf (closeChecks terms (st .log) (st .metadata))) accepted)
-    (Accepted (closed terms st) (st .log) (expired terms (st .metadata)))
-    (Refused (firstOf (closeChecks terms (st .log) (st .metadata))) place)
+-- the close of a state, by what a change log says of snapshots
+unfoldable pub close : Terms → ℕ → List Update → State → Outcome
+close terms place log st =
+    cond (eqb (firstOf (closeChecks terms log (st .metadata))) accepted)
+    (Accepted (closed terms log st) (st .log) (expired terms (st .metadata)))
+    (Refused (firstOf (closeChecks terms log (st .metadata))) place)
 
-abbrev pub closeRan : Terms → ℕ → Ran → Outcome
-closeRan terms place (Stopped number at) = Refused number at
-closeRan terms place (Reached st) = close terms place st
+-- the log that counts is the run's own, not the list that was given; the place of a close "is the list's length"
+abbrev pub closeRan : Terms → List Update → Ran → Outcome
+closeRan terms us (Stopped number at) = Refused number at
+closeRan terms us (Reached st) = close terms (length us) (st .log) st
 
 -- 1: "starting metadata not well formed, current file's name too long"
 abbrev pub startFormed : Terms → Metadata → Bool
@@ -71,5 +72,5 @@ startFormed terms m = metadataFormed m && ifSome fileNameFormed (terms .file)
 unfoldable pub run : Terms → Metadata → List Update → Outcome
 run terms m us =
     cond (startFormed terms m)
-    (cond (leb (listSum us) listRoom) (closeRan terms (length us) (runFrom terms us 0 (started m))) (Refused listTooLong 0))
+    (cond (leb (listSum us) listRoom) (closeRan terms us (runFrom terms us 0 (started m))) (Refused listTooLong 0))
     (Refused startNotFormed 0)

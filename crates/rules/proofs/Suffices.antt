@@ -1,0 +1,95 @@
+-- Demand 3 as a property of any way to answer runs. The rules have it, and its hypothesis is met: P3, P5 and P10 are instances, computed.
+-- A way that gives back its start with an empty log has it too, and so has one that always refuses: these demand 2 excludes, at P3.
+use Prim.Native.Nat.{ℕ}
+use native.Mathlib.Omega.{arith}
+use mathlib.Core.Path.{_≡_, refl, ap, _∙_}
+use mathlib.Core.Bool.{Bool, true, false}
+use mathlib.Core.List.{List, [], _∷_, map}
+use mathlib.Core.Option.{some}
+use lib.IntN.{pos}
+use lib.ListN.{length}
+use Rattle.rules.specs.Words.{all}
+use Rattle.rules.specs.Replies.{startNotFormed}
+use Rattle.rules.specs.Register.{FileEntry, Metadata, Update, Terms, Outcome}
+use Rattle.rules.specs.Register.Outcome.{Refused, Accepted}
+use Rattle.rules.specs.Register.Update.{AddSnapshot, RemoveSnapshots, RemoveSchemas}
+use Rattle.rules.specs.Run.{run}
+use Rattle.rules.specs.Replay.{strip}
+use Rattle.rules.specs.Examples.{rerun, terms, three, snap, toMain}
+use Rattle.rules.proofs.Examples.{computed}
+use Rattle.rules.proofs.Replay.{log-replays, stripped-replays}
+
+-- the log of an accepted run leads there again, and once it is rid of the schema removals that name no schema it logs itself
+pub record Suffices (answers : Terms → Metadata → List Update → Outcome) : Type 0 where
+  pub leads : (terms : Terms) (m : Metadata) (us : List Update) (m′ : Metadata) (log : List Update) (expired : List FileEntry) → answers terms m us ≡ Accepted m′ log expired → answers terms m log ≡ Accepted m′ (strip log) expired
+  pub rests : (terms : Terms) (m : Metadata) (us : List Update) (m′ : Metadata) (log : List Update) (expired : List FileEntry) → answers terms m us ≡ Accepted m′ log expired → answers terms m (strip log) ≡ Accepted m′ (strip log) expired
+
+pub rules-suffice : Suffices run
+rules-suffice = record { leads = log-replays; rests = stripped-replays }
+
+-- ---- it is not empty
+
+abbrev pub isAccepted : Outcome → Bool
+isAccepted (Refused number place) = false
+isAccepted (Accepted m log expired) = true
+
+abbrev pub stripped : Outcome → Outcome
+stripped (Refused number place) = Refused number place
+stripped (Accepted m log expired) = Accepted m (strip log) expired
+
+-- P3, P5 and P10
+abbrev pub instances : List (List Update)
+instances =
+    (RemoveSnapshots (pos 2 ∷ []) ∷ [])
+    ∷ (AddSnapshot (snap 4 (some (pos 3)) 6 (pos 400000)) ∷ AddSnapshot (snap 5 (some (pos 4)) 7 (pos 410000)) ∷ toMain 4 ∷ toMain 5 ∷ [])
+    ∷ (RemoveSchemas (pos 7 ∷ []) ∷ [])
+    ∷ []
+
+pub instances-accepted : all (λ (us : List Update). isAccepted (run terms three us)) instances ≡ true
+unfolding computed
+instances-accepted = refl
+
+pub instances-lead : map (λ (us : List Update). rerun terms three (run terms three us)) instances ≡ map (λ (us : List Update). stripped (run terms three us)) instances
+unfolding computed strip
+instances-lead = refl
+
+-- ---- what it does not exclude, and demand 2 does
+
+-- gives back its start, with an empty log
+abbrev pub idle : Terms → Metadata → List Update → Outcome
+idle terms m us = Accepted m [] []
+
+pub idle-suffices : Suffices idle
+unfolding strip
+idle-suffices = record {
+  leads = λ terms m us m′ log expired e. cc;
+  rests = λ terms m us m′ log expired e. cc;
+}
+
+-- always refuses
+abbrev pub refusing : Terms → Metadata → List Update → Outcome
+refusing terms m us = Refused startNotFormed 0
+
+never : {A : Type 0} (number place : ℕ) (m : Metadata) (log : List Update) (expired : List FileEntry) → Refused number place ≡ Accepted m log expired → A
+never number place m log expired e = absurd (let z : _≡_ {A = ℕ} 0 1 = cc in omega arith)
+
+pub refusing-suffices : Suffices refusing
+refusing-suffices = record {
+  leads = λ terms m us m′ log expired e. never startNotFormed 0 m′ log expired e;
+  rests = λ terms m us m′ log expired e. never startNotFormed 0 m′ log expired e;
+}
+
+-- how many entries the history has; 0 for a refusal
+abbrev entries : Outcome → ℕ
+entries (Refused number place) = 0
+entries (Accepted m log expired) = length (m .snapshotLog)
+
+p3-leaves-one : entries (run terms three (RemoveSnapshots (pos 2 ∷ []) ∷ [])) ≡ 1
+unfolding computed
+p3-leaves-one = refl
+
+pub idle-is-not-right : ((us : List Update) → idle terms three us ≡ run terms three us) → ⊥
+idle-is-not-right same = let z : _≡_ {A = ℕ} 3 1 = ap entries (same (RemoveSnapshots (pos 2 ∷ []) ∷ [])) ∙ p3-leaves-one in omega arith
+
+pub refusing-is-not-right : ((us : List Update) → refusing terms three us ≡ run terms three us) → ⊥
+refusing-is-not-right same = let z : _≡_ {A = ℕ} 0 1 = ap entries (same (RemoveSnapshots (pos 2 ∷ []) ∷ [])) ∙ p3-leaves-one in omega arith
