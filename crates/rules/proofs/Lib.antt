@@ -26,3 +26,8 @@ pub mod ReplayOrders
 pub mod ReplayClose
 pub mod Replay
 pub mod Suffices
+pub mod Laid
+pub mod Reread
+pub mod AnswerLaws
+pub mod AnswerReplays
+pub mod AnswerFits
