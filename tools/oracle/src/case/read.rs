@@ -1,0 +1,218 @@
+//! Reads cases, one after another, until the input ends.
+
+use std::io::BufRead;
+
+use super::*;
+
+type Read<T> = Result<T, BadCase>;
+
+pub struct CaseReader<R> {
+    tokens: Tokens<R>,
+}
+
+impl<R: BufRead> Iterator for CaseReader<R> {
+    type Item = Read<Case>;
+
+    fn next(&mut self) -> Option<Self::Item> {
+        (!self.tokens.at_end()).then(|| self.case())
+    }
+}
+
+impl<R: BufRead> CaseReader<R> {
+    pub fn new(input: R) -> Self {
+        let tokens = Tokens::new(input);
+        Self { tokens }
+    }
+
+    fn case(&mut self) -> Read<Case> {
+        match self.number::<u8>()? {
+            1 => Ok(Case::Run(Box::new(self.run()?))),
+            2 => Ok(Case::Walk {
+                ids: self.counted(Self::number)?,
+                parents: self.counted(Self::number)?,
+                terms: self.walk_terms()?,
+            }),
+            3 => Ok(Case::WalkRecords {
+                snapshots: self.counted(Self::snapshot)?,
+                terms: self.walk_terms()?,
+            }),
+            4 => Ok(Case::Limit(self.optional_bytes()?)),
+            5 => Ok(Case::TimeWindow {
+                time: self.number()?,
+                last: self.number()?,
+            }),
+            6 => Ok(Case::RowIds {
+                next_row_id: self.number()?,
+                first_row: self.number()?,
+                added_rows: self.number()?,
+            }),
+            7 => Ok(Case::Trim(self.bytes()?)),
+            _ => Err(BadCase),
+        }
+    }
+
+    fn run(&mut self) -> Read<Run> {
+        Ok(Run {
+            metadata: self.metadata()?,
+            clock: self.number()?,
+            file: self.optional_bytes()?,
+            limit: self.optional_bytes()?,
+            updates: self.counted(Self::update)?,
+        })
+    }
+
+    fn walk_terms(&mut self) -> Read<WalkTerms> {
+        let terms = WalkTerms {
+            start: self.number()?,
+            excluded: self.flagged()?,
+            buffer_length: self.number()?,
+        };
+        match terms.buffer_length <= capacity::WALK_BUFFER {
+            true => Ok(terms),
+            false => Err(BadCase),
+        }
+    }
+
+    fn metadata(&mut self) -> Read<Metadata> {
+        Ok(Metadata {
+            version: self.number()?,
+            uuid: self.uuid()?,
+            location: self.bytes()?,
+            last_updated_ms: self.number()?,
+            last_sequence_number: self.number()?,
+            next_row_id: self.number()?,
+            last_column_id: self.number()?,
+            current_snapshot_id: self.flagged()?,
+            snapshots: self.counted(Self::snapshot)?,
+            refs: self.counted(Self::reference)?,
+            snapshot_log: self.counted(Self::snapshot_log_entry)?,
+            metadata_log: self.counted(Self::metadata_log_entry)?,
+            schemas: self.counted(Self::schema)?,
+            current_schema_id: self.number()?,
+            orders: self.counted(Self::order)?,
+            default_order_id: self.number()?,
+        })
+    }
+
+    fn update(&mut self) -> Read<Update> {
+        Ok(match self.number::<u8>()? {
+            1 => Update::AssignUuid(self.uuid()?),
+            2 => Update::UpgradeFormatVersion(self.number()?),
+            3 => Update::SetLocation(self.bytes()?),
+            4 => Update::AddSnapshot(self.snapshot()?),
+            5 => Update::SetBranchSnapshot(self.bytes()?, self.snapshot()?),
+            6 => Update::RemoveSnapshots(self.counted(Self::number)?),
+            7 => Update::SetRef(self.reference()?),
+            8 => Update::RemoveRef(self.bytes()?),
+            9 => Update::AddSchema(self.schema()?),
+            10 => Update::SetCurrentSchema(self.number()?),
+            11 => Update::RemoveSchemas(self.counted(Self::number)?),
+            12 => Update::AddSortOrder(self.order()?),
+            13 => Update::SetDefaultSortOrder(self.number()?),
+            kind => Update::UnknownKind(kind),
+        })
+    }
+
+    fn snapshot(&mut self) -> Read<Snapshot> {
+        Ok(Snapshot {
+            id: self.number()?,
+            parent: self.flagged()?,
+            sequence: self.number()?,
+            timestamp_ms: self.number()?,
+            rows: Flagged {
+                present: self.flag()?,
+                value: (self.number()?, self.number()?),
+            },
+        })
+    }
+
+    fn reference(&mut self) -> Read<Ref> {
+        Ok(Ref {
+            name: self.bytes()?,
+            snapshot_id: self.number()?,
+            kind: self.number()?,
+            min_snapshots: self.flagged()?,
+            max_snapshot_age_ms: self.flagged()?,
+            max_ref_age_ms: self.flagged()?,
+        })
+    }
+
+    fn snapshot_log_entry(&mut self) -> Read<SnapshotLogEntry> {
+        Ok(SnapshotLogEntry {
+            snapshot_id: self.number()?,
+            timestamp_ms: self.number()?,
+        })
+    }
+
+    fn metadata_log_entry(&mut self) -> Read<MetadataLogEntry> {
+        Ok(MetadataLogEntry {
+            file: self.bytes()?,
+            timestamp_ms: self.number()?,
+        })
+    }
+
+    fn schema(&mut self) -> Read<Schema> {
+        Ok(Schema {
+            id: self.number()?,
+            fields: self.counted(Self::number)?,
+        })
+    }
+
+    fn order(&mut self) -> Read<Order> {
+        Ok(Order {
+            id: self.number()?,
+            fields: self.counted(Self::sort_field)?,
+        })
+    }
+
+    fn sort_field(&mut self) -> Read<SortField> {
+        Ok(SortField {
+            source_id: self.number()?,
+            direction: self.number()?,
+            nulls: self.number()?,
+        })
+    }
+
+    fn uuid(&mut self) -> Read<[u8; 16]> {
+        let mut uuid = [0; 16];
+        for byte in &mut uuid {
+            *byte = self.number()?;
+        }
+        Ok(uuid)
+    }
+
+    fn optional_bytes(&mut self) -> Read<Option<Bytes>> {
+        match self.flag()? {
+            true => Ok(Some(self.bytes()?)),
+            false => Ok(None),
+        }
+    }
+
+    fn bytes(&mut self) -> Read<Bytes> {
+        self.counted(Self::number)
+    }
+
+    fn counted<T>(&mut self, one: impl Fn(&mut Self) -> Read<T>) -> Read<Vec<T>> {
+        let count: u64 = self.number()?;
+        (0..count).map(|_| one(self)).collect()
+    }
+
+    fn flagged<T: TryFrom<i128>>(&mut self) -> Read<Flagged<T>> {
+        Ok(Flagged {
+            present: self.flag()?,
+            value: self.number()?,
+        })
+    }
+
+    fn flag(&mut self) -> Read<bool> {
+        match self.number::<u8>()? {
+            0 => Ok(false),
+            1 => Ok(true),
+            _ => Err(BadCase),
+        }
+    }
+
+    fn number<T: TryFrom<i128>>(&mut self) -> Read<T> {
+        self.tokens.number()
+    }
+}

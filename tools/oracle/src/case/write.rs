@@ -1,0 +1,196 @@
+//! Writes cases and answers: numbers separated by single spaces, one line each.
+
+use std::fmt::{Display, Write};
+
+use super::*;
+
+pub struct Line {
+    text: String,
+    /// An answer shows no more records or bytes than there are slots; a case shows all.
+    slots_only: bool,
+}
+
+impl Line {
+    /// The line of a case.
+    pub fn of_case(case: &Case) -> String {
+        let (text, slots_only) = (String::new(), false);
+        let mut line = Self { text, slots_only };
+        line.case(case);
+        line.text
+    }
+
+    pub fn for_answer() -> Self {
+        let (text, slots_only) = (String::new(), true);
+        Self { text, slots_only }
+    }
+
+    pub fn into_text(self) -> String {
+        self.text
+    }
+
+    pub fn number(&mut self, number: impl Display) -> &mut Self {
+        let space = if self.text.is_empty() { "" } else { " " };
+        write!(self.text, "{space}{number}").expect("a string takes every text");
+        self
+    }
+
+    pub fn numbers<T: Display>(&mut self, numbers: &[T]) -> &mut Self {
+        for number in numbers {
+            self.number(number);
+        }
+        self
+    }
+
+    /// A count, then the records.
+    pub fn counted<T>(
+        &mut self,
+        slots: usize,
+        list: &[T],
+        one: impl for<'a> Fn(&'a mut Self, &T) -> &'a mut Self,
+    ) -> &mut Self {
+        let shown = if self.slots_only { slots } else { list.len() };
+        self.number(list.len());
+        for item in list.iter().take(shown) {
+            one(self, item);
+        }
+        self
+    }
+
+    pub fn list<T: Display>(&mut self, slots: usize, list: &[T]) -> &mut Self {
+        self.counted(slots, list, |line, number| line.number(number))
+    }
+
+    fn flagged<T: Display>(&mut self, value: &Flagged<T>) -> &mut Self {
+        self.number(value.present as u8).number(&value.value)
+    }
+
+    fn optional_bytes(&mut self, bytes: Option<&Bytes>) -> &mut Self {
+        self.number(bytes.is_some() as u8);
+        match bytes {
+            Some(bytes) => self.list(bytes.len(), bytes),
+            None => self,
+        }
+    }
+
+    fn case(&mut self, case: &Case) -> &mut Self {
+        match case {
+            Case::Run(run) => self.number(1).run(run),
+            Case::Walk {
+                ids,
+                parents,
+                terms,
+            } => {
+                self.number(2).list(ids.len(), ids);
+                self.list(parents.len(), parents).walk_terms(terms)
+            }
+            Case::WalkRecords { snapshots, terms } => {
+                self.number(3);
+                self.counted(snapshots.len(), snapshots, Self::snapshot);
+                self.walk_terms(terms)
+            }
+            Case::Limit(text) => self.number(4).optional_bytes(text.as_ref()),
+            Case::TimeWindow { time, last } => self.number(5).number(time).number(last),
+            Case::RowIds {
+                next_row_id,
+                first_row,
+                added_rows,
+            } => self
+                .number(6)
+                .numbers(&[next_row_id, first_row, added_rows]),
+            Case::Trim(location) => self.number(7).list(location.len(), location),
+        }
+    }
+
+    fn run(&mut self, run: &Run) -> &mut Self {
+        self.metadata(&run.metadata).number(run.clock);
+        self.optional_bytes(run.file.as_ref());
+        self.optional_bytes(run.limit.as_ref());
+        self.updates(&run.updates)
+    }
+
+    fn walk_terms(&mut self, terms: &WalkTerms) -> &mut Self {
+        self.number(terms.start).flagged(&terms.excluded);
+        self.number(terms.buffer_length)
+    }
+
+    pub fn metadata(&mut self, m: &Metadata) -> &mut Self {
+        self.number(m.version).numbers(&m.uuid);
+        self.list(capacity::LOCATION, &m.location);
+        self.number(m.last_updated_ms)
+            .number(m.last_sequence_number);
+        self.number(m.next_row_id).number(m.last_column_id);
+        self.flagged(&m.current_snapshot_id);
+        self.counted(capacity::SNAPSHOTS, &m.snapshots, Self::snapshot);
+        self.counted(capacity::REFS, &m.refs, Self::reference);
+        self.counted(capacity::SNAPSHOT_LOG, &m.snapshot_log, |line, entry| {
+            line.number(entry.snapshot_id).number(entry.timestamp_ms)
+        });
+        self.metadata_log(&m.metadata_log);
+        self.counted(capacity::SCHEMAS, &m.schemas, Self::schema);
+        self.number(m.current_schema_id);
+        self.counted(capacity::ORDERS, &m.orders, Self::order);
+        self.number(m.default_order_id)
+    }
+
+    pub fn updates(&mut self, updates: &[Update]) -> &mut Self {
+        self.counted(capacity::LIST_SUM, updates, Self::update)
+    }
+
+    fn update(&mut self, update: &Update) -> &mut Self {
+        self.number(update.kind());
+        match update {
+            Update::AssignUuid(uuid) => self.numbers(uuid),
+            Update::UpgradeFormatVersion(version) => self.number(version),
+            Update::SetLocation(location) => self.list(capacity::LOCATION, location),
+            Update::AddSnapshot(snapshot) => self.snapshot(snapshot),
+            Update::SetBranchSnapshot(name, snapshot) => {
+                self.list(capacity::REF_NAME, name).snapshot(snapshot)
+            }
+            Update::RemoveSnapshots(ids) => self.list(capacity::REMOVAL_IDS, ids),
+            Update::SetRef(reference) => self.reference(reference),
+            Update::RemoveRef(name) => self.list(capacity::REF_NAME, name),
+            Update::AddSchema(schema) => self.schema(schema),
+            Update::SetCurrentSchema(id) => self.number(id),
+            Update::RemoveSchemas(ids) => self.list(capacity::REMOVAL_IDS, ids),
+            Update::AddSortOrder(order) => self.order(order),
+            Update::SetDefaultSortOrder(id) => self.number(id),
+            Update::UnknownKind(_) => self,
+        }
+    }
+
+    fn snapshot(&mut self, s: &Snapshot) -> &mut Self {
+        let (first_row, added_rows) = s.rows.value;
+        self.number(s.id).flagged(&s.parent);
+        self.number(s.sequence).number(s.timestamp_ms);
+        self.number(s.rows.present as u8);
+        self.number(first_row).number(added_rows)
+    }
+
+    fn reference(&mut self, r: &Ref) -> &mut Self {
+        self.list(capacity::REF_NAME, &r.name);
+        self.number(r.snapshot_id).number(r.kind);
+        self.flagged(&r.min_snapshots);
+        self.flagged(&r.max_snapshot_age_ms);
+        self.flagged(&r.max_ref_age_ms)
+    }
+
+    pub fn metadata_log(&mut self, entries: &[MetadataLogEntry]) -> &mut Self {
+        self.counted(capacity::METADATA_LOG, entries, |line, entry| {
+            line.list(capacity::FILE_NAME, &entry.file);
+            line.number(entry.timestamp_ms)
+        })
+    }
+
+    fn schema(&mut self, schema: &Schema) -> &mut Self {
+        self.number(schema.id);
+        self.list(capacity::SCHEMA_FIELDS, &schema.fields)
+    }
+
+    fn order(&mut self, order: &Order) -> &mut Self {
+        self.number(order.id);
+        self.counted(capacity::ORDER_FIELDS, &order.fields, |line, field| {
+            line.number(field.source_id);
+            line.number(field.direction).number(field.nulls)
+        })
+    }
+}

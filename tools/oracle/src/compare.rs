@@ -1,0 +1,121 @@
+//! Compares a program's answers with the oracle's, line by line. Document 01's three allowances have been made on the oracle's side
+//! (its clock is set, its logged ids are sorted, its pick is steered), so equal means equal to the byte.
+
+use std::collections::BTreeMap;
+use std::io::{self, BufRead, Write};
+
+use crate::answer::{Answer, answer};
+use crate::case::{Case, CaseReader};
+use crate::port::Own;
+
+/// So many differences are shown.
+const SHOWN: u64 = 5;
+
+/// So many numbers of an answer are shown from a difference on.
+const CONTEXT: usize = 12;
+
+#[derive(Default)]
+struct Tally {
+    cases: u64,
+    /// Cases by kind and, where there is one, reply number.
+    replies: BTreeMap<(&'static str, Option<u8>), u64>,
+    owns: BTreeMap<Own, u64>,
+    published_alone: u64,
+    different: u64,
+}
+
+/// Reads the cases and the answers to be tried; says whether all are equal.
+pub fn compare(
+    cases: impl BufRead,
+    actual: impl BufRead,
+    mut report: impl Write,
+) -> io::Result<bool> {
+    let mut tally = Tally::default();
+    let mut actual = actual.lines();
+    for case in CaseReader::new(cases) {
+        let Ok(case) = case else {
+            writeln!(report, "bad case after case {}", tally.cases)?;
+            tally.different += 1;
+            break;
+        };
+        let expected = answer(&case);
+        tally.count(&case, &expected);
+        let given = actual.next().transpose()?;
+        if given.as_ref() != Some(&expected.line) {
+            tally.different += 1;
+            if tally.different <= SHOWN {
+                let place = format!("case {} ({})", tally.cases - 1, case.kind());
+                show(&mut report, &place, &expected.line, given.as_deref())?;
+            }
+        }
+    }
+    let surplus = actual.count() as u64;
+    if surplus > 0 {
+        writeln!(report, "{surplus} lines more than cases")?;
+    }
+    tally.write(report)?;
+    Ok(tally.different == 0 && surplus == 0)
+}
+
+impl Tally {
+    fn count(&mut self, case: &Case, expected: &Answer) {
+        self.cases += 1;
+        let reply = (case.kind(), expected.number);
+        *self.replies.entry(reply).or_default() += 1;
+        for own in &expected.owns {
+            *self.owns.entry(*own).or_default() += 1;
+        }
+        self.published_alone += expected.owns.is_empty() as u64;
+    }
+
+    fn write(&self, mut report: impl Write) -> io::Result<()> {
+        writeln!(report, "cases {}", self.cases)?;
+        for ((kind, number), count) in &self.replies {
+            match number {
+                Some(number) => writeln!(report, "  {kind} answered {number}: {count}")?,
+                None => writeln!(report, "  {kind}: {count}")?,
+            }
+        }
+        let accepted = self.replies.get(&("run", Some(0))).unwrap_or(&0);
+        writeln!(report, "accepted runs {accepted}")?;
+        writeln!(
+            report,
+            "decided by the published code alone {}",
+            self.published_alone
+        )?;
+        writeln!(
+            report,
+            "explained, where the published code alone differs or might:"
+        )?;
+        for (own, count) in &self.owns {
+            writeln!(report, "  {}: {count}", own.describe())?;
+        }
+        writeln!(report, "different {}", self.different)
+    }
+}
+
+/// Both answers from the first number on in which they differ.
+fn show(
+    mut report: impl Write,
+    place: &str,
+    expected: &str,
+    actual: Option<&str>,
+) -> io::Result<()> {
+    let Some(actual) = actual else {
+        return writeln!(report, "{place}: no answer");
+    };
+    let expected: Vec<&str> = expected.split(' ').collect();
+    let actual: Vec<&str> = actual.split(' ').collect();
+    let equal = expected.iter().zip(&actual).take_while(|(e, a)| e == a);
+    let from = equal.count();
+    let part = |numbers: &[&str]| {
+        let shown: Vec<&str> = numbers.iter().skip(from).take(CONTEXT).copied().collect();
+        format!("{} .. {}", numbers[0], shown.join(" "))
+    };
+    writeln!(
+        report,
+        "{place}: differs from number {from} of the answer on"
+    )?;
+    writeln!(report, "  expected {}", part(&expected))?;
+    writeln!(report, "  actual   {}", part(&actual))
+}

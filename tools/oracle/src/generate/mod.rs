@@ -1,0 +1,45 @@
+//! A seeded generator of cases: deep accepted runs, every refusal, boundaries, damaged records, walks and the small entry points.
+
+mod damage;
+mod draft;
+mod leaves;
+mod propose;
+mod provoke;
+mod random;
+mod runs;
+mod start;
+mod walks;
+mod world;
+
+use std::io::Write;
+
+use crate::case::{Case, Line};
+use random::Random;
+
+#[derive(Clone, Copy)]
+pub enum Kind {
+    Run,
+    Walk,
+    Limit,
+    Mixed,
+}
+
+pub fn generate(seed: u64, count: u64, kind: Kind, mut output: impl Write) -> std::io::Result<()> {
+    let mut random = Random::new(seed);
+    for _ in 0..count {
+        writeln!(output, "{}", Line::of_case(&case(&mut random, kind)))?;
+    }
+    Ok(())
+}
+
+fn case(random: &mut Random, kind: Kind) -> Case {
+    match kind {
+        Kind::Run => Case::Run(Box::new(runs::run(random))),
+        Kind::Walk => walks::walk(random),
+        Kind::Limit => leaves::leaf(random),
+        Kind::Mixed => {
+            let kind = random.weighted(&[(Kind::Run, 6), (Kind::Walk, 2), (Kind::Limit, 2)]);
+            case(random, kind)
+        }
+    }
+}

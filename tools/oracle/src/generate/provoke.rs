@@ -1,0 +1,184 @@
+//! Updates that the metadata as it stands refuses with a given number.
+
+use super::damage;
+use super::propose::{self, Now};
+use super::random::Random;
+use super::start;
+use crate::case::{Flagged, Metadata, Order, Run, Schema, Snapshot, TAG, Update};
+
+/// What a start needs for this number and would seldom have by itself.
+pub fn prepare(random: &mut Random, run: &mut Run, number: u8) {
+    let m = &mut run.metadata;
+    match number {
+        18 if random.percent(50) => {
+            let last = m.schemas.last_mut().expect("a start has a schema");
+            if last.id != m.current_schema_id {
+                last.id = i32::MAX;
+            }
+        }
+        18 => {
+            let last = m.orders.last_mut().expect("a start has an order");
+            if last.id != m.default_order_id && last.id > 0 {
+                last.id = i64::MAX;
+            }
+        }
+        23 => overfill_metadata_log(random, run),
+        // 20 to 22 stand before 23.
+        20..=22 if random.percent(20) => overfill_metadata_log(random, run),
+        _ => (),
+    }
+}
+
+fn overfill_metadata_log(random: &mut Random, run: &mut Run) {
+    let limits = ["129", "+129", "00200", "18446744073709551615"];
+    start::fill_metadata_log(&mut run.metadata);
+    run.file = Some(start::file_name(random, 128));
+    run.limit = Some(random.one_of(&limits).into());
+}
+
+/// An update that may be refused with this number, 3 to 19; nothing where the metadata forbids it from the outset.
+pub fn update(random: &mut Random, now: &Now, number: u8) -> Option<Update> {
+    let m = &now.metadata;
+    match number {
+        3 => {
+            let mut update = propose::propose(random, now);
+            damage::update(random, &mut update);
+            Some(update)
+        }
+        4 => (m.version > 1).then(|| Update::UpgradeFormatVersion(m.version - 1)),
+        5..=11 => Some(add_or_commit(random, now, number)),
+        12 => {
+            let name = random.one_of(&now.world.ref_names);
+            let snapshot_id = random.one_of(&[0, 1, 2, 3, 50, i64::MAX]);
+            Some(Update::SetRef(start::reference(random, name, snapshot_id)))
+        }
+        13 => {
+            let tag = m.refs.iter().find(|r| r.kind == TAG)?;
+            let snapshot = propose::snapshot(random, now);
+            Some(Update::SetBranchSnapshot(tag.name.clone(), snapshot))
+        }
+        14 => Some(set(random, -1)),
+        15 => {
+            let id = random.one_of(&[-1, 0, 40, i32::MAX]);
+            Some(set(random, id))
+        }
+        16 => Some(Update::RemoveSchemas(with_current(random, m))),
+        17 => Some(new_order(random, m)),
+        18 => Some(new_schema_or_order(random, m)),
+        _ => Some(growth(random, now)),
+    }
+}
+
+/// Updates after which the close may be refused with this number, 20 to 23.
+pub fn closing(random: &mut Random, now: &Now, number: u8) -> Option<Vec<Update>> {
+    let m = &now.metadata;
+    let current = m.current_snapshot_id.get();
+    match number {
+        20 => {
+            let sorted_by = propose::default_sort_fields(m).first()?.source_id;
+            let mut fields = propose::current_fields(m);
+            fields.retain(|id| *id != sorted_by);
+            let schema = Schema { id: 0, fields };
+            let mut causes = vec![Update::AddSchema(schema), Update::SetCurrentSchema(-1)];
+            if let (Some(current), true) = (current, random.percent(30)) {
+                causes.push(Update::RemoveSnapshots(vec![current]));
+            }
+            Some(causes)
+        }
+        21 => Some(vec![Update::RemoveSnapshots(vec![current?])]),
+        22 => {
+            let again = Snapshot {
+                id: current?,
+                ..propose::snapshot(random, now)
+            };
+            Some(vec![
+                Update::RemoveSnapshots(vec![current?]),
+                Update::AddSnapshot(again),
+            ])
+        }
+        _ => Some(Vec::new()),
+    }
+}
+
+/// A snapshot at fault, at times twice, added by itself or by a branch commit.
+fn add_or_commit(random: &mut Random, now: &Now, number: u8) -> Update {
+    let mut snapshot = propose::snapshot(random, now);
+    if random.percent(30) {
+        let other = 5 + random.below(7) as u8;
+        spoil(random, now, other, &mut snapshot);
+    }
+    spoil(random, now, number, &mut snapshot);
+    match random.percent(60) {
+        true => Update::AddSnapshot(snapshot),
+        false => Update::SetBranchSnapshot(b"main".to_vec(), snapshot),
+    }
+}
+
+fn spoil(random: &mut Random, now: &Now, number: u8, s: &mut Snapshot) {
+    let m = &now.metadata;
+    let early = random.one_of(&[60_001, 60_001, 60_002, 1_000_000]);
+    let before = |last: i64| last.saturating_sub(early);
+    let next = m.next_row_id;
+    match number {
+        5 => s.id = random.any_of(&propose::snapshot_ids(m)).unwrap_or(s.id),
+        6 => {
+            s.sequence = random.one_of(&[m.last_sequence_number, 0]);
+            s.parent = Flagged::of(Some(random.one_of(&[0, 5, s.id])));
+        }
+        7 => s.timestamp_ms = before(m.snapshot_log.last().map_or(0, |e| e.timestamp_ms)),
+        8 => s.timestamp_ms = before(propose::last_update(now)),
+        9 => s.rows = Flagged::of(Some((random.one_of(&[next.saturating_sub(1), 0]), 1))),
+        10 => s.rows = Flagged::of(None),
+        _ => {
+            let over = (u64::MAX - next).saturating_add(random.one_of(&[1, 1, 2, u64::MAX]));
+            s.rows = Flagged::of(Some((random.one_of(&[next, u64::MAX]), over)));
+        }
+    }
+}
+
+fn set(random: &mut Random, id: i32) -> Update {
+    match random.percent(50) {
+        true => Update::SetCurrentSchema(id),
+        false => Update::SetDefaultSortOrder(i64::from(id)),
+    }
+}
+
+fn with_current(random: &mut Random, m: &Metadata) -> Vec<i32> {
+    let mut ids = random.some_of(3, &propose::schema_ids(m));
+    ids.push(m.current_schema_id);
+    random.shuffle(&mut ids);
+    ids
+}
+
+/// Over fields of the current schema and one that it does not have.
+fn new_order(random: &mut Random, m: &Metadata) -> Update {
+    let mut sources = propose::current_fields(m);
+    sources.push(random.one_of(&[999, i32::MAX - 1]));
+    let fields = start::sort_fields(random, &sources);
+    Update::AddSortOrder(Order { id: 3, fields })
+}
+
+/// Fields that no held schema or order is likely to have.
+fn new_schema_or_order(random: &mut Random, m: &Metadata) -> Update {
+    match random.percent(50) {
+        true => {
+            let fields = vec![500 + random.below(99) as i32];
+            Update::AddSchema(Schema { id: 0, fields })
+        }
+        false => new_order(random, m),
+    }
+}
+
+/// An update that grows a table: with a new snapshot, a new name, an entry of history, a new schema or a new order.
+fn growth(random: &mut Random, now: &Now) -> Update {
+    let m = &now.metadata;
+    let new_name = format!("new{}", random.below(9)).into_bytes();
+    let held = random.any_of(&propose::snapshot_ids(m)).unwrap_or(0);
+    match random.below(5) {
+        0 => propose::of_kind(random, now, 4),
+        1 => Update::SetBranchSnapshot(new_name, propose::snapshot(random, now)),
+        2 => Update::SetRef(start::reference(random, new_name, held)),
+        3 => Update::SetRef(start::reference(random, b"main".to_vec(), held)),
+        _ => new_schema_or_order(random, m),
+    }
+}

@@ -1,0 +1,105 @@
+//! Runs: most are accepted and deep, some are refused with a number chosen beforehand, some are as they come.
+
+use super::damage;
+use super::draft::Draft;
+use super::provoke;
+use super::random::Random;
+use crate::case::{Run, Update, capacity};
+use crate::port;
+
+/// So many drafts are tried for a wanted number.
+const TRIES: usize = 60;
+
+pub fn run(random: &mut Random) -> Run {
+    match random.below(100) {
+        0..58 => accepted(random),
+        58..90 => {
+            let number = 1 + random.below(23) as u8;
+            let found = (0..TRIES).find_map(|_| refused(random, number));
+            found.unwrap_or_else(|| accepted(random))
+        }
+        _ => as_it_comes(random),
+    }
+}
+
+fn accepted(random: &mut Random) -> Run {
+    let sum = match random.below(100) {
+        0..25 => random.below(5),
+        25..70 => 4 + random.below(12),
+        70..95 => 16 + random.below(30),
+        _ => capacity::LIST_SUM - random.below(4),
+    };
+    let mut draft = Draft::new(random, |_, _| ());
+    draft.grow(random, sum);
+    draft.mend(random);
+    draft.run
+}
+
+fn as_it_comes(random: &mut Random) -> Run {
+    let mut draft = Draft::new(random, |_, _| ());
+    let count = random.below(20);
+    draft.add_unasked(random, count);
+    draft.run
+}
+
+/// A run that is refused with this number, if the draft allows one. Often there is a second fault, which stands behind.
+fn refused(random: &mut Random, number: u8) -> Option<Run> {
+    let run = match number {
+        1 => ill_formed_start(random),
+        2 => too_long(random),
+        3..20 => refused_update(random, number)?,
+        _ => refused_close(random, number)?,
+    };
+    let wanted = matches!(port::run(&run).answer, Err((given, _)) if given == number);
+    wanted.then_some(run)
+}
+
+fn ill_formed_start(random: &mut Random) -> Run {
+    let mut run = match random.percent(10) {
+        true => too_long(random),
+        false => accepted(random),
+    };
+    damage::start(random, &mut run);
+    run
+}
+
+/// A sum just above 64, or a count above it; at times the list has ill-formed updates too.
+fn too_long(random: &mut Random) -> Run {
+    let mut run = accepted(random);
+    let mut filler = random
+        .any_of(&run.updates)
+        .unwrap_or(Update::RemoveSchemas(Vec::new()));
+    if random.percent(20) {
+        damage::update(random, &mut filler);
+    }
+    let sum = capacity::LIST_SUM + 1 + random.below(4);
+    while port::list_sum(&run.updates) < sum {
+        run.updates.push(filler.clone());
+    }
+    run
+}
+
+/// Some accepted updates, then the refused one, then some that are never reached.
+fn refused_update(random: &mut Random, number: u8) -> Option<Run> {
+    let mut draft = Draft::new(random, |random, run| provoke::prepare(random, run, number));
+    let sum = random.below(12);
+    draft.grow(random, sum);
+    let update = provoke::update(random, &draft.now(), number)?;
+    if draft.offer(update.clone()) != Err(number) {
+        return None;
+    }
+    draft.run.updates.push(update);
+    let tail = random.below(4);
+    draft.add_unasked(random, tail);
+    Some(draft.run)
+}
+
+fn refused_close(random: &mut Random, number: u8) -> Option<Run> {
+    let mut draft = Draft::new(random, |random, run| provoke::prepare(random, run, number));
+    let sum = random.below(12);
+    draft.grow(random, sum);
+    for update in provoke::closing(random, &draft.now(), number)? {
+        draft.offer(update).ok()?;
+    }
+    (draft.close() == number).then_some(draft.run)
+}

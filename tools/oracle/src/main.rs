@@ -1,0 +1,101 @@
+//! The published builder and walks as an oracle for document 01. See README.md.
+
+mod answer;
+mod bench;
+mod case;
+mod catalog;
+mod chrono;
+mod compare;
+mod error;
+mod generate;
+mod pick;
+mod port;
+mod published;
+mod spec;
+mod util;
+mod uuid;
+
+use std::fs::File;
+use std::io::{self, BufRead, BufReader, BufWriter, stdin, stdout};
+use std::process::ExitCode;
+
+// The published files name these at the crate's root.
+pub use catalog::{TableCreation, TableUpdate};
+use generate::Kind;
+
+const USAGE: &str = "oracle answer < CASES > ANSWERS
+oracle generate --seed S --count N [--kind run|walk|limit|mixed]
+oracle compare CASES ACTUAL        (ACTUAL may be - for standard input)
+oracle pick --count K < CASES
+oracle bench";
+
+fn main() -> ExitCode {
+    published::number::quiet_attempts();
+    let arguments: Vec<String> = std::env::args().skip(1).collect();
+    let arguments: Vec<&str> = arguments.iter().map(String::as_str).collect();
+    match command(&arguments) {
+        Some(Ok(true)) => ExitCode::SUCCESS,
+        Some(Ok(false)) => ExitCode::from(1),
+        Some(Err(error)) => {
+            eprintln!("oracle: {error}");
+            ExitCode::from(2)
+        }
+        None => {
+            eprintln!("{USAGE}");
+            ExitCode::from(2)
+        }
+    }
+}
+
+/// Whether all is well, or nothing if the arguments are no command.
+fn command(arguments: &[&str]) -> Option<io::Result<bool>> {
+    let out = BufWriter::new(stdout().lock());
+    let done = |result: io::Result<()>| result.map(|()| true);
+    Some(match arguments {
+        ["answer"] => done(answer::answer_all(stdin().lock(), out)),
+        ["generate", options @ ..] => {
+            let seed = number(options, "--seed")?;
+            let count = number(options, "--count")?;
+            done(generate::generate(seed, count, kind(options)?, out))
+        }
+        ["compare", cases, actual] => {
+            file(cases).and_then(|cases| compare::compare(cases, file_or_stdin(actual)?, out))
+        }
+        ["pick", options @ ..] => {
+            let count = number(options, "--count")?;
+            done(pick::pick(count as usize, stdin().lock(), out))
+        }
+        ["bench"] => done(bench::bench(out)),
+        _ => return None,
+    })
+}
+
+fn value<'a>(options: &[&'a str], name: &str) -> Option<&'a str> {
+    let place = options.iter().position(|option| *option == name)?;
+    options.get(place + 1).copied()
+}
+
+fn number(options: &[&str], name: &str) -> Option<u64> {
+    value(options, name)?.parse().ok()
+}
+
+fn kind(options: &[&str]) -> Option<Kind> {
+    match value(options, "--kind") {
+        Some("run") => Some(Kind::Run),
+        Some("walk") => Some(Kind::Walk),
+        Some("limit") => Some(Kind::Limit),
+        Some("mixed") | None => Some(Kind::Mixed),
+        Some(_) => None,
+    }
+}
+
+fn file(path: &str) -> io::Result<BufReader<File>> {
+    File::open(path).map(BufReader::new)
+}
+
+fn file_or_stdin(path: &str) -> io::Result<Box<dyn BufRead>> {
+    match path {
+        "-" => Ok(Box::new(stdin().lock())),
+        path => Ok(Box::new(file(path)?)),
+    }
+}

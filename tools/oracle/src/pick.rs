@@ -1,0 +1,121 @@
+//! Picks a small list that shows what the given cases show: each reply, each update accepted with and without an entry in the log,
+//! each update refused with each number, each place where the answer rests on the wrapper; then versions, pairs and sizes.
+
+use std::collections::{BTreeMap, BTreeSet};
+use std::io::{self, BufRead, Write};
+
+use crate::answer::answer;
+use crate::case::{Case, CaseReader, Line, Run};
+use crate::port::{self, Own, Owns};
+
+/// A thing that a case can show. Those above `Version` come first.
+#[derive(Debug, Clone, Copy, PartialEq, Eq, PartialOrd, Ord)]
+enum Shown {
+    Reply(&'static str, Option<u8>),
+    /// An update's kind, and how many entries it logged in an accepted run.
+    Accepted(u8, usize),
+    /// An update's kind and its refusal's number.
+    Refused(u8, u8),
+    Own(Own),
+    /// The version of a run's start and the run's reply.
+    Version(u8, Option<u8>),
+    /// The kinds of two updates, one after the other, that were logged in an accepted run.
+    Pair(u8, u8),
+    /// A reply, and the power of two that the case's length lies under.
+    Size(&'static str, Option<u8>, u32),
+}
+
+struct Candidate {
+    line: String,
+    shown: BTreeSet<Shown>,
+}
+
+/// Reads all cases and writes up to `count` of them, in their order.
+pub fn pick(count: usize, input: impl BufRead, mut output: impl Write) -> io::Result<()> {
+    let readable = CaseReader::new(input).map_while(Result::ok);
+    let candidates: Vec<Candidate> = readable.map(candidate).collect();
+    let mut covered: BTreeSet<&Shown> = BTreeSet::new();
+    for place in chosen(&candidates, count) {
+        writeln!(output, "{}", candidates[place].line)?;
+        covered.extend(&candidates[place].shown);
+    }
+    let all: BTreeSet<&Shown> = candidates.iter().flat_map(|c| &c.shown).collect();
+    eprintln!(
+        "picked cases show {} of {} things",
+        covered.len(),
+        all.len()
+    );
+    Ok(())
+}
+
+fn candidate(case: Case) -> Candidate {
+    let answer = answer(&case);
+    let line = Line::of_case(&case);
+    let mut shown: BTreeSet<Shown> = answer.owns.iter().copied().map(Shown::Own).collect();
+    shown.insert(Shown::Reply(case.kind(), answer.number));
+    shown.insert(Shown::Size(case.kind(), answer.number, line.len().ilog2()));
+    if let Case::Run(run) = &case {
+        shown.insert(Shown::Version(run.metadata.version, answer.number));
+        shown.extend(updates_shown(run));
+    }
+    Candidate { line, shown }
+}
+
+fn updates_shown(run: &Run) -> Vec<Shown> {
+    let mut shown = Vec::new();
+    let mut owns = Owns::new();
+    let Ok(mut builder) = port::begin(run, &mut owns) else {
+        return shown;
+    };
+    let mut before = None;
+    for update in &run.updates {
+        let logged = builder.logged();
+        builder = match port::step(builder, update, &mut owns) {
+            Ok(builder) => builder,
+            Err(number) => return vec![Shown::Refused(update.kind(), number)],
+        };
+        let logged = builder.logged() - logged;
+        shown.push(Shown::Accepted(update.kind(), logged));
+        let here = (logged > 0).then_some(update.kind());
+        shown.extend(before.zip(here).map(|(a, b)| Shown::Pair(a, b)));
+        before = here;
+    }
+    match port::close(builder, &mut owns) {
+        Ok(_) => shown,
+        Err(_) => Vec::new(),
+    }
+}
+
+/// Round by round one more case for each thing shown: by turns the shortest case and one of middle length.
+fn chosen(candidates: &[Candidate], count: usize) -> BTreeSet<usize> {
+    let things = places_by_thing(candidates);
+    let mut chosen = BTreeSet::new();
+    let mut round = 0;
+    while chosen.len() < count.min(candidates.len()) {
+        round += 1;
+        for places in &things {
+            let (have, left): (Vec<usize>, Vec<usize>) =
+                places.iter().partition(|place| chosen.contains(*place));
+            if chosen.len() < count && have.len() < round {
+                chosen.extend(left.get(left.len() / 2 * (1 - round % 2)));
+            }
+        }
+    }
+    chosen
+}
+
+/// For each thing, the wanted and then the rarest first, where it is shown, the shortest case first.
+fn places_by_thing(candidates: &[Candidate]) -> Vec<Vec<usize>> {
+    let mut by_thing: BTreeMap<Shown, Vec<usize>> = BTreeMap::new();
+    for (place, candidate) in candidates.iter().enumerate() {
+        for thing in &candidate.shown {
+            by_thing.entry(*thing).or_default().push(place);
+        }
+    }
+    let mut things: Vec<(Shown, Vec<usize>)> = by_thing.into_iter().collect();
+    things.sort_by_key(|(thing, places)| (*thing >= Shown::Version(0, None), places.len()));
+    for (_, places) in &mut things {
+        places.sort_by_key(|place| candidates[*place].line.len());
+    }
+    things.into_iter().map(|(_, places)| places).collect()
+}

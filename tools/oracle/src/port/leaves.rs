@@ -1,0 +1,117 @@
+//! The small entry points, each asked of the published builder by an update that shows it.
+
+use super::own::{Own, Owns};
+use super::run::{Outcome, run};
+use crate::case::{
+    Flagged, Metadata, MetadataLogEntry, Order, Run, Schema, Snapshot, SnapshotLogEntry, Update,
+};
+use crate::published::to_published as to;
+use crate::spec::TableMetadata;
+use crate::spec::table_metadata_builder::TableMetadataBuilder;
+
+/// So many entries make a limit below their number visible.
+const LIMIT_SHOWN: usize = 1000;
+
+/// Well-formed metadata of version 3 that holds one schema and one order, neither with fields, and nothing else.
+fn bare() -> Metadata {
+    Metadata {
+        version: 3,
+        uuid: [0; 16],
+        location: Vec::new(),
+        last_updated_ms: 0,
+        last_sequence_number: 0,
+        next_row_id: 0,
+        last_column_id: 0,
+        current_snapshot_id: Flagged::of(None),
+        snapshots: Vec::new(),
+        refs: Vec::new(),
+        snapshot_log: Vec::new(),
+        metadata_log: Vec::new(),
+        schemas: vec![Schema {
+            id: 0,
+            fields: Vec::new(),
+        }],
+        current_schema_id: 0,
+        orders: vec![Order {
+            id: 0,
+            fields: Vec::new(),
+        }],
+        default_order_id: 0,
+    }
+}
+
+pub fn bare_metadata() -> TableMetadata {
+    to::metadata(&bare(), None)
+}
+
+/// The limit is what a close keeps of a long metadata log. A limit that keeps all of it is read by the wrapper.
+pub fn limit(text: Option<&[u8]>) -> (u64, Owns) {
+    let entry = MetadataLogEntry {
+        file: Vec::new(),
+        timestamp_ms: 0,
+    };
+    let metadata_log = vec![entry; LIMIT_SHOWN];
+    let start = Metadata {
+        metadata_log,
+        ..bare()
+    };
+    let builder = TableMetadataBuilder::new_from_metadata(to::metadata(&start, text), None);
+    let built = builder.build().expect("bare metadata closes");
+    let kept = built.metadata.metadata_log.len();
+    let read = text.and_then(|text| to::text(text).parse().ok());
+    match read {
+        Some(limit) if kept == LIMIT_SHOWN => (limit, Owns::from([Own::LargeLimit])),
+        _ => (kept as u64, Owns::new()),
+    }
+}
+
+fn add(metadata: Metadata, timestamp_ms: i64, rows: (u64, u64)) -> Outcome {
+    let added = Snapshot {
+        id: 0,
+        parent: Flagged::of(None),
+        sequence: 0,
+        timestamp_ms,
+        rows: Flagged::of(Some(rows)),
+    };
+    run(&Run {
+        metadata,
+        clock: 0,
+        file: None,
+        limit: None,
+        updates: vec![Update::AddSnapshot(added)],
+    })
+}
+
+/// Whether adding a snapshot of this time, after a log that ends at `last`, is not refused with 7. (8 is asked after 7.)
+pub fn time_window(time: i64, last: i64) -> (bool, Owns) {
+    let entry = SnapshotLogEntry {
+        snapshot_id: 0,
+        timestamp_ms: last,
+    };
+    let start = Metadata {
+        snapshot_log: vec![entry],
+        ..bare()
+    };
+    let outcome = add(start, time, (0, 0));
+    let within = !matches!(outcome.answer, Err((7, _)));
+    (within, outcome.owns)
+}
+
+/// Adds a snapshot with this row range. Number, and the next row id then.
+pub fn row_ids(next_row_id: u64, first_row: u64, added_rows: u64) -> (u8, u64) {
+    let start = Metadata {
+        next_row_id,
+        ..bare()
+    };
+    match add(start, 0, (first_row, added_rows)).answer {
+        Ok(accepted) => (0, accepted.metadata.next_row_id),
+        Err((number, _)) => (number, next_row_id),
+    }
+}
+
+/// Sets the location of metadata that has an empty one.
+pub fn trim(location: &[u8]) -> Vec<u8> {
+    let builder = TableMetadataBuilder::new_from_metadata(bare_metadata(), None);
+    let builder = builder.set_location(to::text(location));
+    crate::published::from_published::bytes(&builder.held().location)
+}

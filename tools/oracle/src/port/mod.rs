@@ -1,0 +1,17 @@
+//! THE WRAPPER: what document 01 asks of the port and the published code does not say. It reads document 01 in plain Rust around
+//! the published builder, and every answer that rests on it says so by an `Own`.
+
+mod exact_time;
+mod formed;
+mod leaves;
+mod map_order;
+mod own;
+mod run;
+mod texts;
+mod walk;
+
+pub use formed::list_sum;
+pub use leaves::{limit, row_ids, time_window, trim};
+pub use own::{Own, Owns};
+pub use run::{Outcome, begin, close, run, step};
+pub use walk::{WalkOutcome, table, walk, walk_records};

@@ -1,0 +1,60 @@
+//! Where an answer rests on the wrapper: the published code alone would have said something else, or might have.
+
+use std::collections::BTreeSet;
+
+#[derive(Debug, Clone, Copy, PartialEq, Eq, PartialOrd, Ord)]
+pub enum Own {
+    /// 1: metadata, a file's name or a walk's lists break the rules for records.
+    StartNotFormed,
+    /// 2.
+    ListSum,
+    /// 3.
+    UpdateNotFormed,
+    /// 18: the published addition overflows.
+    LargestId,
+    /// 19: the published tables have no capacity.
+    TableFull,
+    /// 22.
+    MainDisagrees,
+    /// 23.
+    MetadataLogFull,
+    /// 24: the published walk never ends.
+    Cycle,
+    /// 25.
+    ShortBuffer,
+    /// The published subtraction of two times overflows; document 01's is exact.
+    ExactTime,
+    /// A limit that is larger than the published code can be seen to keep.
+    LargeLimit,
+    /// A text that is not UTF-8 cannot be given to the published code.
+    NotUtf8,
+    /// Allowance: several schemas or orders equal the offered one; the map's order was steered to the smallest id.
+    PickOfEquals,
+    /// Allowance: a removal of two or more ids was put into table order.
+    OrderOfIds,
+}
+
+pub type Owns = BTreeSet<Own>;
+
+impl Own {
+    pub fn describe(self) -> &'static str {
+        match self {
+            Own::StartNotFormed => {
+                "1: start or walk lists not well formed, the published code does not look"
+            }
+            Own::ListSum => "2: list sum, the published code has none",
+            Own::UpdateNotFormed => "3: update not well formed, the published code does not look",
+            Own::LargestId => "18: the published id addition overflows",
+            Own::TableFull => "19: the published tables have no capacity",
+            Own::MainDisagrees => "22: the published close does not look",
+            Own::MetadataLogFull => "23: the published metadata log has no capacity",
+            Own::Cycle => "24: the published walk never ends",
+            Own::ShortBuffer => "25: the published walk has no buffer",
+            Own::ExactTime => "exact times: the published time subtraction overflows",
+            Own::LargeLimit => "limit above what the published log can show",
+            Own::NotUtf8 => "a text that is not UTF-8, the published texts are",
+            Own::PickOfEquals => "allowance: pick among several equal schemas or orders, steered",
+            Own::OrderOfIds => "allowance: map order of two or more logged ids, sorted",
+        }
+    }
+}

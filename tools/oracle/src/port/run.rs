@@ -1,0 +1,150 @@
+//! A run: 1, then 2, then the updates in order by the published builder, then its close, with the port's own checks between.
+
+use super::own::{Own, Owns};
+use super::{exact_time, formed, map_order, texts};
+use crate::TableUpdate;
+use crate::case::{Metadata, MetadataLogEntry, Run, Update, capacity};
+use crate::chrono;
+use crate::published::apply::{apply, call};
+use crate::published::number::{Refusal, attempt};
+use crate::published::{from_published as from, to_published as to};
+use crate::spec::table_metadata_builder::{TableMetadataBuildResult, TableMetadataBuilder};
+use crate::spec::{MAIN_BRANCH, TableMetadata};
+
+/// What an accepted run answers.
+#[derive(Debug)]
+pub struct Accepted {
+    pub metadata: Metadata,
+    pub log: Vec<Update>,
+    pub expired: Vec<MetadataLogEntry>,
+}
+
+#[derive(Debug)]
+pub struct Outcome {
+    /// The answer, or the number and place of the refusal.
+    pub answer: Result<Accepted, (u8, usize)>,
+    pub owns: Owns,
+}
+
+/// The builder after an update, or the refusal's number.
+pub type Step = Result<TableMetadataBuilder, u8>;
+
+pub fn run(run: &Run) -> Outcome {
+    let mut owns = Owns::new();
+    let answer = answer(run, &mut owns);
+    Outcome { answer, owns }
+}
+
+fn answer(run: &Run, owns: &mut Owns) -> Result<Accepted, (u8, usize)> {
+    let mut builder = begin(run, owns).map_err(|number| (number, 0))?;
+    for (place, update) in run.updates.iter().enumerate() {
+        builder = step(builder, update, owns).map_err(|number| (number, place))?;
+    }
+    close(builder, owns).map_err(|number| (number, run.updates.len()))
+}
+
+/// The builder at the start, with the clock set: 1, then 2.
+pub fn begin(run: &Run, owns: &mut Owns) -> Step {
+    if !formed::start(run) {
+        owns.insert(Own::StartNotFormed);
+        return Err(1);
+    }
+    if formed::list_sum(&run.updates) > capacity::LIST_SUM {
+        owns.insert(Own::ListSum);
+        return Err(2);
+    }
+    if !texts::all_utf8(run) {
+        owns.insert(Own::NotUtf8);
+    }
+    chrono::set_clock(run.clock);
+    let previous = to::metadata(&run.metadata, run.limit.as_deref());
+    let file = run.file.as_deref().map(to::text);
+    Ok(TableMetadataBuilder::new_from_metadata(previous, file))
+}
+
+/// One update: 3, then the published checks and effect, then 19 if a table has outgrown its capacity. In document 01 too 19 is the
+/// last check of every update that grows a table, so that it may be asked after the effect.
+pub fn step(builder: TableMetadataBuilder, update: &Update, owns: &mut Owns) -> Step {
+    if !formed::update(update) {
+        owns.insert(Own::UpdateNotFormed);
+        return Err(3);
+    }
+    let builder = apply_exactly(builder, update, owns)?;
+    if outgrown(builder.held()) {
+        owns.insert(Own::TableFull);
+        return Err(19);
+    }
+    Ok(builder)
+}
+
+fn apply_exactly(mut builder: TableMetadataBuilder, update: &Update, owns: &mut Owns) -> Step {
+    if map_order::steer_pick(&mut builder, update) {
+        owns.insert(Own::PickOfEquals);
+    }
+    if let Some(time) = exact_time::far_time(&builder, update) {
+        let alone = builder.clone();
+        if let Err(Refusal::TimeOverflow) = attempt(|| apply(alone, call(update))) {
+            owns.insert(Own::ExactTime);
+            return exact_time::apply_near(builder, update, time);
+        }
+    }
+    attempt(|| apply(builder, call(update))).map_err(|refusal| number(refusal, owns))
+}
+
+fn number(refusal: Refusal, owns: &mut Owns) -> u8 {
+    match refusal {
+        Refusal::Number(number) => {
+            if number == 18 {
+                owns.insert(Own::LargestId);
+            }
+            number
+        }
+        Refusal::TimeOverflow => unreachable!("far times have been asked for"),
+    }
+}
+
+fn outgrown(m: &TableMetadata) -> bool {
+    m.snapshots.len() > capacity::SNAPSHOTS
+        || m.refs.len() > capacity::REFS
+        || m.snapshot_log.len() > capacity::SNAPSHOT_LOG
+        || m.schemas.len() > capacity::SCHEMAS
+        || m.sort_orders.len() > capacity::ORDERS
+}
+
+/// 20 and 21 are the published close's; 22 stands after them, and 23 after the metadata log's expiry.
+pub fn close(builder: TableMetadataBuilder, owns: &mut Owns) -> Result<Accepted, u8> {
+    let built = attempt(|| builder.build()).map_err(|refusal| number(refusal, owns))?;
+    if main_disagrees(&built.metadata) {
+        owns.insert(Own::MainDisagrees);
+        return Err(22);
+    }
+    if built.metadata.metadata_log.len() > capacity::METADATA_LOG {
+        owns.insert(Own::MetadataLogFull);
+        return Err(23);
+    }
+    if built.changes.iter().any(removes_several) {
+        owns.insert(Own::OrderOfIds);
+    }
+    Ok(accepted(&built))
+}
+
+fn main_disagrees(m: &TableMetadata) -> bool {
+    let main = m.refs.get(MAIN_BRANCH);
+    m.current_snapshot_id != main.map(|main| main.snapshot_id)
+}
+
+fn removes_several(change: &TableUpdate) -> bool {
+    match change {
+        TableUpdate::RemoveSnapshots { snapshot_ids } => snapshot_ids.len() > 1,
+        TableUpdate::RemoveSchemas { schema_ids } => schema_ids.len() > 1,
+        _ => false,
+    }
+}
+
+fn accepted(built: &TableMetadataBuildResult) -> Accepted {
+    Accepted {
+        metadata: from::metadata(&built.metadata),
+        log: built.changes.iter().map(from::update).collect(),
+        expired: from::metadata_log(&built.expired_metadata_logs),
+    }
+}

@@ -1,0 +1,84 @@
+//! Document 01's numbers for what the published code says: by the text of an error, or by the arithmetic that stopped.
+
+use std::cell::Cell;
+use std::panic::{self, AssertUnwindSafe};
+
+use crate::error::Result;
+use crate::spec::SortOrder;
+
+/// How a text begins, a part it has, and the number it stands for. A ref's name stands in two texts, so these go by the beginning.
+const TEXTS: [(&str, &str, u8); 19] = [
+    ("Cannot downgrade", "FormatVersion", 4),
+    ("Snapshot already exists", "", 5),
+    ("Cannot add snapshot with sequence number", "", 6),
+    ("Invalid snapshot timestamp", "before last snapshot", 7),
+    ("Invalid snapshot timestamp", "before last updated", 8),
+    ("Cannot add a snapshot", "behind table next-row-id", 9),
+    ("Cannot add a snapshot", "first-row-id is null", 10),
+    ("Cannot add snapshot", "next-row-id overflowed", 11),
+    ("Cannot set '", "", 12),
+    ("Cannot append snapshot", "", 13),
+    ("Cannot set current schema to last added", "", 14),
+    ("Cannot set default sort order to last added", "", 14),
+    ("Cannot set current schema to unknown", "", 15),
+    ("Cannot set default sort order to unknown", "", 15),
+    ("Cannot remove current schema", "", 16),
+    ("Sort order to add", SortOrder::UNKNOWN_SOURCE, 17),
+    (SortOrder::UNKNOWN_SOURCE, "", 20),
+    ("Cannot set invalid snapshot log", "", 21),
+    // The only addition of the published code that can pass its type's end is that of a new schema's or order's id.
+    ("attempt to add with overflow", "", 18),
+];
+
+/// What the only subtractions of the published code that can pass their type's ends say: those of two times.
+const TIMES: &str = "attempt to subtract with overflow";
+
+/// Why the published code gave nothing back.
+#[derive(Debug, PartialEq)]
+pub enum Refusal {
+    Number(u8),
+    /// A difference of times does not fit 64 bits.
+    TimeOverflow,
+}
+
+thread_local! {
+    static ATTEMPTING: Cell<bool> = const { Cell::new(false) };
+}
+
+/// Keeps the overflows that `attempt` catches off standard error. To be called once, before the first attempt.
+pub fn quiet_attempts() {
+    let loud = panic::take_hook();
+    panic::set_hook(Box::new(move |info| {
+        if !ATTEMPTING.get() {
+            loud(info);
+        }
+    }));
+}
+
+/// Calls the published code and numbers its refusal.
+pub fn attempt<T>(call: impl FnOnce() -> Result<T>) -> std::result::Result<T, Refusal> {
+    ATTEMPTING.set(true);
+    let outcome = panic::catch_unwind(AssertUnwindSafe(call));
+    ATTEMPTING.set(false);
+    match outcome {
+        Ok(Ok(value)) => Ok(value),
+        Ok(Err(error)) => Err(refusal(&error.to_string())),
+        Err(stopped) => Err(refusal(match stopped.downcast_ref::<&str>() {
+            Some(text) => text,
+            None => panic::resume_unwind(stopped),
+        })),
+    }
+}
+
+fn refusal(text: &str) -> Refusal {
+    if text == TIMES {
+        return Refusal::TimeOverflow;
+    }
+    let row = TEXTS
+        .iter()
+        .find(|(beginning, part, _)| text.starts_with(beginning) && text.contains(part));
+    match row {
+        Some((_, _, number)) => Refusal::Number(*number),
+        None => panic!("no number for the text {text:?}"),
+    }
+}
