@@ -1,0 +1,32 @@
+/* The functions that the crate `exports` proves, by C linkage. Link the archive that `rt staticlib exports` or `tools/native-archive exports` writes. */
+#ifndef REGISTER_H
+#define REGISTER_H
+
+#include <stdbool.h>
+#include <stddef.h>
+#include <stdint.h>
+
+#ifdef __cplusplus
+extern "C" {
+#endif
+
+/* The limit of the metadata log that the property's text gives; 100 where it is no number, and for a text of length 0. */
+uint64_t register_limit(const uint8_t *text, size_t length);
+
+/* Whether the time is over a minute before the last one; both in milliseconds. */
+bool register_too_early(int64_t time, int64_t last);
+
+/* number: 0 accepted, 9 first row id below next row id, 11 next row id would pass 2^64 - 1.
+   next: the next row id from then on; on a refusal the one that came in. */
+struct register_rows {
+    uint8_t number;
+    uint64_t next;
+};
+
+struct register_rows register_row_check(uint64_t next, uint64_t first, uint64_t added);
+
+#ifdef __cplusplus
+}
+#endif
+
+#endif

@@ -1,0 +1,2 @@
+-- What is true of the exported functions beside their contracts.
+pub mod Unique

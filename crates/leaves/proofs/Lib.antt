@@ -1,0 +1,8 @@
+-- What the proofs of several functions cite.
+mod Tests
+mod Digits
+mod Bytes
+mod Slashes
+mod Differences
+mod Spans
+pub mod Unique

@@ -1,0 +1,3 @@
+-- What the contracts of the leaves cite beside the rules.
+pub mod Limit
+pub mod Answers

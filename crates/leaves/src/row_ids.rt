@@ -1,0 +1,37 @@
+// Row ids at version 3.
+ghost use mathlib.Core.Path.{_≡_};
+ghost use Rattle.leaves.specs.Answers.{rowsChecked};
+use records::counters::RowId;
+
+const ACCEPTED: u8 = 0;
+
+const FIRST_ROW_BEHIND: u8 = 9;
+
+const ROWS_OVERFLOW: u8 = 11;
+
+// The number is 0, 9 or 11; on a refusal the next row id is the one that came in.
+pub struct RowsChecked {
+    pub number: u8,
+    pub next: RowId,
+}
+
+pub fn check_rows(next: RowId, first: RowId, added: u64) -> RowsChecked
+    ensures { λ r. ⌜ r ≡ rowsChecked next first added ⌝ }
+{
+    if first.0 < next.0 {
+        return RowsChecked {
+            number: FIRST_ROW_BEHIND,
+            next,
+        };
+    }
+    if added > u64::MAX - next.0 {
+        return RowsChecked {
+            number: ROWS_OVERFLOW,
+            next,
+        };
+    }
+    RowsChecked {
+        number: ACCEPTED,
+        next: RowId(next.0 + added),
+    }
+}

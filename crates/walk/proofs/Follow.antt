@@ -1,0 +1,153 @@
+-- A walk on its way: each step lists a held id that was not listed, so fewer are left, and the steps that the rule allows are enough.
+use Prim.Native.Nat.{ℕ, suc, _+_, _-_, _≤_, _<_}
+use mathlib.Core.Path.{_≡_, refl, sym, ap, _∙_}
+use mathlib.Core.Bool.{Bool, true, false, false≢true, cond, _||_, or-true, or-false, or-assoc, and-false}
+use mathlib.Core.List.{List, [], _∷_, _++_}
+use mathlib.Core.Option.{Option, none, some}
+use native.Mathlib.Omega.{arith}
+use borrow.Author.Tests.{leb-true}
+use borrow.Table.Steps.{cases}
+use lib.Dec.{eqb, leb}
+use lib.IntN.{ℤ}
+use lib.ListN.{length, length-append}
+use Rattle.rules.specs.Capacities.{snapshotRoom}
+use Rattle.rules.specs.Words.{eqZ, isIn, someWith}
+use Rattle.rules.specs.Walk.{Walk, Listed, Twice, Bad, parentOf, listsFormed, follow, ancestors}
+use Rattle.rules.proofs.Orders.{numbers-told}
+use Rattle.walk.specs.declared.step.Onward.{Onward}
+use Rattle.walk.specs.declared.step.Onward.the-variants.{To, End}
+use Rattle.walk.specs.Answers.{toParent, stepFrom}
+use Rattle.walk.proofs.Bits.{eqZ-same}
+
+-- ---- a step from an id is to the parent of a held one
+
+to-parent : (stops : Bool) (o : Option ℤ) {next : ℤ} → cond stops End (toParent o) ≡ To next → o ≡ some next
+to-parent true o e = cc
+to-parent false none e = cc
+to-parent false (some x) e = cc
+
+held : (ids parents : List ℤ) (id : ℤ) {next : ℤ} → parentOf ids parents id ≡ some next → isIn ids id ≡ true
+held [] parents id e = cc
+held (x ∷ ids) [] id e = cc
+held (x ∷ ids) (p ∷ parents) id e =
+    cases (eqZ x id)
+    (λ t. rw (eqZ-same id x (sym (numbers-told .equal x id t))))
+    (λ f. rw (held ids parents id (rw f at e)) (or-true (eqZ id x)))
+
+-- ---- how many of the ids are not listed
+
+abbrev pub unlisted : List ℤ → List ℤ → ℕ
+unlisted listed [] = 0
+unlisted listed (x ∷ ids) = cond (isIn listed x) 0 1 + unlisted listed ids
+
+pub none-listed : (ids : List ℤ) → unlisted [] ids ≡ length ids
+none-listed [] = refl
+none-listed (x ∷ ids) = omega (arith, none-listed ids)
+
+in-longer : (listed : List ℤ) (id x : ℤ) → isIn (listed ++ (id ∷ [])) x ≡ (isIn listed x || eqZ x id)
+in-longer [] id x = or-false (eqZ x id)
+in-longer (y ∷ listed) id x = rw (in-longer listed id x) (sym (or-assoc (eqZ x y) (isIn listed x) (eqZ x id)))
+
+no-less : (a b : Bool) → cond (a || b) 0 1 ≤ cond a 0 1
+no-less true b = omega arith
+no-less false true = omega arith
+no-less false false = omega arith
+
+module _ (listed : List ℤ) (id : ℤ) where
+  abbrev longer : List ℤ
+  longer = listed ++ (id ∷ [])
+
+  no-more : (ids : List ℤ) → unlisted longer ids ≤ unlisted listed ids
+  no-more [] = omega arith
+  no-more (x ∷ ids) = rw (in-longer listed id x) (omega (arith, no-less (isIn listed x) (eqZ x id), no-more ids))
+
+  fewer : (ids : List ℤ) → isIn ids id ≡ true → isIn listed id ≡ false → unlisted longer ids < unlisted listed ids
+  fewer [] h e = absurd (false≢true h)
+  fewer (x ∷ ids) h e =
+      cases (eqZ id x)
+      (λ t. let q : x ≡ id = sym (numbers-told .equal id x t) in
+      rw (in-longer listed id x, q, e, eqZ-same id id refl) (omega (arith, no-more ids)))
+      (λ f. rw (in-longer listed id x) (omega (arith, no-less (isIn listed x) (eqZ x id), fewer ids (rw f at h) e)))
+
+-- ---- a walk on its way
+
+few : (ids parents : List ℤ) → listsFormed ids parents ≡ true → length ids ≤ snapshotRoom
+few ids parents e =
+    cases (leb (length ids) snapshotRoom)
+    (λ t. leb-true (length ids) snapshotRoom t)
+    (λ f. absurd (false≢true (rw (f, and-false (eqb (length ids) (length parents))) at e)))
+
+module _ (ids parents : List ℤ) (excluded : Option ℤ) where
+  abbrev pub from : ℕ → List ℤ → ℤ → Walk
+  from k listed id = follow k (parentOf ids parents) (λ x. someWith (eqZ x) excluded) listed id
+
+  abbrev pub onward : ℕ → List ℤ → ℤ → Onward → Walk
+  onward k listed id End = Listed listed
+  onward k listed id (To next) = cond (isIn listed id) Twice (from k (listed ++ (id ∷ [])) next)
+
+  -- the rule goes by the step
+  pub by-step : (k : ℕ) (listed : List ℤ) (id : ℤ) → from (suc k) listed id ≡ onward k listed id (stepFrom ids parents excluded id)
+  unfolding follow
+  by-step k listed id = go (someWith (eqZ id) excluded) (parentOf ids parents id)
+    where
+      go : (stops : Bool) (o : Option ℤ) →
+          elim o [ none ↦ Listed listed | some next ↦ cond stops (Listed listed) (cond (isIn listed id) Twice (from k (listed ++ (id ∷ [])) next)) ]
+          ≡ onward k listed id (cond stops End (toParent o))
+      go true none = refl
+      go true (some next) = refl
+      go false none = refl
+      go false (some next) = refl
+
+-- these are listed, the id is next, and what is found from here is what is found
+pub record Going (ids parents : List ℤ) (excluded : Option ℤ) (start : ℤ) (listed : List ℤ) (id : ℤ) : Type 0 where
+  pub few-ids : length ids ≤ snapshotRoom
+  pub fresh : length listed + unlisted listed ids ≤ length ids
+  pub same : ancestors ids parents start excluded ≡ from ids parents excluded (suc (length ids - length listed)) listed id
+
+-- the same way, by other names for where it stands
+pub going-at : {ids parents : List ℤ} {excluded : Option ℤ} {start : ℤ} {listed listed′ : List ℤ} {id id′ : ℤ} → listed′ ≡ listed → id′ ≡ id → Going ids parents excluded start listed id → Going ids parents excluded start listed′ id′
+going-at e f g = rw (e, f) g
+
+pub refused : (ids parents : List ℤ) (excluded : Option ℤ) (start : ℤ) → listsFormed ids parents ≡ false → ancestors ids parents start excluded ≡ Bad
+unfolding ancestors
+refused ids parents excluded start e = rw e
+
+pub begins : (ids parents : List ℤ) (excluded : Option ℤ) (start : ℤ) → listsFormed ids parents ≡ true → Going ids parents excluded start [] start
+unfolding ancestors
+begins ids parents excluded start e =
+    record {
+      few-ids = few ids parents e;
+      fresh = omega (arith, none-listed ids);
+      same = rw e (ap (λ (k : ℕ). from ids parents excluded (suc k) [] start) (omega arith));
+    }
+
+-- a step from an id that is not listed leaves fewer
+pub leaves-fewer : (ids parents : List ℤ) (excluded : Option ℤ) (listed : List ℤ) (id : ℤ) {next : ℤ} → stepFrom ids parents excluded id ≡ To next → isIn listed id ≡ false → unlisted (listed ++ (id ∷ [])) ids < unlisted listed ids
+leaves-fewer ids parents excluded listed id to e =
+    fewer listed id ids (held ids parents id (to-parent (someWith (eqZ id) excluded) (parentOf ids parents id) to)) e
+
+module _ {ids parents : List ℤ} {excluded : Option ℤ} {start : ℤ} {listed : List ℤ} {id : ℤ} (g : Going ids parents excluded start listed id) where
+  pub ends : stepFrom ids parents excluded id ≡ End → ancestors ids parents start excluded ≡ Listed listed
+  ends e = g .same ∙ by-step ids parents excluded (length ids - length listed) listed id ∙ rw e
+
+  module _ {next : ℤ} (to : stepFrom ids parents excluded id ≡ To next) where
+    pub meets : isIn listed id ≡ true → ancestors ids parents start excluded ≡ Twice
+    meets e = g .same ∙ by-step ids parents excluded (length ids - length listed) listed id ∙ rw (to, e)
+
+    module _ (e : isIn listed id ≡ false) where
+      left : unlisted (listed ++ (id ∷ [])) ids < unlisted listed ids
+      left = leaves-fewer ids parents excluded listed id to e
+
+      pub room : length listed < length ids
+      room = omega (arith, g .fresh, left)
+
+      pub goes-on : Going ids parents excluded start (listed ++ (id ∷ [])) next
+      goes-on =
+          record {
+            few-ids = g .few-ids;
+            fresh = omega (arith, g .fresh, left, length-append listed (id ∷ []));
+            same =
+                g .same
+                ∙ by-step ids parents excluded (length ids - length listed) listed id
+                ∙ rw (to, e) (ap (λ (k : ℕ). from ids parents excluded k (listed ++ (id ∷ [])) next) (omega (arith, room, length-append listed (id ∷ []))));
+          }

@@ -1,0 +1,2 @@
+-- What the contracts of the walk cite beside the rules.
+pub mod Answers

@@ -1,0 +1,38 @@
+//! The register's proved functions, as the catalogue service calls them: safe, and by value.
+
+mod linked {
+    // crates/exports/include/register.h says the same in C.
+    extern "C" {
+        pub fn register_limit(text: *const u8, length: usize) -> u64;
+        pub fn register_too_early(time: i64, last: i64) -> bool;
+        pub fn register_row_check(next: u64, first: u64, added: u64) -> super::RowCheck;
+    }
+}
+
+/// The answer to a row range.
+#[repr(C)]
+#[derive(Clone, Copy, Debug, PartialEq, Eq)]
+pub struct RowCheck {
+    /// 0 accepted, 9 first row id below next row id, 11 next row id would pass 2^64 - 1.
+    pub number: u8,
+    /// The next row id from then on; on a refusal the one that came in.
+    pub next: u64,
+}
+
+/// The limit of the metadata log, from the text of its property.
+pub fn limit(text: &[u8]) -> u64 {
+    // SAFETY: a slice's pointer and length stand for readable bytes, of which the function keeps none.
+    unsafe { linked::register_limit(text.as_ptr(), text.len()) }
+}
+
+/// Whether `time` is over a minute before `last`, both in milliseconds.
+pub fn too_early(time: i64, last: i64) -> bool {
+    // SAFETY: any two numbers may be passed.
+    unsafe { linked::register_too_early(time, last) }
+}
+
+/// Checks a snapshot's rows against the next row id.
+pub fn row_check(next: u64, first: u64, added: u64) -> RowCheck {
+    // SAFETY: any three numbers may be passed.
+    unsafe { linked::register_row_check(next, first, added) }
+}
