@@ -231,4 +231,6 @@ examples =
     ∷ (OfRun AtUpdated terms (empty 2 0 (pos 900000) []) [] gives Updated (pos 500000))
     -- `main` makes the clock the run's last update, against which 8 is checked
     ∷ (OfRun AtUpdated earlyTerms unnamed (toMain 1 ∷ AddSnapshot (snap 2 none 2 (negsuc 149999)) ∷ []) gives Updated (negsuc 149999))
+    -- next row id grows by added rows alone, so a range may start at 50 though rows 100 to 149 are given out
+    ∷ (OfRun AtNextRow terms (empty 3 0 (pos 0) []) (AddSnapshot (snapRows 1 100 50) ∷ AddSnapshot (snapRows 2 50 100) ∷ []) gives NextRow (record { 0 = 150 }))
     ∷ []
