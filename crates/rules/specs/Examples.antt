@@ -13,7 +13,7 @@ use Rattle.rules.specs.Register.{Snapshot, RowRange, Reference, NamedRef
 use Rattle.rules.specs.Register.Outcome.{Refused, Accepted}
 use Rattle.rules.specs.Register.Update.{AddSnapshot, RemoveSnapshots, SetRef, AddSchema, SetCurrentSchema, RemoveSchemas}
 use Rattle.rules.specs.Limit.{limitOf}
-use Rattle.rules.specs.Walk.{Walk, Listed, ancestors}
+use Rattle.rules.specs.Walk.{Walk, Listed, ancestors, recordAncestors}
 use Rattle.rules.specs.Run.{run}
 
 -- ---- questions and replies
@@ -30,6 +30,8 @@ pub data Question : Type 0 where
   OfLimit : List ℕ → Question
   -- ids, parents, start, excluded id
   OfWalk : List ℤ → List ℤ → ℤ → Option ℤ → Question
+  -- snapshots, start, excluded id
+  OfRecords : List Snapshot → ℤ → Option ℤ → Question
 
 pub data Reply : Type 0 where
   -- number and place
@@ -62,6 +64,7 @@ replyTo (OfRun at terms m us) = look at (run terms m us)
 replyTo (OfReplay at terms m us) = look at (rerun terms m (run terms m us))
 replyTo (OfLimit text) = Limit (limitOf text)
 replyTo (OfWalk ids parents start excluded) = Walked (ancestors ids parents start excluded)
+replyTo (OfRecords snapshots start excluded) = Walked (recordAncestors snapshots start excluded)
 
 -- ---- what the examples are made of
 
@@ -205,6 +208,8 @@ examples =
     -- P9: parents 3, 2, 1: between 3 and 1 gives 3, 2; between 3 and 3 nothing
     ∷ (OfWalk (pos 1 ∷ pos 2 ∷ pos 3 ∷ []) (negsuc 0 ∷ pos 1 ∷ pos 2 ∷ []) (pos 3) (some (pos 1)) gives Walked (Listed (pos 3 ∷ pos 2 ∷ [])))
     ∷ (OfWalk (pos 1 ∷ pos 2 ∷ pos 3 ∷ []) (negsuc 0 ∷ pos 1 ∷ pos 2 ∷ []) (pos 3) (some (pos 3)) gives Walked (Listed []))
+    -- P9 over records: the same answer
+    ∷ (OfRecords (three .snapshots) (pos 3) (some (pos 1)) gives Walked (Listed (pos 3 ∷ pos 2 ∷ [])))
     -- P10: removing unknown schema 7 logs an empty removal; its replay logs none
     ∷ (OfRun AtLog terms three (RemoveSchemas (pos 7 ∷ []) ∷ []) gives Log (RemoveSchemas [] ∷ []))
     ∷ (OfReplay AtLog terms three (RemoveSchemas (pos 7 ∷ []) ∷ []) gives Log [])
