@@ -76,7 +76,7 @@ module _ {A : Type 0} (key : A → ℤ) where
       go true q ih = rw (none-above i x l q (and-left (all (byKey ltZ key x) l) (ascending (byKey ltZ key) l) h)) (omega arith)
       go false q ih = ih
 
-  kept-count : (ids : List ℤ) (l : List A) → ascending (byKey ltZ key) l ≡ true → length (keep (λ x. isIn ids (key x)) l) ≤ length ids
+  pub kept-count : (ids : List ℤ) (l : List A) → ascending (byKey ltZ key) l ≡ true → length (keep (λ x. isIn ids (key x)) l) ≤ length ids
   kept-count [] l h = rw (kept-none l) (omega arith)
   kept-count (i ∷ ids) l h =
       omega (arith, kept-either (λ x. eqZ (key x) i) (λ x. isIn ids (key x)) l, at-most-once i l h, kept-count ids l h)

@@ -1,0 +1,24 @@
+-- The bytes of a name that count are what is read of it.
+use Prim.Native.Nat.{_-_, _≤_}
+use native.Mathlib.Omega.{arith}
+use mathlib.Core.Path.{_≡_, sym, ap}
+use lib.ListN.{length, take, replicate, length-append}
+use lib.Seq.{length-take-le}
+use Rattle.records.specs.declared.text.RefName.{RefName}
+use Rattle.rules.specs.Capacities.{refNameRoom}
+use Rattle.rules.specs.Layout.{pad, readRefName, laidRefName}
+use Rattle.rules.proofs.Relaid.{counted-take, length-counted}
+use Rattle.tables.specs.Laid.{LaidName}
+
+module _ {a : RefName} (h : LaidName a) where
+  pub name-within : a .len ≤ length (a .bytes)
+  unfolding laidRefName
+  name-within =
+      let e : length (a .bytes) ≡ length (pad refNameRoom 0 (readRefName a)) = ap (λ (t : RefName). length (t .bytes)) (sym (h .back)) in
+      omega (arith, e, length-append (readRefName a) (replicate (refNameRoom - length (readRefName a)) 0), length-counted 0 (a .bytes) (a .len))
+
+  pub name-counted : a .len ≡ length (take (a .len) (a .bytes))
+  name-counted = sym (length-take-le (a .len) (a .bytes) name-within)
+
+  pub name-read : take (a .len) (a .bytes) ≡ readRefName a
+  name-read = sym (counted-take 0 (a .bytes) (a .len) name-within)

@@ -1,0 +1,67 @@
+-- Searches through a table from the front, for any test: where the first stands that passes, and whether one passes.
+use Prim.Native.Nat.{ℕ, suc, _+_, _≤_, _<_}
+use native.Mathlib.Omega.{arith}
+use mathlib.Core.Path.{_≡_, refl, sym, ap₂, _∙_}
+use mathlib.Core.Bool.{Bool, true, false}
+use mathlib.Core.List.{List, [], _∷_, map}
+use borrow.Author.Tests.{lt-ltb}
+use borrow.Table.Steps.{cases}
+use lib.Dec.{ltb, leb·suc-suc}
+use lib.ListN.{length, getD, drop, drop-of-length-le}
+use Rattle.rules.specs.Words.{any}
+use Rattle.tables.specs.Places.{indexOf}
+use Rattle.tables.proofs.Table.{Kind, Tidy, listed, read-length, within, rest}
+
+module _ {A : Type 0} (p : A → Bool) where
+  pub index-le : (l : List A) → indexOf p l ≤ length l
+  index-le [] = omega arith
+  index-le (x ∷ l) = cases (p x) (λ t. rw t (omega arith)) (λ f. rw f (omega (arith, index-le l)))
+
+  index-below : (l : List A) → ltb (indexOf p l) (length l) ≡ any p l
+  index-below [] = refl
+  index-below (x ∷ l) = cases (p x) (λ t. rw t (lt-ltb 0 (suc (length l)) (omega arith))) (λ f. rw f (leb·suc-suc (suc (indexOf p l)) (length l) ∙ index-below l))
+
+-- none of the first i passes
+pub record Sought (K : Kind) (p : K .Plain → Bool) (t : K .Whole) (i : ℕ) : Type 0 where
+  pub fits : K .count t ≤ K .room
+  pub sofar : i ≤ K .count t
+  pub place : indexOf p (listed K t) ≡ i + indexOf p (drop i (listed K t))
+  pub found : any p (listed K t) ≡ any p (drop i (listed K t))
+
+module _ {K : Kind} {t : K .Whole} (h : Tidy K t) {p : K .Plain → Bool} where
+  pub sought-start : Sought K p t 0
+  sought-start = record { fits = within h; sofar = omega arith; place = omega arith; found = refl }
+
+  module _ {i : ℕ} (d : K .Slot) (b : i < K .count t) (s : Sought K p t i) where
+    pub sought-here : p (K .read (getD (K .items t) i d)) ≡ true → i ≡ indexOf p (listed K t)
+    sought-here e = let z : indexOf p (drop i (listed K t)) ≡ 0 = rw (rest h i d b, e) in omega (arith, s .place)
+
+    pub found-here : p (K .read (getD (K .items t) i d)) ≡ true → true ≡ any p (listed K t)
+    found-here e = sym (s .found ∙ rw (rest h i d b, e))
+
+    pub sought-on : p (K .read (getD (K .items t) i d)) ≡ false → Sought K p t (i + 1)
+    sought-on e =
+        let z : indexOf p (drop i (listed K t)) ≡ suc (indexOf p (drop (i + 1) (listed K t))) = rw (rest h i d b, e) in
+        record { fits = s .fits; sofar = omega arith; place = omega (arith, s .place); found = s .found ∙ rw (rest h i d b, e) }
+
+  module _ {i : ℕ} (b : K .count t ≤ i) (s : Sought K p t i) where
+    none-left : drop i (listed K t) ≡ []
+    none-left = drop-of-length-le (listed K t) {i = i} (omega (arith, read-length h))
+
+    pub sought-end : K .count t ≡ indexOf p (listed K t)
+    sought-end = let z : indexOf p (drop i (listed K t)) ≡ 0 = rw none-left in omega (arith, s .place, s .sofar)
+
+    pub found-end : false ≡ any p (listed K t)
+    found-end = sym (s .found ∙ rw none-left)
+
+module _ {K : Kind} {t : K .Whole} (h : Tidy K t) (p : K .Plain → Bool) {i : ℕ} (e : i ≡ indexOf p (listed K t)) where
+  pub place-within : i ≤ K .count t
+  place-within = omega (arith, e, index-le p (listed K t), read-length h)
+
+  -- one passes exactly if the first that does stands in the table
+  pub place-held : ltb i (K .count t) ≡ any p (listed K t)
+  place-held = ap₂ ltb e (sym (read-length h)) ∙ index-below p (listed K t)
+
+pub any-map : {A B : Type 0} (p : B → Bool) (f : A → B) (l : List A) → any p (map f l) ≡ any (λ x. p (f x)) l
+any-map p f [] = refl
+any-map p f (x ∷ l) = rw (any-map p f l)

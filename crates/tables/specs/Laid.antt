@@ -1,0 +1,82 @@
+-- Records that are laid out from what is read of them, within their capacities. Tables of well-formed metadata are (`relaid`, of the rules).
+use Prim.Native.Nat.{ℕ, _≤_}
+use mathlib.Core.Path.{_≡_}
+use mathlib.Core.Bool.{true}
+use mathlib.Core.List.{List}
+use lib.Dec.{leb}
+use lib.ListN.{length}
+use Rattle.records.specs.declared.text.RefName.{RefName}
+use Rattle.records.specs.declared.snapshot.Snapshot.{Snapshot}
+use Rattle.records.specs.declared.snapshot.Snapshots.{Snapshots}
+use Rattle.records.specs.declared.snapshot.SnapshotIds.{SnapshotIds}
+use Rattle.records.specs.declared.snapshot.SnapshotLog.{SnapshotLog}
+use Rattle.records.specs.declared.reference.NamedRef.{NamedRef}
+use Rattle.records.specs.declared.reference.Refs.{Refs}
+use Rattle.records.specs.declared.schema.Schema.{Schema}
+use Rattle.records.specs.declared.schema.Schemas.{Schemas}
+use Rattle.records.specs.declared.schema.SchemaIds.{SchemaIds}
+use Rattle.records.specs.declared.«sort_order».SortOrder.{SortOrder}
+use Rattle.records.specs.declared.«sort_order».SortOrders.{SortOrders}
+use Rattle.records.specs.declared.metadata.MetadataLogEntry.{MetadataLogEntry}
+use Rattle.records.specs.declared.metadata.MetadataLog.{MetadataLog}
+use Rattle.rules.specs.Words.{all}
+use Rattle.rules.specs.Capacities.{snapshotRoom, refRoom, snapshotLogRoom, metadataLogRoom, schemaRoom, schemaFieldRoom, sortOrderRoom, sortFieldRoom, removalRoom, refNameRoom, fileNameRoom}
+use Rattle.rules.specs.Layout.{readRefName, laidRefName, readSnapshot, laidSnapshot, readSnapshots, laidSnapshots, readSnapshotIds, laidSnapshotIds, readSnapshotLog, laidSnapshotLog, readRef, laidRef, readRefs, laidRefs, readSchema, laidSchema, readSchemas, laidSchemas, readSchemaIds, laidSchemaIds, readSortOrder, laidSortOrder, readSortOrders, laidSortOrders, readMetadataLogEntry, laidMetadataLogEntry, readMetadataLog, laidMetadataLog}
+use Rattle.rules.specs.Register as plain
+
+-- ---- texts
+
+pub record LaidName (t : RefName) : Type 0 where
+  pub back : laidRefName (readRefName t) ≡ t
+  pub fits : length (readRefName t) ≤ refNameRoom
+
+-- ---- records
+
+pub record LaidRef (r : NamedRef) : Type 0 where
+  pub back : laidRef (readRef r) ≡ r
+  pub fits : length (readRefName (r .name)) ≤ refNameRoom
+
+pub record LaidSchema (s : Schema) : Type 0 where
+  pub back : laidSchema (readSchema s) ≡ s
+  pub fits : length (readSchema s .fields) ≤ schemaFieldRoom
+
+pub record LaidOrder (o : SortOrder) : Type 0 where
+  pub back : laidSortOrder (readSortOrder o) ≡ o
+  pub fits : length (readSortOrder o .fields) ≤ sortFieldRoom
+
+-- ---- tables and logs
+
+pub record LaidSnapshots (t : Snapshots) : Type 0 where
+  pub back : laidSnapshots (readSnapshots t) ≡ t
+  pub fits : length (readSnapshots t) ≤ snapshotRoom
+
+pub record LaidRefs (t : Refs) : Type 0 where
+  pub back : laidRefs (readRefs t) ≡ t
+  pub fits : length (readRefs t) ≤ refRoom
+  pub names : all (λ (r : plain.NamedRef). leb (length (r .name)) refNameRoom) (readRefs t) ≡ true
+
+pub record LaidSchemas (t : Schemas) : Type 0 where
+  pub back : laidSchemas (readSchemas t) ≡ t
+  pub fits : length (readSchemas t) ≤ schemaRoom
+  pub fields : all (λ (s : plain.Schema). leb (length (s .fields)) schemaFieldRoom) (readSchemas t) ≡ true
+
+pub record LaidOrders (t : SortOrders) : Type 0 where
+  pub back : laidSortOrders (readSortOrders t) ≡ t
+  pub fits : length (readSortOrders t) ≤ sortOrderRoom
+  pub fields : all (λ (o : plain.SortOrder). leb (length (o .fields)) sortFieldRoom) (readSortOrders t) ≡ true
+
+pub record LaidSnapshotLog (t : SnapshotLog) : Type 0 where
+  pub back : laidSnapshotLog (readSnapshotLog t) ≡ t
+  pub fits : length (readSnapshotLog t) ≤ snapshotLogRoom
+
+pub record LaidMetadataLog (t : MetadataLog) : Type 0 where
+  pub back : laidMetadataLog (readMetadataLog t) ≡ t
+  pub fits : length (readMetadataLog t) ≤ metadataLogRoom
+
+pub record LaidSnapshotIds (t : SnapshotIds) : Type 0 where
+  pub back : laidSnapshotIds (readSnapshotIds t) ≡ t
+  pub fits : length (readSnapshotIds t) ≤ removalRoom
+
+pub record LaidSchemaIds (t : SchemaIds) : Type 0 where
+  pub back : laidSchemaIds (readSchemaIds t) ≡ t
+  pub fits : length (readSchemaIds t) ≤ removalRoom

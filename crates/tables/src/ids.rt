@@ -1,0 +1,127 @@
+// Ids compared and looked for in a removal's list.
+ghost use mathlib.Core.Path.{_≡_};
+ghost use Prim.Native.Nat.{_<_};
+ghost use mathlib.Core.List.{[], _∷_, _++_};
+ghost use lib.Signed.{ltZ};
+ghost use Rattle.rules.specs.Words.{eqZ, isIn};
+ghost use Rattle.rules.specs.Layout.{readSnapshotIds, laidSnapshotIds, readSchemaIds, laidSchemaIds};
+ghost use Rattle.tables.specs.Laid.{LaidSnapshotIds, LaidSchemaIds};
+use records::counters::FieldId;
+use records::counters::SchemaId;
+use records::counters::SnapshotId;
+use records::counters::SortOrderId;
+use records::schema::SchemaIds;
+use records::snapshot::SnapshotIds;
+
+pub fn same_snapshot(a: SnapshotId, b: SnapshotId) -> bool
+    ensures { λ r. ⌜ r ≡ eqZ (a .0) (b .0) ⌝ }
+{
+    let x = a.0;
+    let y = b.0;
+    x == y
+}
+
+pub fn snapshot_below(a: SnapshotId, b: SnapshotId) -> bool
+    ensures { λ r. ⌜ r ≡ ltZ (a .0) (b .0) ⌝ }
+{
+    let x = a.0;
+    let y = b.0;
+    x < y
+}
+
+pub fn same_schema(a: SchemaId, b: SchemaId) -> bool
+    ensures { λ r. ⌜ r ≡ eqZ (a .0) (b .0) ⌝ }
+{
+    let x = a.0;
+    let y = b.0;
+    x == y
+}
+
+pub fn schema_below(a: SchemaId, b: SchemaId) -> bool
+    ensures { λ r. ⌜ r ≡ ltZ (a .0) (b .0) ⌝ }
+{
+    let x = a.0;
+    let y = b.0;
+    x < y
+}
+
+pub fn same_order(a: SortOrderId, b: SortOrderId) -> bool
+    ensures { λ r. ⌜ r ≡ eqZ (a .0) (b .0) ⌝ }
+{
+    let x = a.0;
+    let y = b.0;
+    x == y
+}
+
+pub fn order_below(a: SortOrderId, b: SortOrderId) -> bool
+    ensures { λ r. ⌜ r ≡ ltZ (a .0) (b .0) ⌝ }
+{
+    let x = a.0;
+    let y = b.0;
+    x < y
+}
+
+pub fn same_field(a: FieldId, b: FieldId) -> bool
+    ensures { λ r. ⌜ r ≡ eqZ (a .0) (b .0) ⌝ }
+{
+    let x = a.0;
+    let y = b.0;
+    x == y
+}
+
+pub fn has_snapshot(ids: SnapshotIds, id: SnapshotId) -> bool
+    requires { ⌜ LaidSnapshotIds ids ⌝ }
+    ensures { λ r. ⌜ r ≡ isIn (readSnapshotIds ids) (id .0) ⌝ }
+{
+    let n = ids.count;
+    let mut i = 0;
+    while i < n {
+        let x = ids.items[i];
+        if same_snapshot(id, x) {
+            return true;
+        }
+        i += 1;
+    }
+    false
+}
+
+pub fn has_schema(ids: SchemaIds, id: SchemaId) -> bool
+    requires { ⌜ LaidSchemaIds ids ⌝ }
+    ensures { λ r. ⌜ r ≡ isIn (readSchemaIds ids) (id .0) ⌝ }
+{
+    let n = ids.count;
+    let mut i = 0;
+    while i < n {
+        let x = ids.items[i];
+        if same_schema(id, x) {
+            return true;
+        }
+        i += 1;
+    }
+    false
+}
+
+// One id more.
+pub fn push_snapshot(ids: SnapshotIds, id: SnapshotId) -> SnapshotIds
+    requires { ⌜ LaidSnapshotIds ids ⌝ }
+    requires { ⌜ ids .count < 16 ⌝ }
+    ensures { λ r. ⌜ r ≡ laidSnapshotIds (readSnapshotIds ids ++ (id .0 ∷ [])) ⌝ }
+{
+    let mut r = ids;
+    let n = r.count;
+    r.items[n] = id;
+    r.count = n + 1;
+    r
+}
+
+pub fn push_schema(ids: SchemaIds, id: SchemaId) -> SchemaIds
+    requires { ⌜ LaidSchemaIds ids ⌝ }
+    requires { ⌜ ids .count < 16 ⌝ }
+    ensures { λ r. ⌜ r ≡ laidSchemaIds (readSchemaIds ids ++ (id .0 ∷ [])) ⌝ }
+{
+    let mut r = ids;
+    let n = r.count;
+    r.items[n] = id;
+    r.count = n + 1;
+    r
+}

@@ -1,0 +1,145 @@
+// The table of refs.
+ghost use mathlib.Core.Path.{_≡_};
+ghost use Prim.Native.Nat.{_≤_, _<_};
+ghost use mathlib.Core.Bool.{true, false, not};
+ghost use mathlib.Core.List.{_∷_, _++_};
+ghost use lib.ListN.{take, drop};
+ghost use Rattle.rules.specs.Words.{put as putBy, any, keep, ascending};
+ghost use Rattle.rules.specs.Names.{nameBelow};
+ghost use Rattle.rules.specs.WellFormed.{refBelow, pointsIn};
+ghost use Rattle.rules.specs.RefUpdates.{hasName};
+ghost use Rattle.rules.specs.Layout.{readRefName, readRef, readRefs, laidRefs, readSnapshots};
+ghost use Rattle.tables.specs.Places.{indexOf};
+ghost use Rattle.tables.specs.Laid.{LaidName, LaidRef, LaidRefs, LaidSnapshots};
+use crate::names::name_is_below;
+use crate::names::same_name;
+use crate::snapshots::holds;
+use records::reference::NamedRef;
+use records::reference::Refs;
+use records::snapshot::Snapshots;
+use records::text::RefName;
+
+// Where the name stands; the count where it is not held.
+pub fn find(t: Refs, name: RefName) -> usize
+    requires { ⌜ LaidRefs t ⌝ }
+    requires { ⌜ LaidName name ⌝ }
+    ensures { λ r. ⌜ r ≡ indexOf (hasName (readRefName name)) (readRefs t) ⌝ }
+{
+    let n = t.count;
+    let mut i = 0;
+    while i < n {
+        let r = t.items[i];
+        let x = r.name;
+        if same_name(x, name) {
+            return i;
+        }
+        i += 1;
+    }
+    n
+}
+
+fn place(t: Refs, name: RefName) -> usize
+    requires { ⌜ LaidRefs t ⌝ }
+    requires { ⌜ LaidName name ⌝ }
+    ensures { λ r. ⌜ r ≡ indexOf (λ x. not (nameBelow (x .name) (readRefName name))) (readRefs t) ⌝ }
+{
+    let n = t.count;
+    let mut i = 0;
+    while i < n {
+        let r = t.items[i];
+        let x = r.name;
+        if !name_is_below(x, name) {
+            return i;
+        }
+        i += 1;
+    }
+    n
+}
+
+fn insert_at(t: Refs, at: usize, x: NamedRef) -> Refs
+    requires { ⌜ LaidRefs t ⌝ }
+    requires { ⌜ LaidRef x ⌝ }
+    requires { ⌜ t .count < 16 ⌝ }
+    requires { ⌜ at ≤ t .count ⌝ }
+    ensures { λ r. ⌜ r ≡ laidRefs (take at (readRefs t) ++ (readRef x ∷ drop at (readRefs t))) ⌝ }
+{
+    let n = t.count;
+    let mut r = t;
+    let mut carried = x;
+    let mut i = at;
+    while i <= n {
+        let next = r.items[i];
+        r.items[i] = carried;
+        carried = next;
+        i += 1;
+    }
+    r.count = n + 1;
+    r
+}
+
+// The ref in its place; it takes the place of one with its name.
+pub fn put(t: Refs, x: NamedRef) -> Refs
+    requires { ⌜ LaidRefs t ⌝ }
+    requires { ⌜ LaidRef x ⌝ }
+    requires { ⌜ (any (hasName (readRefName (x .name))) (readRefs t) ≡ false → t .count < 16) ⌝ }
+    requires { ⌜ ascending refBelow (readRefs t) ≡ true ⌝ }
+    ensures { λ r. ⌜ r ≡ laidRefs (putBy refBelow (readRef x) (readRefs t)) ⌝ }
+{
+    let n = t.count;
+    let name = x.name;
+    let at = place(t, name);
+    if at < n {
+        let y = t.items[at];
+        let other = y.name;
+        if same_name(other, name) {
+            let mut r = t;
+            r.items[at] = x;
+            return r;
+        }
+    }
+    insert_at(t, at, x)
+}
+
+pub fn without(t: Refs, name: RefName) -> Refs
+    requires { ⌜ LaidRefs t ⌝ }
+    requires { ⌜ LaidName name ⌝ }
+    ensures { λ r. ⌜ r ≡ laidRefs (keep (λ x. not (hasName (readRefName name) x)) (readRefs t)) ⌝ }
+{
+    let n = t.count;
+    let mut r = Refs::blank();
+    let mut i = 0;
+    while i < n {
+        let x = t.items[i];
+        let y = x.name;
+        i += 1;
+        if !same_name(y, name) {
+            let k = r.count;
+            r.items[k] = x;
+            r.count = k + 1;
+        }
+    }
+    r
+}
+
+// The refs to held snapshots.
+pub fn pointing(t: Refs, snapshots: Snapshots) -> Refs
+    requires { ⌜ LaidRefs t ⌝ }
+    requires { ⌜ LaidSnapshots snapshots ⌝ }
+    ensures { λ r. ⌜ r ≡ laidRefs (keep (pointsIn (readSnapshots snapshots)) (readRefs t)) ⌝ }
+{
+    let n = t.count;
+    let mut r = Refs::blank();
+    let mut i = 0;
+    while i < n {
+        let x = t.items[i];
+        let y = x.reference;
+        let id = y.snapshot_id;
+        i += 1;
+        if holds(snapshots, id) {
+            let k = r.count;
+            r.items[k] = x;
+            r.count = k + 1;
+        }
+    }
+    r
+}
