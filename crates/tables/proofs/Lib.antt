@@ -1,13 +1,13 @@
 -- What the proofs of several functions cite.
 mod Bits
-mod Table
-mod Search
-mod Push
+pub mod Table
+pub mod Search
+pub mod Push
 mod Filter
 mod Gather
 mod Shift
 mod Put
 mod Alike
 mod Highest
-mod Each
+pub mod Each
 mod Name

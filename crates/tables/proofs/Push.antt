@@ -9,7 +9,7 @@ use Rattle.rules.specs.Layout.{pad}
 use Rattle.tables.proofs.Table.{Kind, Tidy, Made, listed, slotted, read-length, laid-back}
 
 -- the next slot of a padded list
-set-pad : {A : Type 0} (room : ℕ) (b : A) (l : List A) (n : ℕ) (x : A) → length l ≡ n → n < room → set (pad room b l) n x ≡ pad room b (l ++ (x ∷ []))
+pub set-pad : {A : Type 0} (room : ℕ) (b : A) (l : List A) (n : ℕ) (x : A) → length l ≡ n → n < room → set (pad room b l) n x ≡ pad room b (l ++ (x ∷ []))
 set-pad room b l n x e h =
     let r : room - length l ≡ suc (room - (length l + 1)) = omega arith in
     rw (r, set-at l b _ x n e, append-assoc, length-append)

@@ -1,0 +1,35 @@
+-- A choice among ids, where -1 stands for the last added, as the code makes it: of a flag and a number, and of checks one after the other.
+use mathlib.Core.Path.{_≡_, refl}
+use mathlib.Core.Bool.{Bool, true, false, cond, not, _&&_}
+use mathlib.Core.Option.{Option, none, some}
+use lib.IntN.{ℤ, pos}
+use Rattle.rules.specs.Words.{eqZ, isSome, orElse, someWith, firstOf}
+use Rattle.rules.specs.Register.{lastAdded}
+use Rattle.rules.specs.SchemaUpdates.{chosen, choiceChecks}
+use Rattle.rules.specs.Layout.{given}
+use Rattle.rules.proofs.Relaid.{flag-given}
+
+-- a number laid behind its flag is read back
+pub given-back : (o : Option ℤ) → given (isSome o) (orElse o (pos 0)) ≡ o
+given-back none = refl
+given-back (some z) = refl
+
+-- it is the last added: the flag is set, and the number is the same
+pub is-last : (h : Bool) (x : ℤ) (p : ℤ → Bool) → (h && p x) ≡ someWith p (given h x)
+is-last true x p = refl
+is-last false x p = refl
+
+-- the last added one where it is asked for and there is one, else the id itself
+picked : (asked h : Bool) (x id : ℤ) → cond (asked && h) x id ≡ cond asked (orElse (given h x) id) id
+picked true true x id = refl
+picked true false x id = refl
+picked false true x id = refl
+picked false false x id = refl
+
+pub chosen-is : (h : Bool) (x id : ℤ) → cond (eqZ id lastAdded && h) x id ≡ chosen id (given h x)
+chosen-is h x id = picked (eqZ id lastAdded) h x id
+
+-- 14, then 15
+pub choice-number : (id : ℤ) (h : Bool) (x current : ℤ) (held : ℤ → Bool) (c : ℤ) → c ≡ chosen id (given h x)
+    → cond (eqZ id lastAdded && not h) 14 (cond (not (eqZ c current) && not (held c)) 15 0) ≡ firstOf (choiceChecks id (given h x) current held)
+choice-number id h x current held c e = rw (e, flag-given h x)

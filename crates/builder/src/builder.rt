@@ -1,0 +1,182 @@
+// The builder's own state beside the tables: single fields, the run's last update, the ids that it added last.
+ghost use mathlib.Core.Path.{_≡_};
+ghost use mathlib.Core.Bool.{cond};
+ghost use mathlib.Core.List.{[]};
+ghost use Prim.Native.Nat.{_≤_};
+ghost use lib.Dec.{eqb};
+ghost use lib.ListN.{length};
+ghost use Rattle.rules.specs.Words.{sameBytes};
+ghost use Rattle.rules.specs.Names.{trimmed as trimmedBytes};
+ghost use Rattle.rules.specs.Capacities.{locationRoom};
+ghost use Rattle.rules.specs.Register.{State};
+ghost use Rattle.rules.specs.SingleUpdates.{assignUuid, upgradeFormatVersionChecks, upgradeFormatVersion, setLocation};
+ghost use Rattle.rules.specs.Layout.{readLocation, laidLocation};
+ghost use Rattle.rules.specs.Kinds.{ofKind, withUuid, withFormatVersion, withLocation, assignUuidKind, upgradeFormatVersionKind, setLocationKind};
+ghost use Rattle.builder.specs.Pieces.{fresh, laidBuilder};
+ghost use Rattle.builder.specs.Answers.{Answers};
+use leaves::location::trim;
+use leaves::names::same_bytes;
+use records::counters::RowId;
+use records::counters::SchemaId;
+use records::counters::SortOrderId;
+use records::counters::Time;
+use records::metadata::SingleFields;
+use records::text::Location;
+
+const VERSION_LOWERED: u8 = 4;
+
+pub struct TableMetadataBuilder {
+    pub fields: SingleFields,
+    pub has_own: bool,
+    pub own: Time,
+    pub has_schema: bool,
+    pub last_added_schema_id: SchemaId,
+    pub has_order: bool,
+    pub last_added_order_id: SortOrderId,
+}
+
+// The number of the first failed check, whether the update took effect, and the state after it.
+pub struct Changed {
+    pub number: u8,
+    pub logs: bool,
+    pub builder: TableMetadataBuilder,
+}
+
+// The location is the trimmed one, as it is logged.
+pub struct LocationSet {
+    pub logs: bool,
+    pub location: Location,
+    pub builder: TableMetadataBuilder,
+}
+
+// One check of several: its number where it fails, else what the later ones say.
+pub fn choose(fails: bool, number: u8, later: u8) -> u8
+    ensures { λ r. ⌜ r ≡ cond fails number later ⌝ }
+{
+    if fails {
+        return number;
+    }
+    later
+}
+
+pub fn location_of(bytes: &[u8]) -> Location
+    requires { ⌜ length (now bytes) ≤ locationRoom ⌝ }
+    ensures { λ r. ⌜ r ≡ laidLocation (now (bytes .entry)) ⌝ }
+{
+    let mut r = Location::blank();
+    let mut i = 0;
+    while i < bytes.len() {
+        r.bytes[i] = bytes[i];
+        i += 1;
+    }
+    r.len = i;
+    r
+}
+
+fn trimmed(l: Location) -> Location
+    requires { ⌜ l .len ≤ locationRoom ⌝ }
+    ensures { λ r. ⌜ r ≡ laidLocation (trimmedBytes (readLocation l)) ⌝ }
+{
+    let n = l.len;
+    let b = l.bytes;
+    location_of(trim(&b[..n]))
+}
+
+fn same_location(a: Location, b: Location) -> bool
+    requires { ⌜ a .len ≤ locationRoom ⌝ }
+    requires { ⌜ b .len ≤ locationRoom ⌝ }
+    ensures { λ r. ⌜ r ≡ sameBytes (readLocation a) (readLocation b) ⌝ }
+{
+    let m = a.len;
+    let n = b.len;
+    let x = a.bytes;
+    let y = b.bytes;
+    same_bytes(&x[..m], &y[..n])
+}
+
+// Reaching version 3 sets the next row id to 0.
+fn next_row_at(version: u8, next: RowId) -> RowId
+    ensures { λ r. ⌜ r ≡ cond (eqb version 3) (record { 0 = 0 }) next ⌝ }
+{
+    if version == 3 {
+        return RowId(0);
+    }
+    next
+}
+
+impl TableMetadataBuilder {
+    pub const LAST_ADDED: i32 = -1;
+
+    pub fn new_from_metadata(previous: SingleFields) -> TableMetadataBuilder
+        ensures { λ r. ⌜ r ≡ fresh previous ⌝ }
+    {
+        TableMetadataBuilder {
+            fields: previous,
+            has_own: false,
+            own: Time(0),
+            has_schema: false,
+            last_added_schema_id: SchemaId(0),
+            has_order: false,
+            last_added_order_id: SortOrderId(0),
+        }
+    }
+
+    pub fn assign_uuid(self, uuid: [u8; 16]) -> Changed
+        ensures { λ r. ⌜ ((st : State) → self ≡ laidBuilder st → Answers [] st (assignUuid uuid st) (r .number) (r .logs) (r .builder) (withUuid uuid (ofKind assignUuidKind))) ⌝ }
+    {
+        let f = self.fields;
+        let old = f.table_uuid;
+        let same = same_bytes(&uuid, &old);
+        let mut g = f;
+        g.table_uuid = uuid;
+        let mut b = self;
+        b.fields = g;
+        Changed {
+            number: 0,
+            logs: !same,
+            builder: b,
+        }
+    }
+
+    pub fn upgrade_format_version(self, version: u8) -> Changed
+        ensures { λ r. ⌜ ((st : State) → self ≡ laidBuilder st → Answers (upgradeFormatVersionChecks version st) st (upgradeFormatVersion version st) (r .number) (r .logs) (r .builder) (withFormatVersion version (ofKind upgradeFormatVersionKind))) ⌝ }
+    {
+        let f = self.fields;
+        let old = f.format_version;
+        let next = f.next_row_id;
+        let lowered = version < old;
+        let same = version == old;
+        let number = choose(lowered, VERSION_LOWERED, 0);
+        let row = next_row_at(version, next);
+        let mut g = f;
+        g.format_version = version;
+        g.next_row_id = row;
+        let mut b = self;
+        b.fields = g;
+        Changed {
+            number,
+            logs: !same,
+            builder: b,
+        }
+    }
+
+    pub fn set_location(self, location: Location) -> LocationSet
+        requires { ⌜ self .fields .location .len ≤ locationRoom ⌝ }
+        requires { ⌜ location .len ≤ locationRoom ⌝ }
+        ensures { λ r. ⌜ ((st : State) → self ≡ laidBuilder st → Answers [] st (setLocation (readLocation location) st) 0 (r .logs) (r .builder) (withLocation (r .location) (ofKind setLocationKind))) ⌝ }
+    {
+        let f = self.fields;
+        let old = f.location;
+        let l = trimmed(location);
+        let same = same_location(l, old);
+        let mut g = f;
+        g.location = l;
+        let mut b = self;
+        b.fields = g;
+        LocationSet {
+            logs: !same,
+            location: l,
+            builder: b,
+        }
+    }
+}

@@ -1,0 +1,54 @@
+// What the change log says of snapshots: the three facts that later updates and the close read from it.
+ghost use mathlib.Core.Path.{_≡_};
+ghost use lib.IntN.{pos};
+ghost use Rattle.rules.specs.Words.{eqZ};
+ghost use Rattle.rules.specs.Capacities.{snapshotRoom};
+ghost use Rattle.rules.specs.Layout.{pad, readSnapshots};
+ghost use Rattle.tables.specs.Places.{indexOf};
+ghost use Rattle.tables.specs.Laid.{LaidSnapshots};
+ghost use Rattle.builder.specs.Pieces.{idsOf, isAbove};
+use records::capacities::SNAPSHOTS;
+use records::snapshot::Snapshots;
+
+// Where the id stands; the length where it does not.
+pub fn position(ids: &[i64], id: i64) -> usize
+    ensures { λ r. ⌜ r ≡ indexOf (λ x. eqZ x id) (now (ids .entry)) ⌝ }
+{
+    let mut i = 0;
+    while i < ids.len() {
+        if ids[i] == id {
+            return i;
+        }
+        i += 1;
+    }
+    i
+}
+
+// The ids of the snapshots, in table order, and zeros after them.
+pub fn ids_of(t: Snapshots) -> [i64; SNAPSHOTS]
+    requires { ⌜ LaidSnapshots t ⌝ }
+    ensures { λ r. ⌜ r ≡ pad snapshotRoom (pos 0) (idsOf (readSnapshots t)) ⌝ }
+{
+    let n = t.count;
+    let mut r = [0i64; SNAPSHOTS];
+    let mut i = 0;
+    while i < n {
+        let s = t.items[i];
+        let x = s.snapshot_id;
+        let k = x.0;
+        r[i] = k;
+        i += 1;
+    }
+    r
+}
+
+// The id is above every one of an ascending list.
+pub fn is_last(ids: &[i64], id: i64) -> bool
+    ensures { λ r. ⌜ r ≡ isAbove (now (ids .entry)) id ⌝ }
+{
+    let n = ids.len();
+    if n == 0 {
+        return true;
+    }
+    ids[n - 1] < id
+}

@@ -1,0 +1,2 @@
+-- What the contracts of the second entry cite beside the rules.
+pub mod Links
