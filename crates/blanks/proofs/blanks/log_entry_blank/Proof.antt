@@ -1,0 +1,12 @@
+-- The code tests what the rule tests, part by part.
+use borrow.Author.Needs.{needs}
+use Rattle.rules.specs.Blanks.{isBlankLogEntry}
+use Rattle.blanks.proofs.blanks.log_entry_blank.Statement.{statement}
+use Rattle.blanks.proofs.blanks.log_entry_blank.Tie as tie
+
+returns : tie.Need-returns
+unfolding isBlankLogEntry
+returns c = cc
+
+pub log-entry-blank-spec : {M : Type 1} → statement M
+log-entry-blank-spec = tie.close (tie.spec (λ c κs. search needs) (λ c κs. search needs) returns)

@@ -1,0 +1,12 @@
+-- The code tests what the rule tests, part by part.
+use borrow.Author.Needs.{needs}
+use Rattle.rules.specs.Blanks.{isBlankSortOrder}
+use Rattle.blanks.proofs.blanks.order_blank.Statement.{statement}
+use Rattle.blanks.proofs.blanks.order_blank.Tie as tie
+
+returns : tie.Need-returns
+unfolding isBlankSortOrder
+returns c = cc
+
+pub order-blank-spec : {M : Type 1} → statement M
+order-blank-spec = tie.close (tie.spec (λ c κs. search needs) (λ c κs. search needs) returns)

@@ -1,0 +1,12 @@
+-- The code tests what the rule tests, part by part.
+use borrow.Author.Needs.{needs}
+use Rattle.rules.specs.Blanks.{isBlankReference}
+use Rattle.blanks.proofs.blanks.reference_blank.Statement.{statement}
+use Rattle.blanks.proofs.blanks.reference_blank.Tie as tie
+
+returns : tie.Need-returns
+unfolding isBlankReference
+returns c = cc
+
+pub reference-blank-spec : {M : Type 1} → statement M
+reference-blank-spec = tie.close (tie.spec (λ c κs. search needs) (λ c κs. search needs) (λ c κs. search needs) (λ c κs. search needs) returns)

@@ -1,0 +1,12 @@
+-- The code tests what the rule tests, part by part.
+use borrow.Author.Needs.{needs}
+use Rattle.rules.specs.Blanks.{isBlankSchemaIds}
+use Rattle.blanks.proofs.blanks.schema_ids_blank.Statement.{statement}
+use Rattle.blanks.proofs.blanks.schema_ids_blank.Tie as tie
+
+returns : tie.Need-returns
+unfolding isBlankSchemaIds
+returns c = cc
+
+pub schema-ids-blank-spec : {M : Type 1} → statement M
+schema-ids-blank-spec = tie.close (tie.spec (λ c κs. search needs) returns)

@@ -1,0 +1,12 @@
+-- The code tests what the rule tests, part by part.
+use borrow.Author.Needs.{needs}
+use Rattle.rules.specs.Blanks.{isBlankSnapshotIds}
+use Rattle.blanks.proofs.blanks.snapshot_ids_blank.Statement.{statement}
+use Rattle.blanks.proofs.blanks.snapshot_ids_blank.Tie as tie
+
+returns : tie.Need-returns
+unfolding isBlankSnapshotIds
+returns c = cc
+
+pub snapshot-ids-blank-spec : {M : Type 1} → statement M
+snapshot-ids-blank-spec = tie.close (tie.spec (λ c κs. search needs) returns)

@@ -1,0 +1,12 @@
+-- The code tests what the rule tests, part by part.
+use borrow.Author.Needs.{needs}
+use Rattle.rules.specs.Blanks.{isTidySnapshot}
+use Rattle.blanks.proofs.blanks.snapshot_tidy.Statement.{statement}
+use Rattle.blanks.proofs.blanks.snapshot_tidy.Tie as tie
+
+returns : tie.Need-returns
+unfolding isTidySnapshot
+returns c = cc
+
+pub snapshot-tidy-spec : {M : Type 1} → statement M
+snapshot-tidy-spec = tie.close (tie.spec (λ c κs. search needs) returns)

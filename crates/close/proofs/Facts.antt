@@ -1,0 +1,118 @@
+-- The close knows a change log by three facts: what it says of them is what the rules say of the log.
+use mathlib.Core.Path.{_≡_, refl, sym, ap, _∙_}
+use mathlib.Core.Bool.{Bool, true, false, cond, not, _&&_, _||_}
+use mathlib.Core.List.{List, [], _∷_, _++_}
+use mathlib.Core.Option.{Option, none, some}
+use borrow.Table.Steps.{cases}
+use lib.Dec.{ltb}
+use lib.IntN.{ℤ}
+use lib.ListN.{length}
+use Rattle.records.specs.declared.metadata.SingleFields.{SingleFields}
+use Rattle.records.specs.declared.snapshot.SnapshotLog.{SnapshotLog}
+use Rattle.rules.specs.Words.{ifSome, someWith, any, keep, first, isIn, isEmpty, afterLast}
+use Rattle.rules.specs.Register.{LogEntry, Schema, SortField, SortOrder, Metadata, Update, Terms}
+use Rattle.rules.specs.Register.Update.{AssignUuid, UpgradeFormatVersion, SetLocation, AddSnapshot, SetBranchSnapshot, RemoveSnapshots, SetRef, RemoveRef, AddSchema, SetCurrentSchema, RemoveSchemas, AddSortOrder, SetDefaultSortOrder, NotFormed}
+use Rattle.rules.specs.Capacities.{metadataLogRoom}
+use Rattle.rules.specs.Replies.{tooManyFiles}
+use Rattle.rules.specs.WellFormed.{hasSchema, hasOrder, fieldIds}
+use Rattle.rules.specs.ChangeLog.{logsAddition, logsMain, logsRemoval}
+use Rattle.rules.specs.Layout.{readFields, readSnapshotLog, laidSnapshotLog}
+use Rattle.rules.specs.Close.{intermediates, isRebuilt, isMissing, isIntermediate, rebuilt, history, endsAt, endsElsewhere, isDefaultUnfit, staying, closeChecks}
+use Rattle.rules.proofs.Reread.{reread-snapshot-log}
+use Rattle.close.specs.Facts.{additions, intermediatesOf, isGone, isStaying, Told}
+use Rattle.close.specs.Answers.{HistoryOf, endsOff, numberChecks}
+use Rattle.close.specs.declared.history.History.{History}
+use Rattle.close.proofs.Ids.{eqZ-turned, in-held}
+use Rattle.close.proofs.Scans.{none-after, keep-others}
+
+-- the log adds a snapshot exactly if it is among its additions
+pub adds-in : (log : List Update) (id : ℤ) → logsAddition log id ≡ isIn (additions log) id
+unfolding logsAddition additions
+adds-in [] id = refl
+adds-in (AssignUuid uuid ∷ log) id = adds-in log id
+adds-in (UpgradeFormatVersion v ∷ log) id = adds-in log id
+adds-in (SetLocation location ∷ log) id = adds-in log id
+adds-in (AddSnapshot s ∷ log) id = rw (eqZ-turned (s .id) id, adds-in log id)
+adds-in (SetBranchSnapshot name s ∷ log) id = adds-in log id
+adds-in (RemoveSnapshots ids ∷ log) id = adds-in log id
+adds-in (SetRef name r ∷ log) id = adds-in log id
+adds-in (RemoveRef name ∷ log) id = adds-in log id
+adds-in (AddSchema s ∷ log) id = adds-in log id
+adds-in (SetCurrentSchema c ∷ log) id = adds-in log id
+adds-in (RemoveSchemas ids ∷ log) id = adds-in log id
+adds-in (AddSortOrder o ∷ log) id = adds-in log id
+adds-in (SetDefaultSortOrder c ∷ log) id = adds-in log id
+adds-in (NotFormed counts ∷ log) id = adds-in log id
+
+pub intermediates-of : (log : List Update) (current : Option ℤ) → intermediatesOf (additions log) (logsMain log) current ≡ intermediates log current
+unfolding intermediatesOf intermediates
+intermediates-of log current = simp adds-in
+
+-- with a removal too, each entry that is kept is tested for both: after the last missing one none is missing
+rebuilt-once : (log : List Update) (m : Metadata) → keep (λ e. not (isMissing m e) && not (isIntermediate log m e)) (cond (logsRemoval log) (afterLast (isMissing m) (m .snapshotLog)) (m .snapshotLog)) ≡ rebuilt log m
+unfolding rebuilt
+rebuilt-once log m =
+    cases (logsRemoval log)
+    (λ t. rw t (keep-others (isMissing m) (λ e. not (isIntermediate log m e)) (afterLast (isMissing m) (m .snapshotLog)) (none-after (isMissing m) (m .snapshotLog))))
+    (λ f. rw f)
+
+module _ {l : List Update} {p : Metadata} {log : SnapshotLog} {ids : List ℤ} {f : SingleFields} {added mains : List ℤ} {removal : Bool} (t : Told l p log ids f added mains removal) where
+  told-intermediates : intermediatesOf added mains (readFields f .current) ≡ intermediates l (p .fields .current)
+  told-intermediates = rw (t .adds, t .sets, t .current) (intermediates-of l (p .fields .current))
+
+  abbrev isChanged : Bool
+  isChanged = removal || not (isEmpty (intermediatesOf added mains (readFields f .current)))
+
+  told-changed : isChanged ≡ isRebuilt l p
+  told-changed = rw (t .removes, told-intermediates)
+
+  told-gone : isGone ids ≡ isMissing p
+  told-gone = rw (t .held) (λ i e. not (in-held (p .snapshots) (e .snapshot) i))
+
+  abbrev kept : List LogEntry
+  kept = keep (isStaying ids added mains (readFields f .current)) (cond removal (afterLast (isGone ids) (readSnapshotLog log)) (readSnapshotLog log))
+
+  told-kept : kept ≡ rebuilt l p
+  told-kept =
+      (λ i. keep (λ e. not (told-gone i e) && not (isIn (told-intermediates i) (e .snapshot))) (cond (t .removes i) (afterLast (told-gone i) (t .history i)) (t .history i)))
+      ∙ rebuilt-once l p
+
+  history-is : {b : Bool} → isChanged ≡ b → cond b (rebuilt l p) (p .snapshotLog) ≡ history l p
+  history-is e = ap (λ (b : Bool). cond b (rebuilt l p) (p .snapshotLog)) (sym e ∙ told-changed)
+
+  pub is-rebuilt : (r : SnapshotLog) → isChanged ≡ true → r ≡ laidSnapshotLog kept → HistoryOf l p (record { rebuilt = true; log = r })
+  is-rebuilt r e k = record { rebuilt = sym e ∙ told-changed; log = k ∙ ap laidSnapshotLog (told-kept ∙ history-is e) }
+
+  pub is-left : isChanged ≡ false → laidSnapshotLog (readSnapshotLog log) ≡ log → HistoryOf l p (record { rebuilt = false; log = log })
+  is-left e k = record { rebuilt = sym e ∙ told-changed; log = sym k ∙ ap laidSnapshotLog (t .history ∙ history-is e) }
+
+-- ---- the checks
+
+-- where the log is rebuilt the history is the rebuilt log
+ends-history : (l : List Update) (p : Metadata) → endsOff (isRebuilt l p) (history l p) (p .fields .current) ≡ endsElsewhere l p
+unfolding endsElsewhere
+ends-history l p = by-rebuilt (isRebuilt l p) (rebuilt l p) (p .snapshotLog) (p .fields .current)
+  where
+    by-rebuilt : (b : Bool) (x y : List LogEntry) (o : Option ℤ) → endsOff b (cond b x y) o ≡ b && not (ifSome (λ id. endsAt id x) o)
+    by-rebuilt true x y o = refl
+    by-rebuilt false x y o = refl
+
+pub ends-is : {l : List Update} {p : Metadata} {h : History} (f : SingleFields) → HistoryOf l p h → readFields f ≡ p .fields
+    → endsOff (h .rebuilt) (readSnapshotLog (h .log)) (readFields f .current) ≡ endsElsewhere l p
+ends-is {l} {p} f k e =
+    (λ i. endsOff (k .rebuilt i) ((ap readSnapshotLog (k .log) ∙ reread-snapshot-log (history l p)) i) (e i .current))
+    ∙ ends-history l p
+
+-- the schema and the order that are found
+pub unfit-is : (p : Metadata) (s : Schema) (o : SortOrder) → first (hasSchema (p .fields .currentSchema)) (p .schemas) ≡ some s → first (hasOrder (p .fields .defaultOrder)) (p .orders) ≡ some o
+    → any (λ (f : SortField). not (isIn (fieldIds s) (f .source))) (o .fields) ≡ isDefaultUnfit p
+unfolding isDefaultUnfit
+unfit-is p s o e k = sym (λ i. someWith (λ (o : SortOrder). any (λ (f : SortField). not (isIn (ids (e i)) (f .source))) (o .fields)) (k i))
+  where
+    ids : Option Schema → List ℤ
+    ids o = elim o [ none ↦ [] | some s ↦ fieldIds s ]
+
+-- the close's checks are these and the last
+pub all-checks : (terms : Terms) (l : List Update) (p : Metadata) → closeChecks terms l p ≡ numberChecks l p ++ ((ltb metadataLogRoom (length (staying terms p)), tooManyFiles) ∷ [])
+unfolding closeChecks
+all-checks terms l p = refl

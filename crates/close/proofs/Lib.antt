@@ -1,0 +1,8 @@
+-- What the proofs of several functions cite.
+mod Tests
+mod Ids
+mod Scans
+mod Parts
+mod Logs
+mod Join
+pub mod Facts

@@ -1,0 +1,109 @@
+// The close of a run: what becomes of the snapshot log and of the metadata log, the checks 20 to 22, the last update.
+// Document 01 decides, as the crate `rules` writes it in Close.
+ghost use mathlib.Core.Path.{_≡_};
+ghost use mathlib.Core.Bool.{true};
+ghost use mathlib.Core.List.{List};
+ghost use Rattle.rules.specs.Words.{any, firstOf, orElse};
+ghost use Rattle.rules.specs.Register.{Metadata, Update, State};
+ghost use Rattle.rules.specs.WellFormed.{hasSchema, hasOrder};
+ghost use Rattle.rules.specs.Layout.{readFields, readSnapshotLog, readSchemas, readSortOrders};
+ghost use Rattle.rules.specs.Close.{isDefaultUnfit};
+ghost use Rattle.tables.specs.Laid.{LaidSnapshotLog, LaidRefs, LaidSchemas, LaidOrders};
+ghost use Rattle.builder.specs.Pieces.{laidBuilder};
+ghost use Rattle.close.specs.Answers.{HistoryOf, Handed, endsOff, numberChecks};
+use builder::builder::TableMetadataBuilder;
+use history::History;
+use records::counters::Time;
+use records::metadata::SingleFields;
+use records::reference::Refs;
+use records::schema::Schemas;
+use records::sort_order::SortOrders;
+use tables::ids::same_snapshot;
+
+pub mod files;
+pub mod history;
+
+const DEFAULT_ORDER_UNFIT: u8 = 20;
+
+const LOG_ENDS_ELSEWHERE: u8 = 21;
+
+const MAIN_DISAGREES: u8 = 22;
+
+// The default order names a field that is not in the current schema.
+fn is_default_unfit(f: SingleFields, schemas: Schemas, orders: SortOrders) -> bool
+    requires { ⌜ LaidSchemas schemas ⌝ }
+    requires { ⌜ LaidOrders orders ⌝ }
+    requires { ⌜ any (hasSchema (f .«current_schema_id» .0)) (readSchemas schemas) ≡ true ⌝ }
+    requires { ⌜ any (hasOrder (f .«default_sort_order_id» .0)) (readSortOrders orders) ≡ true ⌝ }
+    ensures { λ r. ⌜ ((p : Metadata) → readFields f ≡ p .fields → readSchemas schemas ≡ p .schemas → readSortOrders orders ≡ p .orders → r ≡ isDefaultUnfit p) ⌝ }
+{
+    let x = f.current_schema_id;
+    let y = f.default_sort_order_id;
+    let i = tables::schemas::find(schemas, x);
+    let j = tables::sort_orders::find(orders, y);
+    let s = schemas.items[i];
+    let o = orders.items[j];
+    tables::sort_orders::is_unfit(o, s)
+}
+
+// The log was rebuilt and does not end at the current snapshot.
+fn ends_elsewhere(h: History, f: SingleFields) -> bool
+    requires { ⌜ LaidSnapshotLog (h .log) ⌝ }
+    ensures { λ r. ⌜ r ≡ endsOff (h .rebuilt) (readSnapshotLog (h .log)) (readFields f .current) ⌝ }
+{
+    let rebuilt = h.rebuilt;
+    let log = h.log;
+    let n = log.count;
+    let set = f.has_current;
+    let current = f.current_snapshot_id;
+    if !rebuilt {
+        return false;
+    }
+    if !set {
+        return false;
+    }
+    if n == 0 {
+        return true;
+    }
+    let e = log.items[n - 1];
+    let id = e.snapshot_id;
+    !same_snapshot(id, current)
+}
+
+// 20, 21 or 22, the first that fails; 0 where none does.
+pub fn close_number(
+    h: History,
+    f: SingleFields,
+    refs: Refs,
+    schemas: Schemas,
+    orders: SortOrders,
+) -> u8
+    requires { ⌜ LaidSnapshotLog (h .log) ⌝ }
+    requires { ⌜ LaidRefs refs ⌝ }
+    requires { ⌜ LaidSchemas schemas ⌝ }
+    requires { ⌜ LaidOrders orders ⌝ }
+    requires { ⌜ (any (hasSchema (f .«current_schema_id» .0)) (readSchemas schemas) ≡ true) × (any (hasOrder (f .«default_sort_order_id» .0)) (readSortOrders orders) ≡ true) ⌝ }
+    ensures { λ r. ⌜ ((l : List Update) (p : Metadata) → HistoryOf l p h → Handed p f refs schemas orders → r ≡ firstOf (numberChecks l p)) ⌝ }
+{
+    if is_default_unfit(f, schemas, orders) {
+        return DEFAULT_ORDER_UNFIT;
+    }
+    if ends_elsewhere(h, f) {
+        return LOG_ENDS_ELSEWHERE;
+    }
+    if !formed::metadata::main_agrees(f, refs) {
+        return MAIN_DISAGREES;
+    }
+    0
+}
+
+pub fn last_update(b: TableMetadataBuilder, clock: Time) -> Time
+    ensures { λ r. ⌜ ((st : State) → b ≡ laidBuilder st → r .0 ≡ orElse (st .own) (clock .0)) ⌝ }
+{
+    let h = b.has_own;
+    let o = b.own;
+    if h {
+        return o;
+    }
+    clock
+}

@@ -1,0 +1,88 @@
+-- The slots of a table, scanned from the first to the last: the counted ones are tidy and well formed, and the rest are blank.
+use Prim.Native.Nat.{ℕ, zero, suc, _+_, _-_, _≤_, _<_}
+use native.Mathlib.Omega.{arith}
+use mathlib.Core.Path.{_≡_, refl, sym, ap, _∙_}
+use mathlib.Core.Bool.{Bool, true, cond, _&&_, and-assoc, and-true, and-false}
+use mathlib.Core.List.{List, [], _∷_, map}
+use borrow.Author.Tests.{ltb-true, ltb-false, leb-true, leb-false, eq-eqb}
+use borrow.Table.Steps.{cases}
+use lib.Dec.{ltb, leb}
+use lib.ListN.{length, getD, take, drop}
+use Rattle.rules.specs.Words.{all}
+use Rattle.rules.specs.Layout.{counted}
+use Rattle.rules.specs.Blanks.{restBlank, tidySlots}
+use Rattle.blanks.proofs.Scans.{Scanned, scan-start, scan-on, scan-end}
+use Rattle.formed.proofs.Bools.{interchange, last-first}
+use Rattle.formed.proofs.Counted.{too-many, few-enough, all-counted}
+
+module _ {A : Type 0} (used unused : A → Bool) where
+  -- the first n pass the one test, and the rest the other
+  abbrev filled : ℕ → List A → Bool
+  filled n [] = true
+  filled zero (x ∷ l) = unused x && filled zero l
+  filled (suc n) (x ∷ l) = used x && filled n l
+
+  filled-none : (l : List A) → filled 0 l ≡ all unused l
+  filled-none [] = refl
+  filled-none (x ∷ l) = ap (λ (z : Bool). unused x && z) (filled-none l)
+
+  filled-parts : (n : ℕ) (l : List A) → filled n l ≡ (all used (take n l) && all unused (drop n l))
+  filled-parts zero l = filled-none l
+  filled-parts (suc n) [] = refl
+  filled-parts (suc n) (x ∷ l) = ap (λ (z : Bool). used x && z) (filled-parts n l) ∙ sym (and-assoc (used x) _ _)
+
+  -- from an index on
+  abbrev slotsFrom : ℕ → ℕ → List A → Bool
+  slotsFrom n i l = filled (n - i) l
+
+  slot-step : (n i : ℕ) (x : A) (l : List A) → slotsFrom n i (x ∷ l) ≡ (cond (ltb i n) (used x) (unused x) && slotsFrom n (i + 1) l)
+  slot-step n i x l =
+      cases (ltb i n)
+      (λ t. let e : n - i ≡ suc (n - (i + 1)) = omega (arith, ltb-true i n t) in rw (t, e))
+      (λ f. let e : n - i ≡ 0 = omega (arith, ltb-false i n f) in let k : n - (i + 1) ≡ 0 = omega (arith, ltb-false i n f) in rw (f, e, k))
+
+module _ {A : Type 0} (p q : A → Bool) where
+  all-both : (l : List A) → all (λ (x : A). p x && q x) l ≡ (all p l && all q l)
+  all-both [] = refl
+  all-both (x ∷ l) = ap (λ (z : Bool). (p x && q x) && z) (all-both l) ∙ interchange (p x) (q x) (all p l) (all q l)
+
+all-true : {A : Type 0} (l : List A) → all (λ (x : A). true) l ≡ true
+all-true [] = refl
+all-true (x ∷ l) = all-true l
+
+-- ---- tables
+
+-- ok is what was found up to i, and that the count is within the capacity
+pub record Filled {A B : Type 0} (rd : A → B) (tidy : A → Bool) (formed : B → Bool) (blank : A → Bool) (room n : ℕ) (items : List A) (i : ℕ) (ok : Bool) : Type 0 where
+  pub slots : length items ≡ room
+  pub upto : Scanned (slotsFrom (λ (x : A). tidy x && formed (rd x)) blank n) items 0 i (leb n room) ok
+
+module _ {A B : Type 0} {rd : A → B} {tidy : A → Bool} {formed : B → Bool} {blank : A → Bool} {room n : ℕ} {items : List A} where
+  pub filled-start : length items ≡ room → Filled rd tidy formed blank room n items 0 (leb n room)
+  filled-start e = record { slots = e; upto = scan-start }
+
+  module _ {i : ℕ} {ok : Bool} (s : Filled rd tidy formed blank room n items i ok) where
+    pub filled-on : (d : A) {z : Bool} → i < room → z ≡ cond (ltb i n) (tidy (getD items i d) && formed (rd (getD items i d))) (blank (getD items i d)) → Filled rd tidy formed blank room n items (i + 1) (ok && z)
+    filled-on d {z} h e =
+        let x : A = getD items i d in
+        let l : List A = drop (i + 1) items in
+        record {
+          slots = s .slots;
+          upto = scan-on (s .upto) d z (omega (arith, s .slots)) (slot-step (λ (y : A). tidy y && formed (rd y)) blank n i x l ∙ ap (λ (b : Bool). b && slotsFrom (λ (y : A). tidy y && formed (rd y)) blank n (i + 1) l) (sym e));
+        }
+
+    pub filled-end : (b : A) → room ≤ i → ok ≡ (tidySlots room tidy blank items n && (leb (length (map rd (counted b items n))) room && all formed (map rd (counted b items n))))
+    filled-end b h =
+        let e : n - 0 ≡ n = omega arith in
+        let u : A → Bool = λ y. tidy y && formed (rd y) in
+        let parts : filled u blank n items ≡ ((all tidy (take n items) && all (λ (y : A). formed (rd y)) (take n items)) && all blank (drop n items)) = filled-parts u blank n items ∙ ap (λ (z : Bool). z && all blank (drop n items)) (all-both tidy (λ (y : A). formed (rd y)) (take n items)) in
+        scan-end (s .upto) (omega (arith, s .slots)) refl
+        ∙ rw e
+        (cases (leb n room)
+        (λ t. let k : n ≤ room = leb-true n room t in
+        rw (t, parts, eq-eqb (length items) room (s .slots), few-enough rd b items n room k, all-counted rd b items n formed (omega (arith, s .slots))) (last-first (all tidy (take n items)) (all (λ (y : A). formed (rd y)) (take n items)) (all blank (drop n items))))
+        (λ f. rw (f, too-many rd b items n room (leb-false n room f)) (sym (and-false (tidySlots room tidy blank items n)))))
+
+-- a table whose records have nothing unused in them
+pub all-tidy : {A : Type 0} (room : ℕ) (blank : A → Bool) (items : List A) (n : ℕ) → tidySlots room (λ (x : A). true) blank items n ≡ restBlank room blank items n
+all-tidy room blank items n = rw (all-true (take n items)) (and-true (restBlank room blank items n))

@@ -1,0 +1,119 @@
+-- Tables that were found tidy and well formed are laid out from what is read of them, as the functions on tables ask.
+use Prim.Native.Nat.{ℕ, _≤_, _<_}
+use native.Mathlib.Omega.{arith}
+use mathlib.Core.Path.{_≡_, sym, ap, _∙_}
+use mathlib.Core.Bool.{Bool, true, _&&_}
+use mathlib.Core.List.{List, [], _∷_, map}
+use borrow.Author.Tests.{leb-true}
+use lib.Dec.{leb}
+use lib.ListN.{length, getD, length-append, length-replicate, length-map, List·getD-append, List·getD-map}
+use lib.Seq.{drop-cons}
+use lib.Signed.{nonNeg}
+use Rattle.records.specs.Blanks.{noRef}
+use Rattle.records.specs.declared.snapshot.Snapshots.{Snapshots}
+use Rattle.records.specs.declared.reference.NamedRef.{NamedRef}
+use Rattle.records.specs.declared.reference.Refs.{Refs}
+use Rattle.records.specs.declared.schema.Schemas.{Schemas}
+use Rattle.records.specs.declared.«sort_order».SortOrders.{SortOrders}
+use Rattle.rules.specs.Words.{all, ascending, unequal}
+use Rattle.rules.specs.Register as plain
+use Rattle.rules.specs.Capacities.{snapshotRoom, refRoom, refNameRoom, schemaRoom, schemaFieldRoom, sortOrderRoom, sortFieldRoom}
+use Rattle.rules.specs.WellFormed.{atLeastOne, fieldIds, refNameFormed, snapshotFormed, refFormed, schemaFormed, sortFieldFormed, offeredOrderFormed, orderFormed, snapshotBelow, schemaBelow, orderBelow, snapshotsFormed, refsFormed, schemasFormed, ordersFormed}
+use Rattle.rules.specs.Blanks.{isTidySnapshots, isBlankRef, isTidyRef, isTidyRefs, isTidySchemas, isTidySortOrders}
+use Rattle.rules.specs.Layout.{pad, readRefName, readSnapshots, readRef, laidRef, readRefs, laidRefs, readSchemas, readSortOrders}
+use Rattle.rules.proofs.Checks.{and-left, and-right, parts}
+use Rattle.rules.proofs.Tables.{all-then, all-drop}
+use Rattle.rules.proofs.Relaid.{table-back, blank-ref, back-snapshots, back-ref, back-schemas, back-sort-orders}
+use Rattle.tables.specs.Laid.{LaidName, LaidSnapshots, LaidRefs, LaidSchemas, LaidOrders}
+use Rattle.formed.proofs.Counted.{read-length, read-at}
+
+pub laid-snapshots : (t : Snapshots) → isTidySnapshots t ≡ true → snapshotsFormed (readSnapshots t) ≡ true → LaidSnapshots t
+unfolding snapshotsFormed
+laid-snapshots t e f =
+    let k = parts (leb (length (readSnapshots t)) snapshotRoom) (all snapshotFormed (readSnapshots t) ∷ ascending snapshotBelow (readSnapshots t) ∷ []) f in
+    record { back = back-snapshots t e f; fits = leb-true _ _ (k .0) }
+
+-- the order of refs is not asked: it is tested on names that are laid out
+pub laid-refs : (t : Refs) → isTidyRefs t ≡ true → (leb (length (readRefs t)) refRoom && all refFormed (readRefs t)) ≡ true → LaidRefs t
+unfolding isTidyRefs laidRefs
+laid-refs t e f =
+    let k : leb (length (readRefs t)) refRoom ≡ true = and-left (leb (length (readRefs t)) refRoom) _ f in
+    let a : all refFormed (readRefs t) ≡ true = and-right (leb (length (readRefs t)) refRoom) _ f in
+    let r = table-back noRef isBlankRef blank-ref readRef laidRef isTidyRef refFormed back-ref refRoom (t .count) (t .items) e k a in
+    record {
+      back = λ i. record { items = r .0 i; count = r .1 i };
+      fits = leb-true _ _ k;
+      names = all-then refFormed (λ (x : plain.NamedRef). leb (length (x .name)) refNameRoom) (λ x h. and-left (refNameFormed (x .name)) _ h) (readRefs t) a;
+    }
+
+pub laid-formed-refs : (t : Refs) → isTidyRefs t ≡ true → refsFormed (readRefs t) ≡ true → LaidRefs t
+unfolding refsFormed
+laid-formed-refs t e f = laid-refs t e (and-left (leb (length (readRefs t)) refRoom && all refFormed (readRefs t)) _ f)
+
+-- ---- the names of refs that are laid out
+
+pub refs-fit : {t : Refs} → LaidRefs t → t .count ≤ refRoom
+refs-fit {t} h = omega (arith, h .fits, read-length readRef noRef (t .items) (t .count))
+
+any-default : {A : Type 0} (l : List A) (i : ℕ) (d e : A) → i < length l → getD l i d ≡ getD l i e
+any-default l i d e h = cc (drop-cons l i d h, drop-cons l i e h)
+
+all-at : {A : Type 0} (p : A → Bool) (l : List A) (i : ℕ) (d : A) → all p l ≡ true → i < length l → p (getD l i d) ≡ true
+all-at p l i d e h = and-left (p (getD l i d)) _ (rw (drop-cons l i d h) at (all-drop p i l e))
+
+module _ {t : Refs} (h : LaidRefs t) where
+  refs-slots : length (t .items) ≡ refRoom
+  unfolding laidRefs
+  refs-slots =
+      let l : List NamedRef = map laidRef (readRefs t) in
+      let m : length l ≡ length (readRefs t) = length-map (readRefs t) laidRef in
+      let e : length (pad refRoom noRef l) ≡ refRoom = simp (length-append, length-replicate) (omega (arith, h .fits)) in
+      ap (λ (u : Refs). length (u .items)) (sym (h .back)) ∙ e
+
+  module _ (i : ℕ) (d : NamedRef) (b : i < t .count) where
+    abbrev pub here : NamedRef
+    here = getD (t .items) i d
+
+    below : i < length (readRefs t)
+    below = omega (arith, read-length readRef noRef (t .items) (t .count))
+
+    pub read-here : getD (readRefs t) i (readRef d) ≡ readRef here
+    read-here = read-at readRef noRef (t .items) (t .count) i d b (omega (arith, refs-slots, refs-fit h))
+
+    laid-here : laidRef (readRef here) ≡ here
+    unfolding laidRefs
+    laid-here =
+        let l : List NamedRef = map laidRef (readRefs t) in
+        let o : NamedRef = laidRef (readRef d) in
+        let w : i < length l = rw (length-map (readRefs t) laidRef) below in
+        let m : getD (t .items) i o ≡ getD l i o = ap (λ (u : Refs). getD (u .items) i o) (sym (h .back)) ∙ List·getD-append l _ o i w in
+        sym (any-default (t .items) i d o (omega (arith, refs-slots, refs-fit h)) ∙ m ∙ List·getD-map laidRef (readRefs t) i (readRef d) ∙ ap laidRef read-here)
+
+    pub laid-name : LaidName (here .name)
+    unfolding laidRef
+    laid-name =
+        let p : plain.NamedRef → Bool = λ x. leb (length (x .name)) refNameRoom in
+        let f : leb (length (readRefName (here .name))) refNameRoom ≡ true = ap p (sym read-here) ∙ all-at p (readRefs t) i (readRef d) (h .names) below in
+        record { back = ap (λ (x : NamedRef). x .name) laid-here; fits = leb-true _ _ f }
+
+-- ---- the other tables
+
+pub laid-schemas : (t : Schemas) → isTidySchemas t ≡ true → schemasFormed (readSchemas t) ≡ true → LaidSchemas t
+unfolding schemasFormed
+laid-schemas t e f =
+    let k = parts (leb (length (readSchemas t)) schemaRoom) (all schemaFormed (readSchemas t) ∷ ascending schemaBelow (readSchemas t) ∷ []) f in
+    record {
+      back = back-schemas t e f;
+      fits = leb-true _ _ (k .0);
+      fields = all-then schemaFormed (λ (s : plain.Schema). leb (length (s .fields)) schemaFieldRoom) (λ s h. parts (nonNeg (s .id)) (leb (length (s .fields)) schemaFieldRoom ∷ all atLeastOne (fieldIds s) ∷ unequal (fieldIds s) ∷ []) h .1 .0) (readSchemas t) (k .1 .0);
+    }
+
+pub laid-orders : (t : SortOrders) → isTidySortOrders t ≡ true → ordersFormed (readSortOrders t) ≡ true → LaidOrders t
+unfolding ordersFormed
+laid-orders t e f =
+    let k = parts (leb (length (readSortOrders t)) sortOrderRoom) (all orderFormed (readSortOrders t) ∷ ascending orderBelow (readSortOrders t) ∷ []) f in
+    record {
+      back = back-sort-orders t e f;
+      fits = leb-true _ _ (k .0);
+      fields = all-then orderFormed (λ (o : plain.SortOrder). leb (length (o .fields)) sortFieldRoom) (λ o h. parts (nonNeg (o .id)) (leb (length (o .fields)) sortFieldRoom ∷ all sortFieldFormed (o .fields) ∷ []) (and-left (offeredOrderFormed o) _ h) .1 .0) (readSortOrders t) (k .1 .0);
+    }

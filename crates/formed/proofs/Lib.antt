@@ -1,0 +1,10 @@
+-- What the proofs of several functions cite.
+mod Bools
+mod Counted
+mod Filled
+mod Ascends
+mod Fields
+mod Used
+mod Laid
+mod Main
+mod Whole

@@ -1,0 +1,118 @@
+-- What an update's kind uses is tidy, and what it does not use is blank: a blank record is tidy.
+use Prim.Native.Nat.{ℕ}
+use mathlib.Core.Path.{_≡_, refl, sym, _∙_}
+use mathlib.Core.Bool.{Bool, true, false, _&&_, _||_, and-true, or-false}
+use mathlib.Core.List.{List, [], _∷_}
+use borrow.Author.Tests.{eqb-true}
+use lib.Dec.{eqb}
+use Rattle.records.specs.declared.snapshot.Snapshot.{Snapshot}
+use Rattle.records.specs.declared.snapshot.SnapshotIds.{SnapshotIds}
+use Rattle.records.specs.declared.reference.SnapshotReference.{SnapshotReference}
+use Rattle.records.specs.declared.schema.Schema.{Schema}
+use Rattle.records.specs.declared.schema.SchemaIds.{SchemaIds}
+use Rattle.records.specs.declared.«sort_order».SortOrder.{SortOrder}
+use Rattle.records.specs.declared.update.TableUpdate.{TableUpdate}
+use Rattle.rules.specs.Words.{all, any}
+use Rattle.rules.specs.Kinds.{assignUuidKind, upgradeFormatVersionKind, setLocationKind, addSnapshotKind, setBranchSnapshotKind, removeSnapshotsKind, setRefKind, removeRefKind, addSchemaKind, setCurrentSchemaKind, removeSchemasKind, addSortOrderKind, setDefaultSortOrderKind, usedBy, isUnusedBlank, isUsedTidy, isTidyUpdate}
+use Rattle.rules.specs.Blanks.{isZero, isZeroZ, restBlank, noneUsed, isTidyLocation, isBlankLocation, isTidyRefName, isBlankRefName, isBlankSnapshotId, isBlankSchemaField, isBlankSchemaId, isBlankSortField, isTidySnapshot, isBlankSnapshot, isTidySnapshotIds, isBlankSnapshotIds, isTidyReference, isBlankReference, isTidySchema, isBlankSchema, isTidySchemaIds, isBlankSchemaIds, isTidySortOrder, isBlankSortOrder}
+use Rattle.rules.specs.Capacities.{removalRoom, schemaFieldRoom, sortFieldRoom}
+use Rattle.rules.proofs.Checks.{and-left, and-right}
+use Rattle.rules.proofs.Relaid.{blank-snapshot, blank-reference}
+use Rattle.formed.proofs.Bools.{apart}
+
+-- ---- used or not
+
+pub when-used : (used blank tidy : Bool) → used ≡ true → tidy ≡ ((used || blank) && tidy)
+when-used used blank tidy e = rw e
+
+pub when-unused : (used blank tidy : Bool) → used ≡ false → (blank ≡ true → tidy ≡ true) → blank ≡ ((used || blank) && tidy)
+when-unused used true tidy e h = rw (e, h refl)
+when-unused used false tidy e h = rw e
+
+pub one-kind : (k a : ℕ) → any (eqb k) (a ∷ []) ≡ eqb k a
+one-kind k a = or-false (eqb k a)
+
+pub two-kinds : (k a b : ℕ) → any (eqb k) (a ∷ b ∷ []) ≡ (eqb k a || eqb k b)
+two-kinds k a b = rw (one-kind k b)
+
+pub three-kinds : (k a b c : ℕ) → any (eqb k) (a ∷ b ∷ c ∷ []) ≡ (eqb k a || (eqb k b || eqb k c))
+three-kinds k a b c = rw (two-kinds k b c)
+
+-- ---- a blank record is tidy
+
+pub none-rest : {A : Type 0} (room : ℕ) (isBlank : A → Bool) (items : List A) (n : ℕ) → noneUsed room isBlank items n ≡ true → restBlank room isBlank items n ≡ true
+none-rest room isBlank items n e = rw (eqb-true n 0 (and-left (isZero n) _ e)) (and-right (isZero n) _ e)
+
+pub blank-snapshot-tidy : (s : Snapshot) → isBlankSnapshot s ≡ true → isTidySnapshot s ≡ true
+unfolding isTidySnapshot
+blank-snapshot-tidy s e = rw (blank-snapshot s e)
+
+pub blank-snapshot-ids-tidy : (t : SnapshotIds) → isBlankSnapshotIds t ≡ true → isTidySnapshotIds t ≡ true
+unfolding isBlankSnapshotIds isTidySnapshotIds
+blank-snapshot-ids-tidy t e = none-rest removalRoom isBlankSnapshotId (t .items) (t .count) e
+
+pub blank-reference-tidy : (r : SnapshotReference) → isBlankReference r ≡ true → isTidyReference r ≡ true
+unfolding isTidyReference
+blank-reference-tidy r e = rw (blank-reference r e)
+
+pub blank-schema-tidy : (s : Schema) → isBlankSchema s ≡ true → isTidySchema s ≡ true
+unfolding isBlankSchema isTidySchema
+blank-schema-tidy s e = none-rest schemaFieldRoom isBlankSchemaField (s .items) (s .count) (and-right (isZeroZ (s .«schema_id» .0)) _ e)
+
+pub blank-schema-ids-tidy : (t : SchemaIds) → isBlankSchemaIds t ≡ true → isTidySchemaIds t ≡ true
+unfolding isBlankSchemaIds isTidySchemaIds
+blank-schema-ids-tidy t e = none-rest removalRoom isBlankSchemaId (t .items) (t .count) e
+
+pub blank-order-tidy : (o : SortOrder) → isBlankSortOrder o ≡ true → isTidySortOrder o ≡ true
+unfolding isBlankSortOrder isTidySortOrder
+blank-order-tidy o e = none-rest sortFieldRoom isBlankSortField (o .items) (o .count) (and-right (isZeroZ (o .«order_id» .0)) _ e)
+
+-- ---- the records of an update
+
+-- twelve tests for blanks, and eight for what is tidy beside them
+pub records-apart : (a b c d e f g h i j k l c′ d′ e′ f′ g′ h′ j′ k′ : Bool)
+    → (a && b && (c && c′) && (d && d′) && (e && e′) && (f && f′) && (g && g′) && (h && h′) && i && (j && j′) && (k && k′) && l)
+    ≡ (a && b && c && d && e && f && g && h && i && j && k && l && (c′ && d′ && e′ && f′ && g′ && h′ && j′ && k′))
+records-apart a b c d e f g h i j k l c′ d′ e′ f′ g′ h′ j′ k′ =
+    let t : Bool = c′ && d′ && e′ && f′ && g′ && h′ in
+    rw (and-true a, and-true b, and-true i, and-true l, and-true t, and-true (t && j′ && k′)) at
+    (apart a true ((b, true) ∷ (c, c′) ∷ (d, d′) ∷ (e, e′) ∷ (f, f′) ∷ (g, g′) ∷ (h, h′) ∷ (i, true) ∷ (j, j′) ∷ (k, k′) ∷ (l, true) ∷ []))
+
+-- what is found of each record
+pub update-tidy : (u : TableUpdate) {a c d e f g h i j k l : Bool}
+    → a ≡ all isZero (u .uuid)
+    → c ≡ (usedBy (setLocationKind ∷ []) (u .kind) (isBlankLocation (u .location)) && isTidyLocation (u .location))
+    → d ≡ (usedBy (addSnapshotKind ∷ setBranchSnapshotKind ∷ []) (u .kind) (isBlankSnapshot (u .snapshot)) && isTidySnapshot (u .snapshot))
+    → e ≡ (usedBy (removeSnapshotsKind ∷ []) (u .kind) (isBlankSnapshotIds (u .«snapshot_ids»)) && isTidySnapshotIds (u .«snapshot_ids»))
+    → f ≡ (usedBy (setBranchSnapshotKind ∷ setRefKind ∷ removeRefKind ∷ []) (u .kind) (isBlankRefName (u .«ref_name»)) && isTidyRefName (u .«ref_name»))
+    → g ≡ (usedBy (setRefKind ∷ []) (u .kind) (isBlankReference (u .reference)) && isTidyReference (u .reference))
+    → h ≡ (usedBy (addSchemaKind ∷ []) (u .kind) (isBlankSchema (u .schema)) && isTidySchema (u .schema))
+    → i ≡ isZeroZ (u .«schema_id» .0)
+    → j ≡ (usedBy (removeSchemasKind ∷ []) (u .kind) (isBlankSchemaIds (u .«schema_ids»)) && isTidySchemaIds (u .«schema_ids»))
+    → k ≡ (usedBy (addSortOrderKind ∷ []) (u .kind) (isBlankSortOrder (u .«sort_order»)) && isTidySortOrder (u .«sort_order»))
+    → l ≡ isZeroZ (u .«sort_order_id» .0)
+    → ((eqb (u .kind) assignUuidKind || a) && (eqb (u .kind) upgradeFormatVersionKind || isZero (u .«format_version»)) && c && d && e && f && g && h && (eqb (u .kind) setCurrentSchemaKind || i) && j && k && (eqb (u .kind) setDefaultSortOrderKind || l)) ≡ isTidyUpdate u
+unfolding isUnusedBlank isUsedTidy
+update-tidy u pa pc pd pe pf pg ph pi pj pk pl =
+    (λ x. (sym (or-false (eqb (u .kind) assignUuidKind)) x || pa x) && (sym (or-false (eqb (u .kind) upgradeFormatVersionKind)) x || isZero (u .«format_version»)) && pc x && pd x && pe x && pf x && pg x && ph x && (sym (or-false (eqb (u .kind) setCurrentSchemaKind)) x || pi x) && pj x && pk x && (sym (or-false (eqb (u .kind) setDefaultSortOrderKind)) x || pl x))
+    ∙ records-apart
+    (usedBy (assignUuidKind ∷ []) (u .kind) (all isZero (u .uuid)))
+    (usedBy (upgradeFormatVersionKind ∷ []) (u .kind) (isZero (u .«format_version»)))
+    (usedBy (setLocationKind ∷ []) (u .kind) (isBlankLocation (u .location)))
+    (usedBy (addSnapshotKind ∷ setBranchSnapshotKind ∷ []) (u .kind) (isBlankSnapshot (u .snapshot)))
+    (usedBy (removeSnapshotsKind ∷ []) (u .kind) (isBlankSnapshotIds (u .«snapshot_ids»)))
+    (usedBy (setBranchSnapshotKind ∷ setRefKind ∷ removeRefKind ∷ []) (u .kind) (isBlankRefName (u .«ref_name»)))
+    (usedBy (setRefKind ∷ []) (u .kind) (isBlankReference (u .reference)))
+    (usedBy (addSchemaKind ∷ []) (u .kind) (isBlankSchema (u .schema)))
+    (usedBy (setCurrentSchemaKind ∷ []) (u .kind) (isZeroZ (u .«schema_id» .0)))
+    (usedBy (removeSchemasKind ∷ []) (u .kind) (isBlankSchemaIds (u .«schema_ids»)))
+    (usedBy (addSortOrderKind ∷ []) (u .kind) (isBlankSortOrder (u .«sort_order»)))
+    (usedBy (setDefaultSortOrderKind ∷ []) (u .kind) (isZeroZ (u .«sort_order_id» .0)))
+    (isTidyLocation (u .location))
+    (isTidySnapshot (u .snapshot))
+    (isTidySnapshotIds (u .«snapshot_ids»))
+    (isTidyRefName (u .«ref_name»))
+    (isTidyReference (u .reference))
+    (isTidySchema (u .schema))
+    (isTidySchemaIds (u .«schema_ids»))
+    (isTidySortOrder (u .«sort_order»))

@@ -1,0 +1,72 @@
+-- Metadata by its parts: each table by itself is tidy and well formed, and then what they say of each other is asked.
+use mathlib.Core.Path.{_≡_, refl, sym, _∙_}
+use mathlib.Core.Bool.{Bool, true, false, _&&_, false≢true, true≢false}
+use mathlib.Core.List.{[], _∷_}
+use Rattle.records.specs.declared.metadata.TableMetadata.{TableMetadata}
+use Rattle.rules.specs.Words.{eqZ, sameOption, all, any}
+use Rattle.rules.specs.WellFormed.{snapshotsFormed, refsFormed, snapshotLogFormed, metadataLogFormed, schemasFormed, ordersFormed, fieldsFormed, pointsIn, mainSnapshot, hasSchema, hasOrder, refsHeld, mainAgrees, currentSchemaHeld, defaultOrderHeld, metadataFormed}
+use Rattle.rules.specs.Blanks.{isTidySnapshots, isTidyRefs, isTidySnapshotLog, isTidyMetadataLog, isTidySchemas, isTidySortOrders, isTidyFields, isTidyMetadata}
+use Rattle.rules.specs.Layout.{readSnapshots, readRefs, readSnapshotLog, readMetadataLog, readSchemas, readSortOrders, readFields, readMetadata}
+use Rattle.rules.proofs.Checks.{Hold, parts, and-left, and-right}
+use Rattle.tables.specs.Laid.{LaidSnapshots, LaidRefs, LaidSchemas, LaidOrders}
+use Rattle.formed.proofs.Bools.{apart}
+use Rattle.formed.proofs.Laid.{laid-snapshots, laid-formed-refs, laid-schemas, laid-orders}
+
+-- ---- tests that are made where two others passed
+
+four-asked : (t f a b c d : Bool) → (t && f) ≡ true → (a && b && c && d) ≡ (t && (f && a && b && c && d))
+four-asked true true a b c d e = refl
+four-asked true false a b c d e = absurd (false≢true e)
+four-asked false f a b c d e = absurd (false≢true e)
+
+four-not-asked : (t f a b c d : Bool) → (t && f) ≡ false → false ≡ (t && (f && a && b && c && d))
+four-not-asked true true a b c d e = absurd (true≢false e)
+four-not-asked true false a b c d e = refl
+four-not-asked false f a b c d e = refl
+
+module _ (m : TableMetadata) where
+  -- each part by itself
+  abbrev pub eachFormed : Bool
+  eachFormed = (isTidySnapshots (m .snapshots) && snapshotsFormed (readSnapshots (m .snapshots))) && (isTidyRefs (m .refs) && refsFormed (readRefs (m .refs))) && (isTidySnapshotLog (m .«snapshot_log») && snapshotLogFormed (readSnapshotLog (m .«snapshot_log»))) && (isTidyMetadataLog (m .«metadata_log») && metadataLogFormed (readMetadataLog (m .«metadata_log»))) && (isTidySchemas (m .schemas) && schemasFormed (readSchemas (m .schemas))) && (isTidySortOrders (m .«sort_orders») && ordersFormed (readSortOrders (m .«sort_orders»))) && (isTidyFields (m .fields) && fieldsFormed (readFields (m .fields)))
+
+  abbrev allFormed : Bool
+  allFormed = snapshotsFormed (readSnapshots (m .snapshots)) && refsFormed (readRefs (m .refs)) && snapshotLogFormed (readSnapshotLog (m .«snapshot_log»)) && metadataLogFormed (readMetadataLog (m .«metadata_log»)) && schemasFormed (readSchemas (m .schemas)) && ordersFormed (readSortOrders (m .«sort_orders»)) && fieldsFormed (readFields (m .fields))
+
+  each-apart : eachFormed ≡ (isTidyMetadata m && allFormed)
+  unfolding isTidyMetadata
+  each-apart =
+      apart (isTidySnapshots (m .snapshots)) (snapshotsFormed (readSnapshots (m .snapshots)))
+      ((isTidyRefs (m .refs), refsFormed (readRefs (m .refs))) ∷ (isTidySnapshotLog (m .«snapshot_log»), snapshotLogFormed (readSnapshotLog (m .«snapshot_log»))) ∷ (isTidyMetadataLog (m .«metadata_log»), metadataLogFormed (readMetadataLog (m .«metadata_log»))) ∷ (isTidySchemas (m .schemas), schemasFormed (readSchemas (m .schemas))) ∷ (isTidySortOrders (m .«sort_orders»), ordersFormed (readSortOrders (m .«sort_orders»))) ∷ (isTidyFields (m .fields), fieldsFormed (readFields (m .fields))) ∷ [])
+
+  -- what the parts say of each other
+  abbrev pub agreeing : Bool
+  agreeing =
+      all (pointsIn (readSnapshots (m .snapshots))) (readRefs (m .refs))
+      && sameOption eqZ (readFields (m .fields) .current) (mainSnapshot (readRefs (m .refs)))
+      && any (hasSchema (m .fields .«current_schema_id» .0)) (readSchemas (m .schemas))
+      && any (hasOrder (m .fields .«default_sort_order_id» .0)) (readSortOrders (m .«sort_orders»))
+
+  pub whole-formed : eachFormed ≡ true → agreeing ≡ (isTidyMetadata m && metadataFormed (readMetadata m))
+  unfolding metadataFormed refsHeld mainAgrees currentSchemaHeld defaultOrderHeld
+  whole-formed e = four-asked (isTidyMetadata m) allFormed _ _ _ _ (sym each-apart ∙ e)
+
+  pub whole-not-formed : eachFormed ≡ false → false ≡ (isTidyMetadata m && metadataFormed (readMetadata m))
+  unfolding metadataFormed
+  whole-not-formed e = four-not-asked (isTidyMetadata m) allFormed (refsHeld (readMetadata m)) (mainAgrees (readMetadata m)) (currentSchemaHeld (readMetadata m)) (defaultOrderHeld (readMetadata m)) (sym each-apart ∙ e)
+
+  -- the tables as the functions on tables ask them
+  module _ (e : eachFormed ≡ true) where
+    holds : Hold ((isTidySnapshots (m .snapshots) && snapshotsFormed (readSnapshots (m .snapshots))) ∷ (isTidyRefs (m .refs) && refsFormed (readRefs (m .refs))) ∷ (isTidySnapshotLog (m .«snapshot_log») && snapshotLogFormed (readSnapshotLog (m .«snapshot_log»))) ∷ (isTidyMetadataLog (m .«metadata_log») && metadataLogFormed (readMetadataLog (m .«metadata_log»))) ∷ (isTidySchemas (m .schemas) && schemasFormed (readSchemas (m .schemas))) ∷ (isTidySortOrders (m .«sort_orders») && ordersFormed (readSortOrders (m .«sort_orders»))) ∷ (isTidyFields (m .fields) && fieldsFormed (readFields (m .fields))) ∷ [])
+    holds = parts ((isTidySnapshots (m .snapshots) && snapshotsFormed (readSnapshots (m .snapshots)))) ((isTidyRefs (m .refs) && refsFormed (readRefs (m .refs))) ∷ (isTidySnapshotLog (m .«snapshot_log») && snapshotLogFormed (readSnapshotLog (m .«snapshot_log»))) ∷ (isTidyMetadataLog (m .«metadata_log») && metadataLogFormed (readMetadataLog (m .«metadata_log»))) ∷ (isTidySchemas (m .schemas) && schemasFormed (readSchemas (m .schemas))) ∷ (isTidySortOrders (m .«sort_orders») && ordersFormed (readSortOrders (m .«sort_orders»))) ∷ (isTidyFields (m .fields) && fieldsFormed (readFields (m .fields))) ∷ []) e
+
+    pub snapshots-laid : LaidSnapshots (m .snapshots)
+    snapshots-laid = laid-snapshots (m .snapshots) (and-left (isTidySnapshots (m .snapshots)) _ (holds .0)) (and-right (isTidySnapshots (m .snapshots)) _ (holds .0))
+
+    pub refs-laid : LaidRefs (m .refs)
+    refs-laid = laid-formed-refs (m .refs) (and-left (isTidyRefs (m .refs)) _ (holds .1 .0)) (and-right (isTidyRefs (m .refs)) _ (holds .1 .0))
+
+    pub schemas-laid : LaidSchemas (m .schemas)
+    schemas-laid = laid-schemas (m .schemas) (and-left (isTidySchemas (m .schemas)) _ (holds .1 .1 .1 .1 .0)) (and-right (isTidySchemas (m .schemas)) _ (holds .1 .1 .1 .1 .0))
+
+    pub orders-laid : LaidOrders (m .«sort_orders»)
+    orders-laid = laid-orders (m .«sort_orders») (and-left (isTidySortOrders (m .«sort_orders»)) _ (holds .1 .1 .1 .1 .1 .0)) (and-right (isTidySortOrders (m .«sort_orders»)) _ (holds .1 .1 .1 .1 .1 .0))

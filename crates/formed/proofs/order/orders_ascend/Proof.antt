@@ -1,0 +1,42 @@
+-- The loop asks of each element that it is below the next.
+use Prim.Native.Nat.{_-_}
+use native.Mathlib.Omega.{arith}
+use mathlib.Core.Path.{_≡_}
+use borrow.Author.Needs.{needs}
+use lib.ListN.{length}
+use lib.Signed.{ltZ}
+use Rattle.records.specs.Blanks.{noSortOrder}
+use Rattle.rules.specs.Register as plain
+use Rattle.rules.specs.Layout.{readSortOrder}
+use Rattle.rules.proofs.Orders.{numbers-ordered}
+use Rattle.blanks.proofs.Scans.{slots}
+use Rattle.formed.proofs.Ascends.{Ascended, ascended-start, ascended-on, ascended-end}
+use Rattle.formed.proofs.order.orders_ascend.Statement.{statement}
+use Rattle.formed.proofs.order.orders_ascend.Tie as tie
+
+abbrev Inv-loop : tie.InvT-loop
+Inv-loop t n ok₀ i₀ ok i = Ascended ltZ (λ (x : plain.SortOrder). x .id) readSortOrder (t .count) (t .items) i ok
+
+abbrev μ-loop : tie.MeasureT-loop
+μ-loop t n ok₀ i₀ ok i = n - i
+
+has-slots : (c : tie.Start Inv-loop μ-loop) → length (c .args .t1 .items) ≡ 16
+has-slots c = search (needs, slots)
+
+pub orders-ascend-spec : {M : Type 1} → statement M
+orders-ascend-spec =
+    tie.close
+    (tie.spec
+    Inv-loop
+    μ-loop
+    (λ c. ascended-start (omega (arith, has-slots c, c .pre)))
+    (λ c. search needs)
+    (λ c. search needs)
+    (λ c. search needs)
+    (λ c. search needs)
+    (λ c. search needs)
+    (λ c κs. search needs)
+    (λ c. search needs)
+    (λ c. search needs)
+    (λ c. let l = c .before .before .before .before .before .before in ascended-on (l .loop .inv) numbers-ordered _ (c .before .before .before .before .before .loop-test .taken) (c .order-below .ensures))
+    (λ c. ascended-end (c .before .loop .inv) noSortOrder (c .loop-test .left)))

@@ -1,0 +1,36 @@
+-- The loop asks of each slot what the rule asks of it, counted or not.
+use Prim.Native.Nat.{_-_}
+use borrow.Author.Needs.{needs}
+use Rattle.records.specs.Blanks.{noSnapshot}
+use Rattle.rules.specs.WellFormed.{snapshotFormed}
+use Rattle.rules.specs.Blanks.{isTidySnapshot, isBlankSnapshot, isTidySnapshots}
+use Rattle.rules.specs.Layout.{readSnapshot}
+use Rattle.blanks.proofs.Scans.{slots}
+use Rattle.formed.proofs.Filled.{Filled, filled-start, filled-on, filled-end}
+use Rattle.formed.proofs.slots.snapshots_filled.Statement.{statement}
+use Rattle.formed.proofs.slots.snapshots_filled.Tie as tie
+
+abbrev Inv-loop : tie.InvT-loop
+Inv-loop t n ok₀ i₀ ok i = Filled readSnapshot isTidySnapshot snapshotFormed isBlankSnapshot 64 (t .count) (t .items) i ok
+
+abbrev μ-loop : tie.MeasureT-loop
+μ-loop t n ok₀ i₀ ok i = 64 - i
+
+returns : tie.Need-returns Inv-loop μ-loop
+unfolding isTidySnapshots
+returns c = filled-end (c .before .loop .inv) noSnapshot (c .loop-test .left)
+
+pub snapshots-filled-spec : {M : Type 1} → statement M
+snapshots-filled-spec =
+    tie.close
+    (tie.spec
+    Inv-loop
+    μ-loop
+    (λ c. filled-start (search (needs, slots)))
+    (λ c. search needs)
+    (λ c. search needs)
+    (λ c κs. search needs)
+    (λ c. search needs)
+    (λ c. search needs)
+    (λ c. let l = c .before .before .before in filled-on (l .loop .inv) _ (c .before .before .loop-test .taken) (c .snapshot-slot .ensures))
+    returns)

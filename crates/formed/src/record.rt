@@ -1,0 +1,183 @@
+// Well-formed records: those of the tables and those of updates.
+ghost use mathlib.Core.Path.{_≡_};
+ghost use Prim.Native.Nat.{_≤_};
+ghost use mathlib.Core.Bool.{not, _&&_};
+ghost use lib.ListN.{drop, take};
+ghost use Rattle.rules.specs.Words.{eqZ, all, unequal};
+ghost use Rattle.rules.specs.Capacities.{schemaFieldRoom};
+ghost use Rattle.rules.specs.WellFormed.{atLeastOne, snapshotFormed, referenceFormed, refFormed, fieldIds, schemaFormed, sortFieldFormed, offeredOrderFormed, orderFormed, removalFormed};
+ghost use Rattle.rules.specs.Layout.{readSnapshot, readSnapshotIds, readReference, readRef, readSchema, readSchemaIds, readSortField, readSortOrder};
+use blanks::numbers::age_formed;
+use blanks::numbers::field_id_formed;
+use blanks::numbers::min_formed;
+use blanks::numbers::order_id_formed;
+use blanks::numbers::order_id_zero;
+use blanks::numbers::schema_id_formed;
+use blanks::numbers::sequence_formed;
+use blanks::numbers::snapshot_id_formed;
+use records::capacities::REF_NAME;
+use records::capacities::REMOVALS;
+use records::capacities::SCHEMA_FIELDS;
+use records::capacities::SORT_FIELDS;
+use records::counters::FieldId;
+use records::reference::NamedRef;
+use records::reference::SnapshotReference;
+use records::schema::Schema;
+use records::schema::SchemaIds;
+use records::snapshot::Snapshot;
+use records::snapshot::SnapshotIds;
+use records::sort_order::SortField;
+use records::sort_order::SortOrder;
+use tables::ids::same_field;
+
+pub fn snapshot_formed(s: Snapshot) -> bool
+    ensures { λ r. ⌜ r ≡ snapshotFormed (readSnapshot s) ⌝ }
+{
+    let id = s.snapshot_id;
+    let p = s.has_parent;
+    let q = s.parent_snapshot_id;
+    let n = s.sequence_number;
+    snapshot_id_formed(id) & (!p | snapshot_id_formed(q)) & sequence_formed(n)
+}
+
+pub fn snapshot_ids_formed(t: SnapshotIds) -> bool
+    ensures { λ r. ⌜ r ≡ removalFormed (readSnapshotIds t) ⌝ }
+{
+    let n = t.count;
+    if n > REMOVALS {
+        return false;
+    }
+    let mut ok = true;
+    let mut i = 0;
+    while i < n {
+        let x = t.items[i];
+        ok = ok & snapshot_id_formed(x);
+        i += 1;
+    }
+    ok
+}
+
+pub fn reference_formed(r: SnapshotReference) -> bool
+    ensures { λ b. ⌜ b ≡ referenceFormed (readReference r) ⌝ }
+{
+    let id = r.snapshot_id;
+    let k = r.kind;
+    let a = r.has_min;
+    let x = r.min_snapshots_to_keep;
+    let b = r.has_age;
+    let y = r.max_snapshot_age_ms;
+    let c = r.has_ref_age;
+    let z = r.max_ref_age_ms;
+    snapshot_id_formed(id)
+        & ((k == 1) | ((k == 2) & !a & !b))
+        & (min_formed(a, x) & age_formed(b, y) & age_formed(c, z))
+}
+
+pub fn ref_formed(r: NamedRef) -> bool
+    ensures { λ b. ⌜ b ≡ refFormed (readRef r) ⌝ }
+{
+    let n = r.name;
+    let l = n.len;
+    let f = r.reference;
+    (l <= REF_NAME) & reference_formed(f)
+}
+
+// No field from a place on has the id.
+fn id_is_new(s: Schema, x: FieldId, from: usize) -> bool
+    requires { ⌜ s .count ≤ schemaFieldRoom ⌝ }
+    ensures { λ r. ⌜ r ≡ all (λ f. not (eqZ (x .0) (f .id .0))) (drop from (take (s .count) (s .items))) ⌝ }
+{
+    let n = s.count;
+    let mut ok = true;
+    let mut i = from;
+    while i < n {
+        let f = s.items[i];
+        let y = f.id;
+        ok = ok & !same_field(x, y);
+        i += 1;
+    }
+    ok
+}
+
+fn fields_formed(s: Schema) -> bool
+    requires { ⌜ s .count ≤ schemaFieldRoom ⌝ }
+    ensures { λ r. ⌜ r ≡ (all atLeastOne (fieldIds (readSchema s)) && unequal (fieldIds (readSchema s))) ⌝ }
+{
+    let n = s.count;
+    let mut ok = true;
+    let mut i = 0;
+    while i < n {
+        let f = s.items[i];
+        let x = f.id;
+        i += 1;
+        ok = ok & (field_id_formed(x) & id_is_new(s, x, i));
+    }
+    ok
+}
+
+pub fn schema_formed(s: Schema) -> bool
+    ensures { λ r. ⌜ r ≡ schemaFormed (readSchema s) ⌝ }
+{
+    let id = s.schema_id;
+    let n = s.count;
+    if n > SCHEMA_FIELDS {
+        return false;
+    }
+    schema_id_formed(id) & fields_formed(s)
+}
+
+pub fn schema_ids_formed(t: SchemaIds) -> bool
+    ensures { λ r. ⌜ r ≡ removalFormed (readSchemaIds t) ⌝ }
+{
+    let n = t.count;
+    if n > REMOVALS {
+        return false;
+    }
+    let mut ok = true;
+    let mut i = 0;
+    while i < n {
+        let x = t.items[i];
+        ok = ok & schema_id_formed(x);
+        i += 1;
+    }
+    ok
+}
+
+fn sort_field_formed(f: SortField) -> bool
+    ensures { λ r. ⌜ r ≡ sortFieldFormed (readSortField f) ⌝ }
+{
+    let x = f.source_id;
+    let d = f.direction;
+    let n = f.null_order;
+    field_id_formed(x) & (d <= 1) & (n <= 1)
+}
+
+// An order that is offered.
+pub fn offered_order_formed(o: SortOrder) -> bool
+    ensures { λ r. ⌜ r ≡ offeredOrderFormed (readSortOrder o) ⌝ }
+{
+    let id = o.order_id;
+    let n = o.count;
+    if n > SORT_FIELDS {
+        return false;
+    }
+    let mut ok = order_id_formed(id);
+    let mut i = 0;
+    while i < n {
+        let f = o.items[i];
+        ok = ok & sort_field_formed(f);
+        i += 1;
+    }
+    ok
+}
+
+// One that is held has no fields exactly if its id is 0.
+pub fn order_formed(o: SortOrder) -> bool
+    ensures { λ r. ⌜ r ≡ orderFormed (readSortOrder o) ⌝ }
+{
+    let id = o.order_id;
+    let n = o.count;
+    let zero = order_id_zero(id);
+    let none = n == 0;
+    offered_order_formed(o) & (none == zero)
+}

@@ -1,0 +1,187 @@
+// The slots of tables and logs: the counted ones are tidy and well formed, and the rest are blank.
+ghost use mathlib.Core.Path.{_≡_};
+ghost use mathlib.Core.Bool.{cond, _&&_};
+ghost use lib.Dec.{leb};
+ghost use lib.ListN.{length};
+ghost use lib.Signed.{nonNeg};
+ghost use Rattle.rules.specs.Words.{all};
+ghost use Rattle.rules.specs.Capacities.{snapshotRoom, refRoom, schemaRoom, sortOrderRoom};
+ghost use Rattle.rules.specs.WellFormed.{fileNameFormed, snapshotFormed, refFormed, schemaFormed, orderFormed, snapshotLogFormed, metadataLogFormed};
+ghost use Rattle.rules.specs.Blanks.{isTidySnapshot, isBlankSnapshot, isTidySnapshots, isBlankLogEntry, isTidySnapshotLog, isTidyRef, isBlankRef, isTidyRefs, isTidySchema, isBlankSchema, isTidySchemas, isTidySortOrder, isBlankSortOrder, isTidySortOrders, isTidyMetadataLogEntry, isBlankMetadataLogEntry, isTidyMetadataLog};
+ghost use Rattle.rules.specs.Layout.{readFileName, readSnapshot, readSnapshots, readSnapshotLog, readRef, readRefs, readSchema, readSchemas, readSortOrder, readSortOrders, readMetadataLog};
+use crate::record::order_formed;
+use crate::record::ref_formed;
+use crate::record::schema_formed;
+use crate::record::snapshot_formed;
+use blanks::blanks::file_entry_blank;
+use blanks::blanks::file_entry_tidy;
+use blanks::blanks::log_entry_blank;
+use blanks::blanks::order_blank;
+use blanks::blanks::order_tidy;
+use blanks::blanks::ref_blank;
+use blanks::blanks::ref_tidy;
+use blanks::blanks::schema_blank;
+use blanks::blanks::schema_tidy;
+use blanks::blanks::snapshot_blank;
+use blanks::blanks::snapshot_tidy;
+use blanks::numbers::snapshot_id_formed;
+use records::capacities::FILE_NAME;
+use records::capacities::METADATA_LOG;
+use records::capacities::REFS;
+use records::capacities::SCHEMAS;
+use records::capacities::SNAPSHOT_LOG;
+use records::capacities::SNAPSHOTS;
+use records::capacities::SORT_ORDERS;
+use records::metadata::MetadataLog;
+use records::metadata::MetadataLogEntry;
+use records::reference::NamedRef;
+use records::reference::Refs;
+use records::schema::Schema;
+use records::schema::Schemas;
+use records::snapshot::Snapshot;
+use records::snapshot::SnapshotLog;
+use records::snapshot::SnapshotLogEntry;
+use records::snapshot::Snapshots;
+use records::sort_order::SortOrder;
+use records::sort_order::SortOrders;
+
+fn snapshot_slot(used: bool, s: Snapshot) -> bool
+    ensures { λ r. ⌜ r ≡ cond used (isTidySnapshot s && snapshotFormed (readSnapshot s)) (isBlankSnapshot s) ⌝ }
+{
+    if used {
+        return snapshot_tidy(s) & snapshot_formed(s);
+    }
+    snapshot_blank(s)
+}
+
+pub fn snapshots_filled(t: Snapshots) -> bool
+    ensures { λ r. ⌜ r ≡ (isTidySnapshots t && (leb (length (readSnapshots t)) snapshotRoom && all snapshotFormed (readSnapshots t))) ⌝ }
+{
+    let n = t.count;
+    let mut ok = n <= SNAPSHOTS;
+    let mut i = 0;
+    while i < SNAPSHOTS {
+        let x = t.items[i];
+        ok = ok & snapshot_slot(i < n, x);
+        i += 1;
+    }
+    ok
+}
+
+fn ref_slot(used: bool, r: NamedRef) -> bool
+    ensures { λ b. ⌜ b ≡ cond used (isTidyRef r && refFormed (readRef r)) (isBlankRef r) ⌝ }
+{
+    if used {
+        return ref_tidy(r) & ref_formed(r);
+    }
+    ref_blank(r)
+}
+
+pub fn refs_filled(t: Refs) -> bool
+    ensures { λ r. ⌜ r ≡ (isTidyRefs t && (leb (length (readRefs t)) refRoom && all refFormed (readRefs t))) ⌝ }
+{
+    let n = t.count;
+    let mut ok = n <= REFS;
+    let mut i = 0;
+    while i < REFS {
+        let x = t.items[i];
+        ok = ok & ref_slot(i < n, x);
+        i += 1;
+    }
+    ok
+}
+
+fn log_slot(used: bool, e: SnapshotLogEntry) -> bool
+    ensures { λ r. ⌜ r ≡ cond used (nonNeg (e .«snapshot_id» .0)) (isBlankLogEntry e) ⌝ }
+{
+    let id = e.snapshot_id;
+    if used {
+        return snapshot_id_formed(id);
+    }
+    log_entry_blank(e)
+}
+
+pub fn snapshot_log_formed(t: SnapshotLog) -> bool
+    ensures { λ r. ⌜ r ≡ (isTidySnapshotLog t && snapshotLogFormed (readSnapshotLog t)) ⌝ }
+{
+    let n = t.count;
+    let mut ok = n <= SNAPSHOT_LOG;
+    let mut i = 0;
+    while i < SNAPSHOT_LOG {
+        let x = t.items[i];
+        ok = ok & log_slot(i < n, x);
+        i += 1;
+    }
+    ok
+}
+
+fn file_slot(used: bool, e: MetadataLogEntry) -> bool
+    ensures { λ r. ⌜ r ≡ cond used (isTidyMetadataLogEntry e && fileNameFormed (readFileName (e .«metadata_file»))) (isBlankMetadataLogEntry e) ⌝ }
+{
+    let f = e.metadata_file;
+    let n = f.len;
+    if used {
+        return file_entry_tidy(e) & (n <= FILE_NAME);
+    }
+    file_entry_blank(e)
+}
+
+pub fn metadata_log_formed(t: MetadataLog) -> bool
+    ensures { λ r. ⌜ r ≡ (isTidyMetadataLog t && metadataLogFormed (readMetadataLog t)) ⌝ }
+{
+    let n = t.count;
+    let mut ok = n <= METADATA_LOG;
+    let mut i = 0;
+    while i < METADATA_LOG {
+        let x = t.items[i];
+        ok = ok & file_slot(i < n, x);
+        i += 1;
+    }
+    ok
+}
+
+fn schema_slot(used: bool, s: Schema) -> bool
+    ensures { λ r. ⌜ r ≡ cond used (isTidySchema s && schemaFormed (readSchema s)) (isBlankSchema s) ⌝ }
+{
+    if used {
+        return schema_tidy(s) & schema_formed(s);
+    }
+    schema_blank(s)
+}
+
+pub fn schemas_filled(t: Schemas) -> bool
+    ensures { λ r. ⌜ r ≡ (isTidySchemas t && (leb (length (readSchemas t)) schemaRoom && all schemaFormed (readSchemas t))) ⌝ }
+{
+    let n = t.count;
+    let mut ok = n <= SCHEMAS;
+    let mut i = 0;
+    while i < SCHEMAS {
+        let x = t.items[i];
+        ok = ok & schema_slot(i < n, x);
+        i += 1;
+    }
+    ok
+}
+
+fn order_slot(used: bool, o: SortOrder) -> bool
+    ensures { λ r. ⌜ r ≡ cond used (isTidySortOrder o && orderFormed (readSortOrder o)) (isBlankSortOrder o) ⌝ }
+{
+    if used {
+        return order_tidy(o) & order_formed(o);
+    }
+    order_blank(o)
+}
+
+pub fn orders_filled(t: SortOrders) -> bool
+    ensures { λ r. ⌜ r ≡ (isTidySortOrders t && (leb (length (readSortOrders t)) sortOrderRoom && all orderFormed (readSortOrders t))) ⌝ }
+{
+    let n = t.count;
+    let mut ok = n <= SORT_ORDERS;
+    let mut i = 0;
+    while i < SORT_ORDERS {
+        let x = t.items[i];
+        ok = ok & order_slot(i < n, x);
+        i += 1;
+    }
+    ok
+}
