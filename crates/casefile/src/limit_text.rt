@@ -1,0 +1,35 @@
+// The text of a limit, which has any length. What is kept of it has the same limit (the crate `longtext`).
+ghost use Rattle.casefile.specs.Counted.{Counted};
+use longtext::limit::keep_byte;
+use numbers::field::read_count;
+use numbers::field::read_flag;
+use numbers::field::read_u8;
+use numbers::input::Input;
+use numbers::input::Place;
+use numbers::input::is_good;
+
+pub const LIMIT_TEXT: usize = 40;
+
+fn read_bytes(input: &mut Input, place: &mut Place, text: &mut [u8]) -> usize
+    ensures { λ r. ⌜ Counted r (now (text .exit)) ⌝ }
+{
+    let count = read_count(input, place);
+    let mut len: usize = 0;
+    let mut i = 0;
+    while i < count && is_good(place) {
+        let byte = read_u8(input, place);
+        len = keep_byte(text, len, byte);
+        i += 1;
+    }
+    len
+}
+
+// A flag, and the text if it is set. A text that is not given has the limit of an empty one.
+pub fn read_limit_text(input: &mut Input, place: &mut Place, text: &mut [u8]) -> usize
+    ensures { λ r. ⌜ Counted r (now (text .exit)) ⌝ }
+{
+    if read_flag(input, place) {
+        return read_bytes(input, place, text);
+    }
+    0
+}

@@ -1,0 +1,97 @@
+// Sort orders.
+use crate::slots::with_slots;
+use numbers::field::read_count;
+use numbers::field::read_i32;
+use numbers::field::read_i64;
+use numbers::field::read_u8;
+use numbers::input::Input;
+use numbers::input::Place;
+use numbers::input::is_good;
+use numbers::number::put_count;
+use numbers::number::put_i32;
+use numbers::number::put_i64;
+use numbers::number::put_u8;
+use numbers::output::Output;
+use records::capacities::SORT_FIELDS;
+use records::capacities::SORT_ORDERS;
+use records::counters::FieldId;
+use records::counters::SortOrderId;
+use records::sort_order::SortField;
+use records::sort_order::SortOrder;
+use records::sort_order::SortOrders;
+
+fn read_sort_field(input: &mut Input, place: &mut Place) -> SortField {
+    let source_id = read_i32(input, place);
+    let direction = read_u8(input, place);
+    let null_order = read_u8(input, place);
+    SortField {
+        source_id: FieldId(source_id),
+        direction,
+        null_order,
+    }
+}
+
+fn put_sort_field(output: &mut Output, end: &mut usize, field: SortField) {
+    put_i32(output, end, field.source_id.0);
+    put_u8(output, end, field.direction);
+    put_u8(output, end, field.null_order);
+}
+
+pub fn read_sort_order(input: &mut Input, place: &mut Place) -> SortOrder {
+    let mut order = SortOrder::blank();
+    let id = SortOrderId(read_i64(input, place));
+    let count = read_count(input, place);
+    let mut i = 0;
+    while i < count && is_good(place) {
+        let field = read_sort_field(input, place);
+        let at = i;
+        i += 1;
+        if at < SORT_FIELDS {
+            order.items[at] = field;
+        }
+    }
+    order.order_id = id;
+    order.count = count;
+    order
+}
+
+pub fn put_sort_order(output: &mut Output, end: &mut usize, order: SortOrder) {
+    let count = order.count;
+    put_i64(output, end, order.order_id.0);
+    put_count(output, end, count);
+    let n = with_slots(count, SORT_FIELDS);
+    let mut i = 0;
+    while i < n {
+        let field = order.items[i];
+        put_sort_field(output, end, field);
+        i += 1;
+    }
+}
+
+pub fn read_sort_orders(input: &mut Input, place: &mut Place) -> SortOrders {
+    let mut table = SortOrders::blank();
+    let count = read_count(input, place);
+    let mut i = 0;
+    while i < count && is_good(place) {
+        let order = read_sort_order(input, place);
+        let at = i;
+        i += 1;
+        if at < SORT_ORDERS {
+            table.items[at] = order;
+        }
+    }
+    table.count = count;
+    table
+}
+
+pub fn put_sort_orders(output: &mut Output, end: &mut usize, table: SortOrders) {
+    let count = table.count;
+    put_count(output, end, count);
+    let n = with_slots(count, SORT_ORDERS);
+    let mut i = 0;
+    while i < n {
+        let order = table.items[i];
+        put_sort_order(output, end, order);
+        i += 1;
+    }
+}

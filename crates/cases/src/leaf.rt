@@ -1,0 +1,66 @@
+// Cases 4 to 7: the leaves.
+use casefile::limit_text::LIMIT_TEXT;
+use casefile::limit_text::read_limit_text;
+use casefile::text::put_bytes;
+use casefile::untrimmed::read_untrimmed;
+use numbers::field::read_i64;
+use numbers::field::read_u64;
+use numbers::input::Input;
+use numbers::input::Place;
+use numbers::input::is_good;
+use numbers::number::put_flag;
+use numbers::number::put_u8;
+use numbers::number::put_u64;
+use numbers::output::Output;
+use records::capacities::LOCATION;
+use records::counters::Age;
+use records::counters::RowId;
+use records::counters::Time;
+
+// In milliseconds.
+const MINUTE: i64 = 60000;
+
+pub fn limit(input: &mut Input, place: &mut Place, output: &mut Output, end: &mut usize) {
+    let mut text = [0u8; LIMIT_TEXT];
+    let len = read_limit_text(input, place, &mut text);
+    if is_good(place) {
+        put_u64(output, end, leaves::limit::limit(&text[..len]));
+    }
+}
+
+pub fn window(input: &mut Input, place: &mut Place, output: &mut Output, end: &mut usize) {
+    let time = Time(read_i64(input, place));
+    let last = Time(read_i64(input, place));
+    if is_good(place) {
+        put_flag(
+            output,
+            end,
+            !leaves::window::is_before(Age(MINUTE), time, last),
+        );
+    }
+}
+
+pub fn row_ids(input: &mut Input, place: &mut Place, output: &mut Output, end: &mut usize) {
+    let next = RowId(read_u64(input, place));
+    let first = RowId(read_u64(input, place));
+    let added = read_u64(input, place);
+    if is_good(place) {
+        let checked = leaves::row_ids::check_rows(next, first, added);
+        put_u8(output, end, checked.number);
+        put_u64(output, end, checked.next.0);
+    }
+}
+
+// A location above its slots is trimmed whole, and as many of its bytes are written as there are slots.
+pub fn trim(input: &mut Input, place: &mut Place, output: &mut Output, end: &mut usize) {
+    let mut slots = [0u8; LOCATION];
+    let len = read_untrimmed(input, place, &mut slots);
+    if is_good(place) {
+        if len <= LOCATION {
+            let trimmed = leaves::location::trim(&slots[..len]);
+            put_bytes(output, end, trimmed, trimmed.len());
+        } else {
+            put_bytes(output, end, &slots, len);
+        }
+    }
+}

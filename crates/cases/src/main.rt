@@ -1,0 +1,63 @@
+// Answers cases from standard input, a line each, until the input ends or a case is bad.
+use casefile::case::put_bad_case;
+use casefile::case::read_case;
+use numbers::input::Input;
+use numbers::input::Place;
+use numbers::input::empty_input;
+use numbers::input::is_good;
+use numbers::input::is_used_up;
+use numbers::input::start;
+use numbers::output::Output;
+use numbers::output::empty_output;
+use numbers::output::flush;
+use numbers::output::put_line_end;
+
+mod leaf;
+mod runs;
+mod walks;
+
+// Reads the rest of a case of this kind, and answers it if it is good.
+fn answer(kind: u64, input: &mut Input, place: &mut Place, output: &mut Output, end: &mut usize) {
+    match kind {
+        1 => runs::run(input, place, output, end),
+        2 => walks::ids(input, place, output, end),
+        3 => walks::records(input, place, output, end),
+        4 => leaf::limit(input, place, output, end),
+        5 => leaf::window(input, place, output, end),
+        6 => leaf::row_ids(input, place, output, end),
+        7 => leaf::trim(input, place, output, end),
+        _ => {}
+    }
+}
+
+// One case; whether there may be another. An answer is written out as soon as the next case may have to be waited for.
+fn next(input: &mut Input, place: &mut Place, output: &mut Output, end: &mut usize) -> bool {
+    let kind = read_case(input, place);
+    answer(kind, input, place, output, end);
+    if !is_good(place) {
+        put_bad_case(output, end);
+        return false;
+    }
+    if kind == 0 {
+        return false;
+    }
+    put_line_end(output, *end);
+    if is_used_up(place) {
+        flush(output, *end);
+        *end = 0;
+    }
+    true
+}
+
+// The turns are counted since nothing says that an input ends; no run uses them up.
+fn main() {
+    let mut input = empty_input();
+    let mut place = start();
+    let mut output = empty_output();
+    let mut end: usize = 0;
+    let mut turns = u64::MAX;
+    while turns > 0 && next(&mut input, &mut place, &mut output, &mut end) {
+        turns -= 1;
+    }
+    flush(&output, end);
+}

@@ -1,0 +1,126 @@
+// Cases 2 and 3: ancestor walks, over ids and over records.
+ghost use mathlib.Core.Path.{_≡_};
+ghost use Prim.Native.Nat.{_≤_};
+ghost use lib.ListN.{length};
+use casefile::ids::BUFFER;
+use casefile::ids::IDS;
+use casefile::ids::put_ids;
+use casefile::ids::read_buffer_length;
+use casefile::ids::read_ids;
+use casefile::snapshot::read_snapshots;
+use catalogue::table_ancestors;
+use numbers::field::read_flag;
+use numbers::field::read_i64;
+use numbers::input::Input;
+use numbers::input::Place;
+use numbers::input::is_good;
+use numbers::number::put_count;
+use numbers::number::put_u8;
+use numbers::output::Output;
+use records::snapshot::Snapshots;
+use walk::Walked;
+use walk::ancestors;
+
+// What stands after the lists or the records.
+struct Terms {
+    start: i64,
+    has_excluded: bool,
+    excluded: i64,
+    buffer_length: usize,
+}
+
+fn read_terms(input: &mut Input, place: &mut Place) -> Terms
+    ensures { λ r. ⌜ r .«buffer_length» ≤ 80 ⌝ }
+{
+    let start = read_i64(input, place);
+    let has_excluded = read_flag(input, place);
+    let excluded = read_i64(input, place);
+    let buffer_length = read_buffer_length(input, place);
+    Terms {
+        start,
+        has_excluded,
+        excluded,
+        buffer_length,
+    }
+}
+
+// What a buffer holds before the call.
+const UNTOUCHED: i64 = -7;
+
+fn untouched() -> [i64; BUFFER]
+    ensures { λ r. ⌜ 80 ≡ length r ⌝ }
+{
+    [UNTOUCHED; BUFFER]
+}
+
+fn put_walked(output: &mut Output, end: &mut usize, walked: Walked, buffer: &[i64]) {
+    put_u8(output, end, walked.number);
+    put_count(output, end, walked.count);
+    put_ids(output, end, buffer);
+}
+
+fn walk_ids(
+    ids: &[i64],
+    parents: &[i64],
+    terms: Terms,
+    buffer: &mut [i64],
+    output: &mut Output,
+    end: &mut usize,
+) {
+    let walked = ancestors(
+        ids,
+        parents,
+        terms.start,
+        terms.has_excluded,
+        terms.excluded,
+        buffer,
+    );
+    put_walked(output, end, walked, buffer);
+}
+
+fn walk_records(
+    snapshots: Snapshots,
+    terms: Terms,
+    buffer: &mut [i64],
+    output: &mut Output,
+    end: &mut usize,
+) {
+    let walked = table_ancestors(
+        snapshots,
+        terms.start,
+        terms.has_excluded,
+        terms.excluded,
+        buffer,
+    );
+    put_walked(output, end, walked, buffer);
+}
+
+pub fn ids(input: &mut Input, place: &mut Place, output: &mut Output, end: &mut usize) {
+    let mut ids = [0i64; IDS];
+    let mut parents = [0i64; IDS];
+    let n = read_ids(input, place, &mut ids);
+    let m = read_ids(input, place, &mut parents);
+    let terms = read_terms(input, place);
+    if is_good(place) {
+        let mut buffer = untouched();
+        let len = terms.buffer_length;
+        walk_ids(
+            &ids[..n],
+            &parents[..m],
+            terms,
+            &mut buffer[..len],
+            output,
+            end,
+        );
+    }
+}
+
+pub fn records(input: &mut Input, place: &mut Place, output: &mut Output, end: &mut usize) {
+    let snapshots = read_snapshots(input, place);
+    let terms = read_terms(input, place);
+    if is_good(place) {
+        let mut buffer = untouched();
+        let len = terms.buffer_length;
+        walk_records(snapshots, terms, &mut buffer[..len], output, end);
+    }
+}

@@ -1,0 +1,3 @@
+pub mod LimitText
+pub mod SameLimit
+pub mod SameTrim

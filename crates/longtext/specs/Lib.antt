@@ -1,0 +1,2 @@
+pub mod LimitText
+pub mod Untrimmed

@@ -1,0 +1,176 @@
+-- Before the first update the pieces are those of the start, and what the tables' functions ask of them holds between any two updates.
+use Prim.Native.Nat.{ℕ, _+_, _≤_, _<_}
+use native.Mathlib.Omega.{arith}
+use mathlib.Core.Path.{_≡_, refl, sym, ap, subst, _∙_}
+use mathlib.Core.Bool.{Bool, true, false}
+use mathlib.Core.List.{List, [], _∷_}
+use lib.Dec.{leb}
+use lib.IntN.{ℤ, pos}
+use lib.ListN.{length, replicate}
+use borrow.Author.Tests.{leb-true}
+use Rattle.records.specs.Blanks.{noUpdate}
+use Rattle.records.specs.declared.metadata.TableMetadata.{TableMetadata}
+use Rattle.records.specs.declared.snapshot.Snapshots.{Snapshots}
+use Rattle.records.specs.declared.snapshot.SnapshotLog.{SnapshotLog}
+use Rattle.records.specs.declared.reference.Refs.{Refs}
+use Rattle.records.specs.declared.schema.Schemas.{Schemas}
+use Rattle.records.specs.declared.«sort_order».SortOrders.{SortOrders}
+use Rattle.records.specs.declared.update.TableUpdate.{TableUpdate}
+use Rattle.records.specs.declared.update.UpdateList.{UpdateList}
+use Rattle.records.specs.declared.run.RunTerms.{RunTerms}
+use Rattle.rules.specs.Words.{all, any, ascending, total}
+use Rattle.rules.specs.Capacities.{snapshotRoom, refRoom, snapshotLogRoom, schemaRoom, sortOrderRoom, refNameRoom, schemaFieldRoom, sortFieldRoom, locationRoom}
+use Rattle.rules.specs.Register as plain
+use Rattle.rules.specs.Register.{State}
+use Rattle.rules.specs.WellFormed.{snapshotFormed, refFormed, schemaFormed, orderFormed, refNameFormed, snapshotBelow, refBelow, schemaBelow, orderBelow, snapshotsFormed, refsFormed, snapshotLogFormed, schemasFormed, ordersFormed, fieldsFormed, offeredOrderFormed, versionFormed, locationFormed, fieldIds, atLeastOne, sortFieldFormed, hasSchema, hasOrder, currentSchemaHeld, defaultOrderHeld}
+use lib.Signed.{nonNeg}
+use Rattle.rules.specs.ChangeLog.{logsMain, logsRemoval}
+use Rattle.rules.specs.Run.{started, listSum, weight}
+use Rattle.rules.specs.Layout.{pad, readMetadata, readSnapshots, laidSnapshots, readRefs, laidRefs, readSnapshotLog, laidSnapshotLog, readSchemas, laidSchemas, readSortOrders, laidSortOrders, laidFields, readFields, laidLocation, laidMetadata}
+use Rattle.rules.specs.Kinds.{readUpdates}
+use Rattle.rules.proofs.Sound.{Sound, formed-sound}
+use Rattle.rules.proofs.Relaid.{relaid}
+use Rattle.rules.proofs.Reread.{reread-snapshots, reread-refs, reread-snapshot-log, reread-schemas, reread-sort-orders, reread-fields}
+use Rattle.rules.proofs.Tables.{table-parts, log-fits, all-then}
+use Rattle.rules.proofs.Checks.{and-left, and-right, parts}
+use Rattle.tables.specs.Laid.{LaidSnapshots, LaidRefs, LaidSnapshotLog, LaidSchemas, LaidOrders}
+use Rattle.builder.specs.declared.builder.TableMetadataBuilder.{TableMetadataBuilder}
+use Rattle.builder.specs.Pieces.{fresh, laidBuilder, idsOf}
+use Rattle.close.specs.Facts.{additions}
+use Rattle.register.specs.Standing.{startNumber, Tables, Logs, Kept, Ended, Standing}
+use Rattle.register.proofs.Started.{Starts, starts, file-short}
+
+module _ (m : TableMetadata) (us : UpdateList) (terms : RunTerms) (text : List ℕ) (z : startNumber m us terms ≡ 0) where
+  start : Starts m us terms
+  start = starts m us terms z
+
+  back : laidMetadata (readMetadata m) ≡ m
+  back = relaid m (start .tidy) (start .formed)
+
+  pub standing-start : {b : TableMetadataBuilder} {is : List ℤ} {e : TableUpdate} → b ≡ fresh (m .fields) → is ≡ pad 64 (pos 0) (idsOf (readSnapshots (m .snapshots))) → e ≡ noUpdate
+      → Standing m us terms text 0 b (m .snapshots) is (m .refs) (m .«snapshot_log») (m .schemas) (m .«sort_orders») (replicate 64 e) 0 (replicate 64 (pos 0)) 0 (replicate 64 (pos 0)) 0 false
+  unfolding fresh laidBuilder laidMetadata additions logsMain logsRemoval listSum
+  standing-start {b} {is} {e} p q r =
+      record {
+        state = started (readMetadata m);
+        reached = refl;
+        left = omega (arith, start .sum);
+        ended = record {
+          sound = formed-sound (readMetadata m) (start .formed);
+          kept = record { files = refl; old = refl; back = ap (λ (x : TableMetadata). x .«metadata_log») back; short = file-short m us terms (start .file) };
+          tables = record {
+            builder = p ∙ ap fresh (sym (ap (λ (x : TableMetadata). x .fields) back));
+            snapshots = sym (ap (λ (x : TableMetadata). x .snapshots) back);
+            ids = q;
+            refs = sym (ap (λ (x : TableMetadata). x .refs) back);
+            log = sym (ap (λ (x : TableMetadata). x .«snapshot_log») back);
+            schemas = sym (ap (λ (x : TableMetadata). x .schemas) back);
+            orders = sym (ap (λ (x : TableMetadata). x .«sort_orders») back);
+          };
+          logs = record { entries = ap (λ (x : TableUpdate). replicate 64 x) r; count = refl; added = refl; adds = refl; mained = refl; mains = refl; removal = refl };
+          room = omega arith;
+        };
+      }
+
+  pub start-snapshots : LaidSnapshots (m .snapshots)
+  unfolding snapshotsFormed laidMetadata
+  start-snapshots = record { back = ap (λ (x : TableMetadata). x .snapshots) back; fits = table-parts snapshotRoom snapshotFormed snapshotBelow (readSnapshots (m .snapshots)) (formed-sound (readMetadata m) (start .formed) .snapshots) .0 }
+
+-- ---- tables of sound metadata
+
+module _ {m : TableMetadata} {terms : RunTerms} {st : State} {b : TableMetadataBuilder} {t : Snapshots} {is : List ℤ} {r : Refs} {h : SnapshotLog} {s : Schemas} {o : SortOrders} {es : List TableUpdate} {c : ℕ} {ns : List ℤ} {a : ℕ} {ms : List ℤ} {k : ℕ} {f : Bool}
+    (E : Ended m terms st b t is r h s o es c ns a ms k f) where
+  pub read-snapshots : readSnapshots t ≡ st .metadata .snapshots
+  read-snapshots = rw (E .tables .snapshots) (reread-snapshots (st .metadata .snapshots))
+
+  pub read-refs : readRefs r ≡ st .metadata .refs
+  read-refs = rw (E .tables .refs) (reread-refs (st .metadata .refs))
+
+  pub read-log : readSnapshotLog h ≡ st .metadata .snapshotLog
+  read-log = rw (E .tables .log) (reread-snapshot-log (st .metadata .snapshotLog))
+
+  pub read-schemas : readSchemas s ≡ st .metadata .schemas
+  read-schemas = rw (E .tables .schemas) (reread-schemas (st .metadata .schemas))
+
+  pub read-orders : readSortOrders o ≡ st .metadata .orders
+  read-orders = rw (E .tables .orders) (reread-sort-orders (st .metadata .orders))
+
+  pub snapshots-fit : length (st .metadata .snapshots) ≤ 64
+  unfolding snapshotsFormed
+  snapshots-fit = table-parts snapshotRoom snapshotFormed snapshotBelow (st .metadata .snapshots) (E .sound .snapshots) .0
+
+  pub snapshots-ascend : ascending snapshotBelow (readSnapshots t) ≡ true
+  unfolding snapshotsFormed
+  snapshots-ascend = rw read-snapshots (table-parts snapshotRoom snapshotFormed snapshotBelow (st .metadata .snapshots) (E .sound .snapshots) .2)
+
+  pub refs-fit : length (st .metadata .refs) ≤ 16
+  unfolding refsFormed
+  refs-fit = table-parts refRoom refFormed refBelow (st .metadata .refs) (E .sound .refs) .0
+
+  pub log-fit : length (st .metadata .snapshotLog) ≤ 128
+  unfolding snapshotLogFormed
+  log-fit = log-fits snapshotLogRoom (λ (e : plain.LogEntry). nonNeg (e .snapshot)) (st .metadata .snapshotLog) (E .sound .snapshotLog)
+
+  pub laid-snapshots : LaidSnapshots t
+  laid-snapshots = record { back = rw read-snapshots (sym (E .tables .snapshots)); fits = rw read-snapshots snapshots-fit }
+
+  pub laid-refs : LaidRefs r
+  unfolding refsFormed
+  laid-refs =
+      record {
+        back = rw read-refs (sym (E .tables .refs));
+        fits = rw read-refs refs-fit;
+        names = rw read-refs (all-then refFormed (λ (x : plain.NamedRef). leb (length (x .name)) refNameRoom) (λ x e. and-left (refNameFormed (x .name)) _ e) (st .metadata .refs) (table-parts refRoom refFormed refBelow (st .metadata .refs) (E .sound .refs) .1));
+      }
+
+  pub laid-log : LaidSnapshotLog h
+  laid-log = record { back = rw read-log (sym (E .tables .log)); fits = rw read-log log-fit }
+
+  pub laid-schemas : LaidSchemas s
+  unfolding schemasFormed
+  laid-schemas =
+      record {
+        back = rw read-schemas (sym (E .tables .schemas));
+        fits = rw read-schemas (table-parts schemaRoom schemaFormed schemaBelow (st .metadata .schemas) (E .sound .schemas) .0);
+        fields = rw read-schemas (all-then schemaFormed (λ (x : plain.Schema). leb (length (x .fields)) schemaFieldRoom) (λ x e. parts (nonNeg (x .id)) (leb (length (x .fields)) schemaFieldRoom ∷ _ ∷ _ ∷ []) e .1 .0) (st .metadata .schemas) (table-parts schemaRoom schemaFormed schemaBelow (st .metadata .schemas) (E .sound .schemas) .1));
+      }
+
+  pub laid-orders : LaidOrders o
+  unfolding ordersFormed
+  laid-orders =
+      record {
+        back = rw read-orders (sym (E .tables .orders));
+        fits = rw read-orders (table-parts sortOrderRoom orderFormed orderBelow (st .metadata .orders) (E .sound .orders) .0);
+        fields = rw read-orders (all-then orderFormed (λ (x : plain.SortOrder). leb (length (x .fields)) sortFieldRoom) (λ x e. parts (nonNeg (x .id)) (leb (length (x .fields)) sortFieldRoom ∷ _ ∷ []) (and-left (offeredOrderFormed x) _ e) .1 .0) (st .metadata .orders) (table-parts sortOrderRoom orderFormed orderBelow (st .metadata .orders) (E .sound .orders) .1));
+      }
+
+  -- the location of the builder
+  pub location-fits : b .fields .location .len ≤ locationRoom
+  unfolding laidBuilder laidFields laidLocation fieldsFormed
+  location-fits =
+      let k = parts (versionFormed (st .metadata .fields .version)) (locationFormed (st .metadata .fields .location) ∷ nonNeg (st .metadata .fields .lastSequence .0) ∷ []) (E .sound .fields) in
+      rw (E .tables .builder) (leb-true (length (st .metadata .fields .location)) locationRoom (k .1 .0))
+
+  -- the single fields as they are read
+  pub read-fields : readFields (b .fields) ≡ st .metadata .fields
+  unfolding laidBuilder
+  read-fields = rw (ap (λ (x : TableMetadataBuilder). x .fields) (E .tables .builder)) (reread-fields (st .metadata .fields))
+
+  pub schemas-ascend : ascending schemaBelow (readSchemas s) ≡ true
+  unfolding schemasFormed
+  schemas-ascend = rw read-schemas (table-parts schemaRoom schemaFormed schemaBelow (st .metadata .schemas) (E .sound .schemas) .2)
+
+  pub orders-formed : ordersFormed (readSortOrders o) ≡ true
+  orders-formed = rw read-orders (E .sound .orders)
+
+  pub refs-ascend : ascending refBelow (readRefs r) ≡ true
+  unfolding refsFormed
+  refs-ascend = rw read-refs (table-parts refRoom refFormed refBelow (st .metadata .refs) (E .sound .refs) .2)
+
+  pub schema-held : any (hasSchema (b .fields .«current_schema_id» .0)) (readSchemas s) ≡ true
+  unfolding currentSchemaHeld
+  schema-held = rw (read-schemas, ap (λ (x : plain.SingleFields). x .currentSchema) read-fields) (E .sound .schemaHeld)
+
+  pub order-held : any (hasOrder (b .fields .«default_sort_order_id» .0)) (readSortOrders o) ≡ true
+  unfolding defaultOrderHeld
+  order-held = rw (read-orders, ap (λ (x : plain.SingleFields). x .defaultOrder) read-fields) (E .sound .orderHeld)

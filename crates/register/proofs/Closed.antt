@@ -1,0 +1,188 @@
+-- The close: what it is told, and what its answer makes of the run.
+use Prim.Native.Nat.{ℕ, _+_, _≤_, _<_}
+use native.Mathlib.Omega.{arith}
+use mathlib.Core.Path.{_≡_, refl, sym, ap, _∙_}
+use mathlib.Core.Bool.{Bool, true, false, cond, not, _&&_}
+use mathlib.Core.List.{List, [], _∷_}
+use lib.Dec.{eqb, ltb}
+use lib.IntN.{ℤ, pos}
+use lib.ListN.{length, take, length-map}
+use borrow.Author.Tests.{eq-eqb, ne-eqb}
+use Rattle.records.specs.declared.metadata.TableMetadata.{TableMetadata}
+use Rattle.records.specs.declared.metadata.MetadataLog.{MetadataLog}
+use Rattle.records.specs.declared.metadata.SingleFields.{SingleFields}
+use Rattle.records.specs.declared.counters.Time.{Time}
+use Rattle.records.specs.declared.snapshot.Snapshots.{Snapshots}
+use Rattle.records.specs.declared.snapshot.SnapshotLog.{SnapshotLog}
+use Rattle.records.specs.declared.reference.Refs.{Refs}
+use Rattle.records.specs.declared.schema.Schemas.{Schemas}
+use Rattle.records.specs.declared.«sort_order».SortOrders.{SortOrders}
+use Rattle.records.specs.declared.update.TableUpdate.{TableUpdate}
+use Rattle.records.specs.declared.run.RunTerms.{RunTerms}
+use Rattle.records.specs.declared.run.Answer.{Answer}
+use Rattle.rules.specs.Words.{firstOf, orElse, afterLast, Check}
+use Rattle.rules.specs.Capacities.{metadataLogRoom}
+use Rattle.rules.specs.Replies.{defaultOrderUnfit, logEndsElsewhere, mainDisagrees, tooManyFiles, accepted}
+use Rattle.rules.specs.Register.{Metadata, Update, State, Terms}
+use Rattle.rules.specs.Register.Outcome.{Refused, Accepted}
+use Rattle.rules.specs.WellFormed.{mainAgrees, metadataLogFormed, fileNameFormed}
+use Rattle.rules.specs.ChangeLog.{logsMain, logsRemoval, mainTarget}
+use Rattle.rules.specs.Limit.{limitOf, isNumber, afterPlus}
+use Rattle.rules.proofs.Checks.{by-test}
+use Rattle.rules.specs.Close.{isRebuilt, isMissing, isIntermediate, rebuilt, isDefaultUnfit, endsElsewhere, history, staying, expired, closeChecks, closed}
+use Rattle.rules.specs.Run.{close}
+use Rattle.rules.specs.Layout.{pad, laidSnapshots, laidRefs, laidSnapshotLog, laidSchemas, laidSortOrders, laidFields, readFields, readSnapshotLog, readMetadataLog, laidMetadataLog, laidMetadata}
+use Rattle.rules.specs.Kinds.{laidUpdates, laidUpdate}
+use Rattle.rules.specs.Answer.{readTerms, laidOutcome}
+use Rattle.rules.proofs.Reread.{reread-fields, reread-snapshot-log}
+use Rattle.rules.proofs.Tables.{log-fits, keep-length, afterLast-length}
+use Rattle.rules.specs.Register as plain
+use Rattle.builder.specs.declared.builder.TableMetadataBuilder.{TableMetadataBuilder}
+use Rattle.builder.specs.Pieces.{laidBuilder, idsOf}
+use Rattle.tables.specs.Laid.{LaidMetadataLog, LaidSnapshotLog}
+use Rattle.close.specs.declared.history.History.{History}
+use Rattle.close.specs.declared.files.FileLogs.{FileLogs}
+use Rattle.close.specs.Facts.{addition, additions, Told}
+use Rattle.close.specs.Answers.{HistoryOf, Handed, Filed, FilesOf}
+use Rattle.register.specs.Standing.{Tables, Logs, Kept, Ended}
+use Rattle.register.proofs.Slots.{pad-length, pad-front, collect-length}
+use Rattle.register.proofs.Beginning.{read-fields, read-refs, read-log, read-schemas, read-orders, snapshots-fit, log-fit}
+
+module _ {m : TableMetadata} {terms : RunTerms} {st : State} {b : TableMetadataBuilder} {t : Snapshots} {is : List ℤ} {r : Refs} {h : SnapshotLog} {s : Schemas} {o : SortOrders} {es : List TableUpdate} {c : ℕ} {ns : List ℤ} {a : ℕ} {ms : List ℤ} {k : ℕ} {f : Bool}
+    (E : Ended m terms st b t is r h s o es c ns a ms k f) where
+  held-count : t .count ≡ length (st .metadata .snapshots)
+  unfolding laidSnapshots
+  held-count = ap (λ (x : Snapshots). x .count) (E .tables .snapshots)
+
+  pub held-fits : t .count ≤ 64
+  held-fits = omega (arith, held-count, snapshots-fit E)
+
+  pub adds-fit : a ≤ 64
+  unfolding additions
+  adds-fit = omega (arith, E .logs .adds, collect-length addition (st .log), E .room)
+
+  pub mains-fit : k ≤ 64
+  unfolding logsMain
+  mains-fit = omega (arith, E .logs .mains, collect-length mainTarget (st .log), E .room)
+
+  pub held-ids : take (t .count) is ≡ idsOf (st .metadata .snapshots)
+  held-ids = rw (E .tables .ids, held-count, ← (length-map (st .metadata .snapshots) (λ (x : plain.Snapshot). x .id))) (pad-front (pos 0) 64 (idsOf (st .metadata .snapshots)))
+
+  pub added-ids : take a ns ≡ additions (st .log)
+  added-ids = rw (E .logs .added, E .logs .adds) (pad-front (pos 0) 64 (additions (st .log)))
+
+  pub main-ids : take k ms ≡ logsMain (st .log)
+  main-ids = rw (E .logs .mained, E .logs .mains) (pad-front (pos 0) 64 (logsMain (st .log)))
+
+  pub fields-laid : b .fields ≡ laidFields (st .metadata .fields)
+  unfolding laidBuilder
+  fields-laid = ap (λ (x : TableMetadataBuilder). x .fields) (E .tables .builder)
+
+  pub told : Told (st .log) (st .metadata) h (take (t .count) is) (b .fields) (take a ns) (take k ms) f
+  told =
+      record {
+        history = read-log E;
+        held = held-ids;
+        current = rw fields-laid (ap (λ (x : plain.SingleFields). x .current) (reread-fields (st .metadata .fields)));
+        adds = added-ids;
+        sets = main-ids;
+        removes = E .logs .removal;
+      }
+
+  pub handed : Handed (st .metadata) (b .fields) r s o
+  handed = record { single = read-fields E; named = read-refs E; columns = read-schemas E; sorts = read-orders E }
+
+  pub files-laid : LaidMetadataLog (m .«metadata_log»)
+  unfolding metadataLogFormed
+  files-laid = record { back = E .kept .back; fits = rw (← (E .kept .files)) (log-fits metadataLogRoom (λ (e : plain.FileEntry). fileNameFormed (e .file)) (st .metadata .metadataLog) (E .sound .metadataLog)) }
+
+  pub filed : (text : List ℕ) {limit : ℕ} → limit ≡ limitOf text → Filed (readTerms terms text) (st .metadata) (m .«metadata_log») terms (m .fields .«last_updated_ms») limit
+  filed text e = record { entries = sym (E .kept .files); name = refl; time = sym (E .kept .old); most = e }
+
+  abbrev pub firstThree : List Check
+  firstThree = (isDefaultUnfit (st .metadata), defaultOrderUnfit) ∷ (endsElsewhere (st .log) (st .metadata), logEndsElsewhere) ∷ (not (mainAgrees (st .metadata)), mainDisagrees) ∷ []
+
+  -- the first three decide, or the fourth does
+  more : (p q w z : Bool) (n : ℕ) → n ≡ firstOf ((p, 20) ∷ (q, 21) ∷ (w, 22) ∷ []) → (n ≡ 0 → ⊥) → firstOf ((p, 20) ∷ (q, 21) ∷ (w, 22) ∷ (z, 23) ∷ []) ≡ n
+  more true q w z n e y = sym e
+  more false true w z n e y = sym e
+  more false false true z n e y = sym e
+  more false false false z n e y = absurd (y e)
+
+  last : (p q w z : Bool) → firstOf ((p, 20) ∷ (q, 21) ∷ (w, 22) ∷ []) ≡ 0 → firstOf ((p, 20) ∷ (q, 21) ∷ (w, 22) ∷ (z, 23) ∷ []) ≡ cond z 23 0
+  last true q w z e = absurd (let y : _≡_ {A = ℕ} 20 0 = e in omega arith)
+  last false true w z e = absurd (let y : _≡_ {A = ℕ} 21 0 = e in omega arith)
+  last false false true z e = absurd (let y : _≡_ {A = ℕ} 22 0 = e in omega arith)
+  last false false false z e = refl
+
+  pub close-refused : (text : List ℕ) (place n : ℕ) → n ≡ firstOf firstThree → (n ≡ 0 → ⊥) → (x : Answer) → x ≡ laidOutcome m (Refused n place) → x ≡ laidOutcome m (close (readTerms terms text) place (st .log) st)
+  unfolding close closeChecks
+  close-refused text place n e z x q =
+      let w = more (isDefaultUnfit (st .metadata)) (endsElsewhere (st .log) (st .metadata)) (not (mainAgrees (st .metadata))) (ltb metadataLogRoom (length (staying (readTerms terms text) (st .metadata)))) n e z in
+      q ∙ rw (w, ne-eqb n 0 z)
+
+  pub files-refused : (text : List ℕ) (place : ℕ) → firstOf firstThree ≡ 0 → ltb metadataLogRoom (length (staying (readTerms terms text) (st .metadata))) ≡ true → (x : Answer) → x ≡ laidOutcome m (Refused 23 place) → x ≡ laidOutcome m (close (readTerms terms text) place (st .log) st)
+  unfolding close closeChecks
+  files-refused text place e l x q =
+      let w = last (isDefaultUnfit (st .metadata)) (endsElsewhere (st .log) (st .metadata)) (not (mainAgrees (st .metadata))) (ltb metadataLogRoom (length (staying (readTerms terms text) (st .metadata)))) e in
+      q ∙ rw (w, l)
+
+  pub first-three : firstOf firstThree ≡ 0 → (text : List ℕ) → ltb metadataLogRoom (length (staying (readTerms terms text) (st .metadata))) ≡ false → (place : ℕ) → close (readTerms terms text) place (st .log) st ≡ Accepted (closed (readTerms terms text) (st .log) st) (st .log) (expired (readTerms terms text) (st .metadata))
+  unfolding close closeChecks
+  first-three e text l place =
+      let w = last (isDefaultUnfit (st .metadata)) (endsElsewhere (st .log) (st .metadata)) (not (mainAgrees (st .metadata))) (ltb metadataLogRoom (length (staying (readTerms terms text) (st .metadata)))) e in
+      rw (w, l)
+
+  -- the single fields with another last update
+  abbrev pub updated : Time → SingleFields → SingleFields
+  updated x g = record { «format_version» = g .«format_version»; «table_uuid» = g .«table_uuid»; location = g .location; «last_updated_ms» = x; «last_sequence_number» = g .«last_sequence_number»; «next_row_id» = g .«next_row_id»; «last_column_id» = g .«last_column_id»; «has_current» = g .«has_current»; «current_snapshot_id» = g .«current_snapshot_id»; «current_schema_id» = g .«current_schema_id»; «default_sort_order_id» = g .«default_sort_order_id» }
+
+  pub close-accepted : (text : List ℕ) (place : ℕ) → firstOf firstThree ≡ 0 → {y : History} → HistoryOf (st .log) (st .metadata) y → {z : FileLogs} → FilesOf (readTerms terms text) (st .metadata) z → z .«too_many» ≡ false → {x : Time} → x .0 ≡ orElse (st .own) (terms .«clock_ms» .0)
+      → _≡_ {A = Answer} (record { number = 0; place = 0; metadata = record { fields = updated x (b .fields); snapshots = t; refs = r; «snapshot_log» = y .log; «metadata_log» = z .stay; schemas = s; «sort_orders» = o }; changes = record { items = es; count = c }; expired = z .expired })
+      (laidOutcome m (close (readTerms terms text) place (st .log) st))
+  unfolding laidOutcome closed laidMetadata laidFields laidUpdates
+  close-accepted text place e {y} Y {z} Z n {x} u =
+      let T = E .tables in
+      let F : updated x (b .fields) ≡ updated (record { 0 = orElse (st .own) (terms .«clock_ms» .0) }) (laidFields (st .metadata .fields)) = λ i. updated (record { 0 = u i }) (fields-laid i) in
+      (λ i. record { number = 0; place = 0; metadata = record { fields = F i; snapshots = T .snapshots i; refs = T .refs i; «snapshot_log» = Y .log i; «metadata_log» = Z .stay n i; schemas = T .schemas i; «sort_orders» = T .orders i }; changes = record { items = E .logs .entries i; count = E .logs .count i }; expired = Z .expired i })
+      ∙ ap (laidOutcome m) (sym (first-three e text (sym (Z .tooMany) ∙ n) place))
+
+  -- the parts that are lent
+  pub held-within : t .count ≤ length is
+  held-within = omega (arith, held-fits, ap length (E .tables .ids) ∙ pad-length (pos 0) 64 (idsOf (st .metadata .snapshots)) (omega (arith, length-map (st .metadata .snapshots) (λ (x : plain.Snapshot). x .id), snapshots-fit E)))
+
+  pub adds-within : a ≤ length ns
+  adds-within = omega (arith, adds-fit, ap length (E .logs .added) ∙ pad-length (pos 0) 64 (additions (st .log)) (omega (arith, adds-fit, E .logs .adds)))
+
+  pub mains-within : k ≤ length ms
+  mains-within = omega (arith, mains-fit, ap length (E .logs .mained) ∙ pad-length (pos 0) 64 (logsMain (st .log)) (omega (arith, mains-fit, E .logs .mains)))
+
+  pub held-slice : t .count ≡ length (take (t .count) is)
+  held-slice = held-count ∙ sym (ap length held-ids ∙ length-map (st .metadata .snapshots) (λ (x : plain.Snapshot). x .id))
+
+  pub added-slice : a ≡ length (take a ns)
+  added-slice = E .logs .adds ∙ sym (ap length added-ids)
+
+  pub main-slice : k ≡ length (take k ms)
+  main-slice = E .logs .mains ∙ sym (ap length main-ids)
+
+  -- a rebuilt log is no longer than the old one
+  history-fits : length (history (st .log) (st .metadata)) ≤ length (st .metadata .snapshotLog)
+  unfolding rebuilt
+  history-fits =
+      let P : List plain.LogEntry → Type 0 = λ l. length l ≤ length (st .metadata .snapshotLog) in
+      let gone = isMissing (st .metadata) in
+      by-test P (isRebuilt (st .log) (st .metadata))
+      (λ e. by-test P (logsRemoval (st .log))
+      (λ q. omega (arith, keep-length (λ x. not (isIntermediate (st .log) (st .metadata) x)) (afterLast gone (st .metadata .snapshotLog)), afterLast-length gone (st .metadata .snapshotLog)))
+      (λ q. keep-length (λ x. not (isMissing (st .metadata) x) && not (isIntermediate (st .log) (st .metadata) x)) (st .metadata .snapshotLog)))
+      (λ e. omega arith)
+
+  pub laid-history : {y : History} → HistoryOf (st .log) (st .metadata) y → LaidSnapshotLog (y .log)
+  laid-history {y} Y =
+      let q : readSnapshotLog (y .log) ≡ history (st .log) (st .metadata) = rw (Y .log) (reread-snapshot-log (history (st .log) (st .metadata))) in
+      record { back = rw q (sym (Y .log)); fits = rw q (omega (arith, history-fits, log-fit E)) }
+
+pub limit-least : (text : List ℕ) → 1 ≤ limitOf text
+unfolding limitOf
+limit-least text = by-test (λ (n : ℕ). 1 ≤ n) (isNumber (afterPlus text)) (λ e. omega arith) (λ e. omega arith)

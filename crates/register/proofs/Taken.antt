@@ -1,0 +1,103 @@
+-- The records that a well-formed update uses, as the tables' functions ask for them.
+use Prim.Native.Nat.{ℕ, _≤_, _<_}
+use native.Mathlib.Omega.{arith}
+use mathlib.Core.Path.{_≡_, refl, sym, ap, _∙_}
+use mathlib.Core.Bool.{Bool, true, false, _||_, _&&_}
+use mathlib.Core.List.{List, [], _∷_}
+use lib.Dec.{eqb, leb}
+use lib.IntN.{ℤ, pos}
+use lib.ListN.{length}
+use lib.Signed.{nonNeg}
+use borrow.Author.Tests.{leb-true, eqb-true, le-leb, lt-leb}
+use Rattle.records.specs.Blanks.{noSnapshotId, noUpdate}
+use Rattle.records.specs.declared.counters.SnapshotId.{SnapshotId}
+use Rattle.records.specs.declared.text.RefName.{RefName}
+use Rattle.records.specs.declared.snapshot.SnapshotIds.{SnapshotIds}
+use Rattle.records.specs.declared.update.TableUpdate.{TableUpdate}
+use Rattle.rules.specs.Words.{all, isEmpty}
+use Rattle.rules.specs.Capacities.{removalRoom, refNameRoom}
+use Rattle.rules.specs.Register as plain
+use Rattle.rules.specs.Register.{Update}
+use Rattle.rules.proofs.Reread.{reread-snapshots}
+use Rattle.records.specs.declared.snapshot.Snapshots.{Snapshots}
+use Rattle.rules.specs.Register.Update.{RemoveSnapshots, RemoveRef, SetRef, SetBranchSnapshot}
+use Rattle.rules.specs.WellFormed.{updateFormed, removalFormed, refNameFormed, snapshotFormed, referenceFormed}
+use Rattle.rules.specs.Blanks.{isZeroZ, isTidyLocation, isTidySnapshot, isTidySnapshotIds, isBlankSnapshotId, isTidyRefName, isTidyReference, isTidySchema, isTidySchemaIds, isTidySortOrder}
+use Rattle.rules.specs.Layout.{readRefName, laidRefName, readSnapshot, laidSnapshot, readReference, laidReference, readSnapshotIds, laidSnapshotIds, readSnapshots, laidSnapshots}
+use Rattle.rules.specs.Kinds.{readUpdate, isUnusedBlank, isUsedTidy, isTidyUpdate, laidUpdate, withSnapshotIds, withRefName, ofKind}
+use Rattle.rules.proofs.Checks.{Hold, parts, and-left, and-right}
+use Rattle.rules.proofs.Relaid.{fields-back, back-ref-name, back-snapshot, back-reference, zeroZ}
+use Rattle.tables.specs.Laid.{LaidName, LaidSnapshotIds, LaidSnapshots}
+use Rattle.register.proofs.Reading.{formed-tidy, read-5, read-6, read-7, read-8}
+
+blank-id : (x : SnapshotId) → isBlankSnapshotId x ≡ true → x ≡ noSnapshotId
+blank-id x e = λ i. record { 0 = zeroZ (x .0) e i }
+
+ids-laid : (t : SnapshotIds) → isTidySnapshotIds t ≡ true → removalFormed (readSnapshotIds t) ≡ true → LaidSnapshotIds t
+unfolding isTidySnapshotIds laidSnapshotIds
+ids-laid t e f =
+    let n = and-left (leb (length (readSnapshotIds t)) removalRoom) _ f in
+    let r = fields-back noSnapshotId isBlankSnapshotId blank-id (λ (i : SnapshotId). i .0) (λ (z : ℤ). record { 0 = z }) (λ x. refl) removalRoom (t .count) (t .items) e n in
+    record { back = λ i. record { items = r .0 i; count = r .1 i }; fits = leb-true (length (readSnapshotIds t)) removalRoom n }
+
+name-laid : (t : RefName) → isTidyRefName t ≡ true → refNameFormed (readRefName t) ≡ true → LaidName t
+name-laid t e f = let n = leb-true (length (readRefName t)) refNameRoom f in record { back = back-ref-name t e n; fits = n }
+
+module _ (u : TableUpdate) (f : updateFormed (readUpdate u) ≡ true) where
+  abbrev uses : List Bool
+  uses = isTidySnapshot (u .snapshot) ∷ isTidySnapshotIds (u .«snapshot_ids») ∷ isTidyRefName (u .«ref_name») ∷ isTidyReference (u .reference) ∷ isTidySchema (u .schema) ∷ isTidySchemaIds (u .«schema_ids») ∷ isTidySortOrder (u .«sort_order») ∷ []
+
+  used : Hold (isTidyLocation (u .location) ∷ uses)
+  unfolding isUsedTidy
+  used = parts (isTidyLocation (u .location)) uses (and-right (isUnusedBlank u) (isUsedTidy u) (formed-tidy u f))
+
+  pub snapshot-back : laidSnapshot (readSnapshot (u .snapshot)) ≡ u .snapshot
+  snapshot-back = back-snapshot (u .snapshot) (used .1 .0)
+
+  pub reference-back : laidReference (readReference (u .reference)) ≡ u .reference
+  reference-back = back-reference (u .reference) (used .1 .1 .1 .1 .0)
+
+  pub asked-laid : u .kind ≡ 6 → LaidSnapshotIds (u .«snapshot_ids»)
+  unfolding updateFormed
+  asked-laid k = ids-laid (u .«snapshot_ids») (used .1 .1 .0) (rw (read-6 u f k) at f)
+
+  pub name-5 : u .kind ≡ 5 → LaidName (u .«ref_name»)
+  unfolding updateFormed
+  name-5 k = name-laid (u .«ref_name») (used .1 .1 .1 .0) (and-left (refNameFormed (readRefName (u .«ref_name»))) _ (rw (read-5 u f k) at f))
+
+  pub name-7 : u .kind ≡ 7 → LaidName (u .«ref_name»)
+  unfolding updateFormed
+  name-7 k = name-laid (u .«ref_name») (used .1 .1 .1 .0) (and-left (refNameFormed (readRefName (u .«ref_name»))) _ (rw (read-7 u f k) at f))
+
+  pub name-8 : u .kind ≡ 8 → LaidName (u .«ref_name»)
+  unfolding updateFormed
+  name-8 k = name-laid (u .«ref_name») (used .1 .1 .1 .0) (rw (read-8 u f k) at f)
+
+-- ---- what two removals log
+
+pub removal-entry : (l : List ℤ) {x : SnapshotIds} {z : TableUpdate} → z ≡ noUpdate → x ≡ laidSnapshotIds l → withSnapshotIds x (record { kind = 6; uuid = z .uuid; «format_version» = z .«format_version»; location = z .location; snapshot = z .snapshot; «snapshot_ids» = z .«snapshot_ids»; «ref_name» = z .«ref_name»; reference = z .reference; schema = z .schema; «schema_id» = z .«schema_id»; «schema_ids» = z .«schema_ids»; «sort_order» = z .«sort_order»; «sort_order_id» = z .«sort_order_id» }) ≡ laidUpdate (RemoveSnapshots l)
+unfolding laidUpdate
+removal-entry l p q = rw (p, q)
+
+pub gone-entry : (l : List ℕ) {x : RefName} {z : TableUpdate} → z ≡ noUpdate → x ≡ laidRefName l → withRefName x (record { kind = 8; uuid = z .uuid; «format_version» = z .«format_version»; location = z .location; snapshot = z .snapshot; «snapshot_ids» = z .«snapshot_ids»; «ref_name» = z .«ref_name»; reference = z .reference; schema = z .schema; «schema_id» = z .«schema_id»; «schema_ids» = z .«schema_ids»; «sort_order» = z .«sort_order»; «sort_order_id» = z .«sort_order_id» }) ≡ laidUpdate (RemoveRef l)
+unfolding laidUpdate
+gone-entry l p q = rw (p, q)
+
+-- ---- what a removal leaves and holds
+
+pub laid-of : (l : List plain.Snapshot) → length l ≤ 64 → {t : Snapshots} → t ≡ laidSnapshots l → LaidSnapshots t
+laid-of l h {t} e =
+    let q : readSnapshots t ≡ l = rw e (reread-snapshots l) in
+    record { back = rw q (sym e); fits = rw q h }
+
+empty-count : (l : List ℤ) → isEmpty l ≡ leb (length l) 0
+empty-count [] = refl
+empty-count (x ∷ l) = sym (lt-leb (length (x ∷ l)) 0 (omega arith))
+
+pub holds-some : (l : List ℤ) {x : SnapshotIds} → x ≡ laidSnapshotIds l → 0 < x .count → isEmpty l ≡ false
+unfolding laidSnapshotIds
+holds-some l {x} e h = empty-count l ∙ lt-leb (length l) 0 (omega (arith, ap (λ (y : SnapshotIds). y .count) e))
+
+pub holds-none : (l : List ℤ) {x : SnapshotIds} → x ≡ laidSnapshotIds l → x .count ≤ 0 → isEmpty l ≡ true
+unfolding laidSnapshotIds
+holds-none l {x} e h = empty-count l ∙ le-leb (length l) 0 (omega (arith, ap (λ (y : SnapshotIds). y .count) e))
