@@ -41,9 +41,22 @@ module _ {A : Type 0} {p : A → Bool} {l : List A} {from i : ℕ} {first ok : B
   pub each-end : length l ≤ i → ok ≡ (first && all p (drop from l))
   each-end h = scan-end s h refl
 
--- what is found of the slots is what is found of an array with its slots
+-- ---- of an array with its slots
+
 pub with-slots : {A : Type 0} (p : A → Bool) (l : List A) (from room : ℕ) {z : Bool} → length l ≡ room → z ≡ all p (drop from l) → z ≡ restBlank room p l from
 with-slots p l from room e h = h ∙ rw (eq-eqb (length l) room e)
 
-pub slots-end : {A : Type 0} {p : A → Bool} {l : List A} {from i : ℕ} {ok : Bool} → Scanned (each p) l from i true ok → (room : ℕ) → length l ≡ room → room ≤ i → ok ≡ restBlank room p l from
-slots-end {p = p} {l = l} {from = from} s room e h = with-slots p l from room e (each-end s (rw e h))
+pub record Slotted {A : Type 0} (p : A → Bool) (room : ℕ) (l : List A) (from i : ℕ) (ok : Bool) : Type 0 where
+  pub fits : length l ≡ room
+  pub upto : Scanned (each p) l from i true ok
+
+module _ {A : Type 0} {p : A → Bool} {room : ℕ} {l : List A} {from : ℕ} where
+  pub slotted-start : length l ≡ room → Slotted p room l from from true
+  slotted-start e = record { fits = e; upto = scan-start }
+
+  module _ {i : ℕ} {ok : Bool} (s : Slotted p room l from i ok) where
+    pub slotted-on : (d : A) {z : Bool} → i < room → z ≡ p (getD l i d) → Slotted p room l from (i + 1) (ok && z)
+    slotted-on d h e = record { fits = s .fits; upto = each-on (s .upto) d (rw (s .fits) h) e }
+
+    pub slotted-end : room ≤ i → ok ≡ restBlank room p l from
+    slotted-end h = with-slots p l from room (s .fits) (each-end (s .upto) (rw (s .fits) h))

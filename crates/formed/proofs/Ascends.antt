@@ -43,8 +43,8 @@ pub record Ascended {A B K : Type 0} (lt : K → K → Bool) (key : B → K) (rd
   pub upto : Scanned (ascendingFrom (byKey lt (λ (x : A). key (rd x)))) (take n items) 0 (i - 1) true ok
 
 module _ {A B K : Type 0} {lt : K → K → Bool} {key : B → K} {rd : A → B} {n : ℕ} {items : List A} where
-  pub ascended-start : n ≤ length items → Ascended lt key rd n items 1 true
-  ascended-start h = record { fits = h; after = omega arith; upto = scan-start }
+  pub ascended-start : (room : ℕ) → length items ≡ room → n ≤ room → Ascended lt key rd n items 1 true
+  ascended-start room e h = record { fits = omega arith; after = omega arith; upto = scan-start }
 
   module _ {i : ℕ} {ok : Bool} (s : Ascended lt key rd n items i ok) where
     pub ascended-on : Ordered lt → (d : A) {z : Bool} → i < n → z ≡ lt (key (rd (getD items (i - 1) d))) (key (rd (getD items i d))) → Ascended lt key rd n items (i + 1) (ok && z)

@@ -17,11 +17,11 @@ last-first false b true = refl
 last-first false b false = refl
 
 -- a last test that is made where those before it passed
-pub asked : (a b c : Bool) → (a && b) ≡ true → c ≡ (a && (b && c))
-asked a b c e = sym (rw (← and-assoc a b c, e))
+pub asked : (a b c : Bool) {ok r : Bool} → ok ≡ (a && b) → ok ≡ true → r ≡ c → r ≡ (a && (b && c))
+asked a b c e t h = h ∙ sym (rw (← and-assoc a b c, ← e, t))
 
-pub not-asked : (a b c : Bool) → (a && b) ≡ false → false ≡ (a && (b && c))
-not-asked a b c e = sym (rw (← and-assoc a b c, e))
+pub not-asked : (a b c : Bool) {ok : Bool} → ok ≡ (a && b) → ok ≡ false → false ≡ (a && (b && c))
+not-asked a b c e f = sym (rw (← and-assoc a b c, ← e, f))
 
 -- any number of pairs of tests, taken apart
 pub apart : (a b : Bool) (l : List (Bool × Bool)) → andAll (a && b) (map (λ (x : Bool × Bool). x .0 && x .1) l) ≡ (andAll a (map (λ (x : Bool × Bool). x .0) l) && andAll b (map (λ (x : Bool × Bool). x .1) l))

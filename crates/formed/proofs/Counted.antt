@@ -2,7 +2,7 @@
 use Prim.Native.Nat.{ℕ, _+_, _≤_, _<_}
 use native.Mathlib.Omega.{arith}
 use mathlib.Core.Path.{_≡_, refl, sym, ap, _∙_}
-use mathlib.Core.Bool.{Bool, true, false, _&&_}
+use mathlib.Core.Bool.{Bool, true, false, _&&_, and-true, and-false}
 use mathlib.Core.List.{List, [], _∷_, map}
 use borrow.Author.Tests.{le-leb, lt-leb, leb-true}
 use lib.Dec.{eqb, leb, eqb·suc-zero}
@@ -10,6 +10,7 @@ use lib.ListN.{length, getD, take, drop, length-map, List·getD-map}
 use lib.Seq.{length-take-le, getD-take}
 use Rattle.rules.specs.Words.{all, isEmpty}
 use Rattle.rules.specs.Layout.{counted}
+use Rattle.rules.proofs.Checks.{and-left, and-right}
 use Rattle.rules.proofs.Relaid.{length-counted, counted-take}
 use Rattle.blanks.proofs.Scans.{Scanned, scan-start, each, each-on, each-end}
 
@@ -44,8 +45,10 @@ module _ {A B : Type 0} (rd : A → B) where
       pub few-enough : n ≤ room → leb (length (map rd (counted b items n))) room ≡ true
       few-enough h = rw read-length (le-leb n room h)
 
-      pub fitting : leb (length (map rd (counted b items n))) room ≡ true → n ≤ room
-      fitting e = omega (arith, leb-true (length (map rd (counted b items n))) room e, read-length)
+      pub fitting : (tidy rest : Bool) {ok : Bool} → ok ≡ (tidy && (leb (length (map rd (counted b items n))) room && rest)) → ok ≡ true → n ≤ room
+      fitting tidy rest e t =
+          let l : Bool = leb (length (map rd (counted b items n))) room in
+          omega (arith, leb-true (length (map rd (counted b items n))) room (and-left l rest (and-right tidy (l && rest) (sym e ∙ t))), read-length)
 
     pub all-counted : (q : B → Bool) → n ≤ length items → all q (map rd (counted b items n)) ≡ all (λ (x : A). q (rd x)) (take n items)
     all-counted q h = rw (read-taken h) (all-read q (take n items))
@@ -58,8 +61,8 @@ pub record Taken {A : Type 0} (p : A → Bool) (n : ℕ) (items : List A) (from 
   pub upto : Scanned (each p) (take n items) from i first ok
 
 module _ {A : Type 0} {p : A → Bool} {n : ℕ} {items : List A} {from : ℕ} {first : Bool} where
-  pub taken-start : n ≤ length items → Taken p n items from from first first
-  taken-start h = record { fits = h; upto = scan-start }
+  pub taken-start : (room : ℕ) → length items ≡ room → n ≤ room → Taken p n items from from first first
+  taken-start room e h = record { fits = omega arith; upto = scan-start }
 
   module _ {i : ℕ} {ok : Bool} (s : Taken p n items from i first ok) where
     pub taken-on : (d : A) {z : Bool} → i < n → z ≡ p (getD items i d) → Taken p n items from (i + 1) first (ok && z)
@@ -67,3 +70,12 @@ module _ {A : Type 0} {p : A → Bool} {n : ℕ} {items : List A} {from : ℕ} {
 
     pub taken-end : n ≤ i → ok ≡ (first && all p (drop from (take n items)))
     taken-end k = each-end (s .upto) (omega (arith, length-take-le n items (s .fits)))
+
+-- what is read of the counted slots, of which there is room for so many
+module _ {A B : Type 0} (rd : A → B) (q : B → Bool) (b : A) (room n : ℕ) (items : List A) (first : Bool) where
+  pub read-end : {i : ℕ} {ok : Bool} → Taken (λ (x : A). q (rd x)) n items 0 i first ok → n ≤ room → n ≤ i
+      → ok ≡ (first && leb (length (map rd (counted b items n))) room && all q (map rd (counted b items n)))
+  read-end s h k = taken-end s k ∙ sym (rw (few-enough rd b items n room h, and-true first, all-counted rd b items n q (s .fits)))
+
+  pub read-many : room < n → false ≡ (first && leb (length (map rd (counted b items n))) room && all q (map rd (counted b items n)))
+  read-many h = sym (rw (too-many rd b items n room h, and-false first))

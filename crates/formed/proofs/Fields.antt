@@ -44,8 +44,8 @@ pub record Checked (n : ℕ) (items : List SchemaField) (i : ℕ) (ok : Bool) : 
   pub upto : Scanned fieldsFrom (take n items) 0 i true ok
 
 module _ {n : ℕ} {items : List SchemaField} where
-  pub checked-start : n ≤ length items → Checked n items 0 true
-  checked-start h = record { fits = h; upto = scan-start }
+  pub checked-start : (room : ℕ) → length items ≡ room → n ≤ room → Checked n items 0 true
+  checked-start room e h = record { fits = omega arith; upto = scan-start }
 
   module _ {i : ℕ} {ok : Bool} (s : Checked n items i ok) where
     pub checked-on : (d : SchemaField) {a z : Bool} → i < n → a ≡ atLeastOne (getD items i d .id .0) → z ≡ isNew (getD items i d .id .0) (drop (i + 1) (take n items)) → Checked n items (i + 1) (ok && (a && z))

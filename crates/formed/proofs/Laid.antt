@@ -1,7 +1,7 @@
 -- Tables that were found tidy and well formed are laid out from what is read of them, as the functions on tables ask.
 use Prim.Native.Nat.{ℕ, _≤_, _<_}
 use native.Mathlib.Omega.{arith}
-use mathlib.Core.Path.{_≡_, sym, ap, _∙_}
+use mathlib.Core.Path.{_≡_, refl, sym, ap, _∙_}
 use mathlib.Core.Bool.{Bool, true, _&&_}
 use mathlib.Core.List.{List, [], _∷_, map}
 use borrow.Author.Tests.{leb-true}
@@ -21,8 +21,8 @@ use Rattle.rules.specs.Capacities.{snapshotRoom, refRoom, refNameRoom, schemaRo
 use Rattle.rules.specs.WellFormed.{atLeastOne, fieldIds, refNameFormed, snapshotFormed, refFormed, schemaFormed, sortFieldFormed, offeredOrderFormed, orderFormed, snapshotBelow, schemaBelow, orderBelow, snapshotsFormed, refsFormed, schemasFormed, ordersFormed}
 use Rattle.rules.specs.Blanks.{isTidySnapshots, isBlankRef, isTidyRef, isTidyRefs, isTidySchemas, isTidySortOrders}
 use Rattle.rules.specs.Layout.{pad, readRefName, readSnapshots, readRef, laidRef, readRefs, laidRefs, readSchemas, readSortOrders}
-use Rattle.rules.proofs.Checks.{and-left, and-right, parts}
-use Rattle.rules.proofs.Tables.{all-then, all-drop}
+use Rattle.rules.proofs.Checks.{both, and-left, and-right, parts}
+use Rattle.rules.proofs.Tables.{all-then, all-drop, logFormed, log-fits, log-all}
 use Rattle.rules.proofs.Relaid.{table-back, blank-ref, back-snapshots, back-ref, back-schemas, back-sort-orders}
 use Rattle.tables.specs.Laid.{LaidName, LaidSnapshots, LaidRefs, LaidSchemas, LaidOrders}
 use Rattle.formed.proofs.Counted.{read-length, read-at}
@@ -34,21 +34,23 @@ laid-snapshots t e f =
     record { back = back-snapshots t e f; fits = leb-true _ _ (k .0) }
 
 -- the order of refs is not asked: it is tested on names that are laid out
-pub laid-refs : (t : Refs) → isTidyRefs t ≡ true → (leb (length (readRefs t)) refRoom && all refFormed (readRefs t)) ≡ true → LaidRefs t
+pub laid-refs : (t : Refs) {ok : Bool} → ok ≡ (isTidyRefs t && logFormed refRoom refFormed (readRefs t)) → ok ≡ true → LaidRefs t
 unfolding isTidyRefs laidRefs
-laid-refs t e f =
-    let k : leb (length (readRefs t)) refRoom ≡ true = and-left (leb (length (readRefs t)) refRoom) _ f in
-    let a : all refFormed (readRefs t) ≡ true = and-right (leb (length (readRefs t)) refRoom) _ f in
-    let r = table-back noRef isBlankRef blank-ref readRef laidRef isTidyRef refFormed back-ref refRoom (t .count) (t .items) e k a in
+laid-refs t h y =
+    let z : (isTidyRefs t && logFormed refRoom refFormed (readRefs t)) ≡ true = sym h ∙ y in
+    let e : isTidyRefs t ≡ true = and-left (isTidyRefs t) _ z in
+    let f : logFormed refRoom refFormed (readRefs t) ≡ true = and-right (isTidyRefs t) _ z in
+    let a : all refFormed (readRefs t) ≡ true = log-all refRoom refFormed (readRefs t) f in
+    let r = table-back noRef isBlankRef blank-ref readRef laidRef isTidyRef refFormed back-ref refRoom (t .count) (t .items) e (and-left (leb (length (readRefs t)) refRoom) _ f) a in
     record {
       back = λ i. record { items = r .0 i; count = r .1 i };
-      fits = leb-true _ _ k;
-      names = all-then refFormed (λ (x : plain.NamedRef). leb (length (x .name)) refNameRoom) (λ x h. and-left (refNameFormed (x .name)) _ h) (readRefs t) a;
+      fits = log-fits refRoom refFormed (readRefs t) f;
+      names = all-then refFormed (λ (x : plain.NamedRef). leb (length (x .name)) refNameRoom) (λ x k. and-left (refNameFormed (x .name)) _ k) (readRefs t) a;
     }
 
 pub laid-formed-refs : (t : Refs) → isTidyRefs t ≡ true → refsFormed (readRefs t) ≡ true → LaidRefs t
 unfolding refsFormed
-laid-formed-refs t e f = laid-refs t e (and-left (leb (length (readRefs t)) refRoom && all refFormed (readRefs t)) _ f)
+laid-formed-refs t e f = laid-refs t refl (both e (and-left (logFormed refRoom refFormed (readRefs t)) _ f))
 
 -- ---- the names of refs that are laid out
 

@@ -1,9 +1,9 @@
 -- What an update's kind uses is tidy, and what it does not use is blank: a blank record is tidy.
 use Prim.Native.Nat.{ℕ}
 use mathlib.Core.Path.{_≡_, refl, sym, _∙_}
-use mathlib.Core.Bool.{Bool, true, false, _&&_, _||_, and-true, or-false}
+use mathlib.Core.Bool.{Bool, true, false, cond, _&&_, _||_, and-true, or-false}
 use mathlib.Core.List.{List, [], _∷_}
-use borrow.Author.Tests.{eqb-true}
+use borrow.Author.Tests.{eqb-true, eq-eqb, ne-eqb}
 use lib.Dec.{eqb}
 use Rattle.records.specs.declared.snapshot.Snapshot.{Snapshot}
 use Rattle.records.specs.declared.snapshot.SnapshotIds.{SnapshotIds}
@@ -13,6 +13,9 @@ use Rattle.records.specs.declared.schema.SchemaIds.{SchemaIds}
 use Rattle.records.specs.declared.«sort_order».SortOrder.{SortOrder}
 use Rattle.records.specs.declared.update.TableUpdate.{TableUpdate}
 use Rattle.rules.specs.Words.{all, any}
+use Rattle.rules.specs.Register.{Update}
+use Rattle.rules.specs.Register.Update.{NotFormed}
+use Rattle.rules.specs.WellFormed.{updateFormed}
 use Rattle.rules.specs.Kinds.{assignUuidKind, upgradeFormatVersionKind, setLocationKind, addSnapshotKind, setBranchSnapshotKind, removeSnapshotsKind, setRefKind, removeRefKind, addSchemaKind, setCurrentSchemaKind, removeSchemasKind, addSortOrderKind, setDefaultSortOrderKind, usedBy, isUnusedBlank, isUsedTidy, isTidyUpdate}
 use Rattle.rules.specs.Blanks.{isZero, isZeroZ, restBlank, noneUsed, isTidyLocation, isBlankLocation, isTidyRefName, isBlankRefName, isBlankSnapshotId, isBlankSchemaField, isBlankSchemaId, isBlankSortField, isTidySnapshot, isBlankSnapshot, isTidySnapshotIds, isBlankSnapshotIds, isTidyReference, isBlankReference, isTidySchema, isBlankSchema, isTidySchemaIds, isBlankSchemaIds, isTidySortOrder, isBlankSortOrder}
 use Rattle.rules.specs.Capacities.{removalRoom, schemaFieldRoom, sortFieldRoom}
@@ -22,21 +25,29 @@ use Rattle.formed.proofs.Bools.{apart}
 
 -- ---- used or not
 
-pub when-used : (used blank tidy : Bool) → used ≡ true → tidy ≡ ((used || blank) && tidy)
-when-used used blank tidy e = rw e
+-- a kind that uses the record asks that it is tidy
+pub fits-used : (kinds : List ℕ) (k : ℕ) (blank : Bool) {tidy r : Bool} → any (eqb k) kinds ≡ true → r ≡ tidy → r ≡ (usedBy kinds k blank && tidy)
+fits-used kinds k blank e h = h ∙ rw e
 
-pub when-unused : (used blank tidy : Bool) → used ≡ false → (blank ≡ true → tidy ≡ true) → blank ≡ ((used || blank) && tidy)
-when-unused used true tidy e h = rw (e, h refl)
-when-unused used false tidy e h = rw e
+-- any other kind, that it is blank
+pub fits-unused : (kinds : List ℕ) (k : ℕ) {blank tidy r : Bool} → any (eqb k) kinds ≡ false → (blank ≡ true → tidy ≡ true) → r ≡ blank → r ≡ (usedBy kinds k blank && tidy)
+fits-unused kinds k {blank} {tidy} e t h = h ∙ rw e (go blank t)
+  where
+    go : (b : Bool) → (b ≡ true → tidy ≡ true) → b ≡ (b && tidy)
+    go true t = sym (t refl)
+    go false t = refl
 
-pub one-kind : (k a : ℕ) → any (eqb k) (a ∷ []) ≡ eqb k a
-one-kind k a = or-false (eqb k a)
+pub is-kind : (k a : ℕ) → k ≡ a → any (eqb k) (a ∷ []) ≡ true
+is-kind k a e = or-false (eqb k a) ∙ eq-eqb k a e
+
+pub is-no-kind : (k a : ℕ) → (k ≡ a → ⊥) → any (eqb k) (a ∷ []) ≡ false
+is-no-kind k a e = or-false (eqb k a) ∙ ne-eqb k a e
 
 pub two-kinds : (k a b : ℕ) → any (eqb k) (a ∷ b ∷ []) ≡ (eqb k a || eqb k b)
-two-kinds k a b = rw (one-kind k b)
+two-kinds k a b = rw (or-false (eqb k b))
 
 pub three-kinds : (k a b c : ℕ) → any (eqb k) (a ∷ b ∷ c ∷ []) ≡ (eqb k a || (eqb k b || eqb k c))
-three-kinds k a b c = rw (two-kinds k b c)
+three-kinds k a b c = rw (or-false (eqb k c))
 
 -- ---- a blank record is tidy
 
@@ -70,7 +81,7 @@ blank-order-tidy o e = none-rest sortFieldRoom isBlankSortField (o .items) (o .c
 -- ---- the records of an update
 
 -- twelve tests for blanks, and eight for what is tidy beside them
-pub records-apart : (a b c d e f g h i j k l c′ d′ e′ f′ g′ h′ j′ k′ : Bool)
+records-apart : (a b c d e f g h i j k l c′ d′ e′ f′ g′ h′ j′ k′ : Bool)
     → (a && b && (c && c′) && (d && d′) && (e && e′) && (f && f′) && (g && g′) && (h && h′) && i && (j && j′) && (k && k′) && l)
     ≡ (a && b && c && d && e && f && g && h && i && j && k && l && (c′ && d′ && e′ && f′ && g′ && h′ && j′ && k′))
 records-apart a b c d e f g h i j k l c′ d′ e′ f′ g′ h′ j′ k′ =
@@ -116,3 +127,9 @@ update-tidy u pa pc pd pe pf pg ph pi pj pk pl =
     (isTidySchema (u .schema))
     (isTidySchemaIds (u .«schema_ids»))
     (isTidySortOrder (u .«sort_order»))
+
+-- an update is read by its kind where it is tidy
+pub tidy-first : (b : Bool) (u : Update) (n : ℕ) → (b && updateFormed u) ≡ updateFormed (cond b u (NotFormed n))
+unfolding updateFormed
+tidy-first true u n = refl
+tidy-first false u n = refl

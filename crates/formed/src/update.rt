@@ -28,7 +28,9 @@ use blanks::blanks::snapshot_ids_blank;
 use blanks::blanks::snapshot_ids_tidy;
 use blanks::blanks::snapshot_tidy;
 use blanks::blanks::zeros_from;
+use blanks::numbers::order_choice_formed;
 use blanks::numbers::order_id_zero;
+use blanks::numbers::schema_choice_formed;
 use blanks::numbers::schema_id_zero;
 use records::capacities::LOCATION;
 use records::capacities::REF_NAME;
@@ -176,19 +178,19 @@ fn used_formed(u: TableUpdate) -> bool
     let a = location.len;
     let b = name.len;
     match k {
-        1 => true,
-        2 => (1 <= version) & (version <= 3),
-        3 => a <= LOCATION,
-        4 => snapshot_formed(snapshot),
-        5 => (b <= REF_NAME) & snapshot_formed(snapshot),
-        6 => snapshot_ids_formed(snapshot_ids),
-        7 => (b <= REF_NAME) & reference_formed(reference),
-        8 => b <= REF_NAME,
-        9 => schema_formed(schema),
-        10 => blanks::numbers::schema_choice_formed(schema_id),
-        11 => schema_ids_formed(schema_ids),
-        12 => offered_order_formed(order),
-        13 => blanks::numbers::order_choice_formed(order_id),
+        ASSIGN_UUID => true,
+        UPGRADE_FORMAT_VERSION => (1 <= version) & (version <= 3),
+        SET_LOCATION => a <= LOCATION,
+        ADD_SNAPSHOT => snapshot_formed(snapshot),
+        SET_BRANCH_SNAPSHOT => (b <= REF_NAME) & snapshot_formed(snapshot),
+        REMOVE_SNAPSHOTS => snapshot_ids_formed(snapshot_ids),
+        SET_REF => (b <= REF_NAME) & reference_formed(reference),
+        REMOVE_REF => b <= REF_NAME,
+        ADD_SCHEMA => schema_formed(schema),
+        SET_CURRENT_SCHEMA => schema_choice_formed(schema_id),
+        REMOVE_SCHEMAS => schema_ids_formed(schema_ids),
+        ADD_SORT_ORDER => offered_order_formed(order),
+        SET_DEFAULT_SORT_ORDER => order_choice_formed(order_id),
         _ => false,
     }
 }

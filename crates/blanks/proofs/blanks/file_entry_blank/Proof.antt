@@ -4,9 +4,11 @@ use Rattle.rules.specs.Blanks.{isBlankMetadataLogEntry}
 use Rattle.blanks.proofs.blanks.file_entry_blank.Statement.{statement}
 use Rattle.blanks.proofs.blanks.file_entry_blank.Tie as tie
 
-returns : tie.Need-returns
-unfolding isBlankMetadataLogEntry
-returns c = cc
-
 pub file-entry-blank-spec : {M : Type 1} → statement M
-file-entry-blank-spec = tie.close (tie.spec (λ c κs. search needs) (λ c κs. search needs) returns)
+unfolding isBlankMetadataLogEntry
+file-entry-blank-spec =
+    tie.close
+    (tie.spec
+    (λ c κs. search needs)
+    (λ c κs. search needs)
+    (λ c. cc))

@@ -4,9 +4,11 @@ use Rattle.rules.specs.Blanks.{isBlankLogEntry}
 use Rattle.blanks.proofs.blanks.log_entry_blank.Statement.{statement}
 use Rattle.blanks.proofs.blanks.log_entry_blank.Tie as tie
 
-returns : tie.Need-returns
-unfolding isBlankLogEntry
-returns c = cc
-
 pub log-entry-blank-spec : {M : Type 1} → statement M
-log-entry-blank-spec = tie.close (tie.spec (λ c κs. search needs) (λ c κs. search needs) returns)
+unfolding isBlankLogEntry
+log-entry-blank-spec =
+    tie.close
+    (tie.spec
+    (λ c κs. search needs)
+    (λ c κs. search needs)
+    (λ c. cc))

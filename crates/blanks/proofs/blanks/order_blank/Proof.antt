@@ -4,9 +4,11 @@ use Rattle.rules.specs.Blanks.{isBlankSortOrder}
 use Rattle.blanks.proofs.blanks.order_blank.Statement.{statement}
 use Rattle.blanks.proofs.blanks.order_blank.Tie as tie
 
-returns : tie.Need-returns
-unfolding isBlankSortOrder
-returns c = cc
-
 pub order-blank-spec : {M : Type 1} → statement M
-order-blank-spec = tie.close (tie.spec (λ c κs. search needs) (λ c κs. search needs) returns)
+unfolding isBlankSortOrder
+order-blank-spec =
+    tie.close
+    (tie.spec
+    (λ c κs. search needs)
+    (λ c κs. search needs)
+    (λ c. cc))

@@ -4,9 +4,10 @@ use Rattle.rules.specs.Blanks.{isTidySortOrder}
 use Rattle.blanks.proofs.blanks.order_tidy.Statement.{statement}
 use Rattle.blanks.proofs.blanks.order_tidy.Tie as tie
 
-returns : tie.Need-returns
-unfolding isTidySortOrder
-returns c = c .sort-fields-blank-from .ensures
-
 pub order-tidy-spec : {M : Type 1} → statement M
-order-tidy-spec = tie.close (tie.spec (λ c κs. search needs) returns)
+unfolding isTidySortOrder
+order-tidy-spec =
+    tie.close
+    (tie.spec
+    (λ c κs. search needs)
+    (λ c. c .sort-fields-blank-from .ensures))

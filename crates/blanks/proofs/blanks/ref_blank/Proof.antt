@@ -4,9 +4,11 @@ use Rattle.rules.specs.Blanks.{isBlankRef}
 use Rattle.blanks.proofs.blanks.ref_blank.Statement.{statement}
 use Rattle.blanks.proofs.blanks.ref_blank.Tie as tie
 
-returns : tie.Need-returns
-unfolding isBlankRef
-returns c = cc
-
 pub ref-blank-spec : {M : Type 1} → statement M
-ref-blank-spec = tie.close (tie.spec (λ c κs. search needs) (λ c κs. search needs) returns)
+unfolding isBlankRef
+ref-blank-spec =
+    tie.close
+    (tie.spec
+    (λ c κs. search needs)
+    (λ c κs. search needs)
+    (λ c. cc))

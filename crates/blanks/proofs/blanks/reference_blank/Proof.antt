@@ -4,9 +4,13 @@ use Rattle.rules.specs.Blanks.{isBlankReference}
 use Rattle.blanks.proofs.blanks.reference_blank.Statement.{statement}
 use Rattle.blanks.proofs.blanks.reference_blank.Tie as tie
 
-returns : tie.Need-returns
-unfolding isBlankReference
-returns c = cc
-
 pub reference-blank-spec : {M : Type 1} → statement M
-reference-blank-spec = tie.close (tie.spec (λ c κs. search needs) (λ c κs. search needs) (λ c κs. search needs) (λ c κs. search needs) returns)
+unfolding isBlankReference
+reference-blank-spec =
+    tie.close
+    (tie.spec
+    (λ c κs. search needs)
+    (λ c κs. search needs)
+    (λ c κs. search needs)
+    (λ c κs. search needs)
+    (λ c. cc))

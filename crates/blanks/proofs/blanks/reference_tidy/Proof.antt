@@ -4,9 +4,12 @@ use Rattle.rules.specs.Blanks.{isTidyReference}
 use Rattle.blanks.proofs.blanks.reference_tidy.Statement.{statement}
 use Rattle.blanks.proofs.blanks.reference_tidy.Tie as tie
 
-returns : tie.Need-returns
-unfolding isTidyReference
-returns c = cc
-
 pub reference-tidy-spec : {M : Type 1} → statement M
-reference-tidy-spec = tie.close (tie.spec (λ c κs. search needs) (λ c κs. search needs) (λ c κs. search needs) returns)
+unfolding isTidyReference
+reference-tidy-spec =
+    tie.close
+    (tie.spec
+    (λ c κs. search needs)
+    (λ c κs. search needs)
+    (λ c κs. search needs)
+    (λ c. cc))

@@ -4,9 +4,11 @@ use Rattle.rules.specs.Blanks.{isBlankSchema}
 use Rattle.blanks.proofs.blanks.schema_blank.Statement.{statement}
 use Rattle.blanks.proofs.blanks.schema_blank.Tie as tie
 
-returns : tie.Need-returns
-unfolding isBlankSchema
-returns c = cc
-
 pub schema-blank-spec : {M : Type 1} → statement M
-schema-blank-spec = tie.close (tie.spec (λ c κs. search needs) (λ c κs. search needs) returns)
+unfolding isBlankSchema
+schema-blank-spec =
+    tie.close
+    (tie.spec
+    (λ c κs. search needs)
+    (λ c κs. search needs)
+    (λ c. cc))

@@ -4,9 +4,10 @@ use Rattle.rules.specs.Blanks.{isBlankSchemaIds}
 use Rattle.blanks.proofs.blanks.schema_ids_blank.Statement.{statement}
 use Rattle.blanks.proofs.blanks.schema_ids_blank.Tie as tie
 
-returns : tie.Need-returns
-unfolding isBlankSchemaIds
-returns c = cc
-
 pub schema-ids-blank-spec : {M : Type 1} → statement M
-schema-ids-blank-spec = tie.close (tie.spec (λ c κs. search needs) returns)
+unfolding isBlankSchemaIds
+schema-ids-blank-spec =
+    tie.close
+    (tie.spec
+    (λ c κs. search needs)
+    (λ c. cc))

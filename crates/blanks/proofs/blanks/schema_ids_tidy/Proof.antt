@@ -4,9 +4,10 @@ use Rattle.rules.specs.Blanks.{isTidySchemaIds}
 use Rattle.blanks.proofs.blanks.schema_ids_tidy.Statement.{statement}
 use Rattle.blanks.proofs.blanks.schema_ids_tidy.Tie as tie
 
-returns : tie.Need-returns
-unfolding isTidySchemaIds
-returns c = c .schema-ids-blank-from .ensures
-
 pub schema-ids-tidy-spec : {M : Type 1} → statement M
-schema-ids-tidy-spec = tie.close (tie.spec (λ c κs. search needs) returns)
+unfolding isTidySchemaIds
+schema-ids-tidy-spec =
+    tie.close
+    (tie.spec
+    (λ c κs. search needs)
+    (λ c. c .schema-ids-blank-from .ensures))

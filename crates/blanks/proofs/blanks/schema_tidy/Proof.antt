@@ -4,9 +4,10 @@ use Rattle.rules.specs.Blanks.{isTidySchema}
 use Rattle.blanks.proofs.blanks.schema_tidy.Statement.{statement}
 use Rattle.blanks.proofs.blanks.schema_tidy.Tie as tie
 
-returns : tie.Need-returns
-unfolding isTidySchema
-returns c = c .fields-blank-from .ensures
-
 pub schema-tidy-spec : {M : Type 1} → statement M
-schema-tidy-spec = tie.close (tie.spec (λ c κs. search needs) returns)
+unfolding isTidySchema
+schema-tidy-spec =
+    tie.close
+    (tie.spec
+    (λ c κs. search needs)
+    (λ c. c .fields-blank-from .ensures))

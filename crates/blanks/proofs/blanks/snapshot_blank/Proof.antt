@@ -4,9 +4,13 @@ use Rattle.rules.specs.Blanks.{isBlankSnapshot}
 use Rattle.blanks.proofs.blanks.snapshot_blank.Statement.{statement}
 use Rattle.blanks.proofs.blanks.snapshot_blank.Tie as tie
 
-returns : tie.Need-returns
-unfolding isBlankSnapshot
-returns c = cc
-
 pub snapshot-blank-spec : {M : Type 1} → statement M
-snapshot-blank-spec = tie.close (tie.spec (λ c κs. search needs) (λ c κs. search needs) (λ c κs. search needs) (λ c κs. search needs) returns)
+unfolding isBlankSnapshot
+snapshot-blank-spec =
+    tie.close
+    (tie.spec
+    (λ c κs. search needs)
+    (λ c κs. search needs)
+    (λ c κs. search needs)
+    (λ c κs. search needs)
+    (λ c. cc))

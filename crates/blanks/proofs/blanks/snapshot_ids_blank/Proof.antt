@@ -4,9 +4,10 @@ use Rattle.rules.specs.Blanks.{isBlankSnapshotIds}
 use Rattle.blanks.proofs.blanks.snapshot_ids_blank.Statement.{statement}
 use Rattle.blanks.proofs.blanks.snapshot_ids_blank.Tie as tie
 
-returns : tie.Need-returns
-unfolding isBlankSnapshotIds
-returns c = cc
-
 pub snapshot-ids-blank-spec : {M : Type 1} → statement M
-snapshot-ids-blank-spec = tie.close (tie.spec (λ c κs. search needs) returns)
+unfolding isBlankSnapshotIds
+snapshot-ids-blank-spec =
+    tie.close
+    (tie.spec
+    (λ c κs. search needs)
+    (λ c. cc))

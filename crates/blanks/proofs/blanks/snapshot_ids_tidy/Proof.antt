@@ -4,9 +4,10 @@ use Rattle.rules.specs.Blanks.{isTidySnapshotIds}
 use Rattle.blanks.proofs.blanks.snapshot_ids_tidy.Statement.{statement}
 use Rattle.blanks.proofs.blanks.snapshot_ids_tidy.Tie as tie
 
-returns : tie.Need-returns
-unfolding isTidySnapshotIds
-returns c = c .snapshot-ids-blank-from .ensures
-
 pub snapshot-ids-tidy-spec : {M : Type 1} → statement M
-snapshot-ids-tidy-spec = tie.close (tie.spec (λ c κs. search needs) returns)
+unfolding isTidySnapshotIds
+snapshot-ids-tidy-spec =
+    tie.close
+    (tie.spec
+    (λ c κs. search needs)
+    (λ c. c .snapshot-ids-blank-from .ensures))

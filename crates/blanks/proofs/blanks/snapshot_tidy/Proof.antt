@@ -4,9 +4,10 @@ use Rattle.rules.specs.Blanks.{isTidySnapshot}
 use Rattle.blanks.proofs.blanks.snapshot_tidy.Statement.{statement}
 use Rattle.blanks.proofs.blanks.snapshot_tidy.Tie as tie
 
-returns : tie.Need-returns
-unfolding isTidySnapshot
-returns c = cc
-
 pub snapshot-tidy-spec : {M : Type 1} → statement M
-snapshot-tidy-spec = tie.close (tie.spec (λ c κs. search needs) returns)
+unfolding isTidySnapshot
+snapshot-tidy-spec =
+    tie.close
+    (tie.spec
+    (λ c κs. search needs)
+    (λ c. cc))

@@ -4,9 +4,10 @@ use Rattle.rules.specs.Blanks.{isBlankSortField}
 use Rattle.blanks.proofs.blanks.sort_field_blank.Statement.{statement}
 use Rattle.blanks.proofs.blanks.sort_field_blank.Tie as tie
 
-returns : tie.Need-returns
-unfolding isBlankSortField
-returns c = cc
-
 pub sort-field-blank-spec : {M : Type 1} → statement M
-sort-field-blank-spec = tie.close (tie.spec (λ c κs. search needs) returns)
+unfolding isBlankSortField
+sort-field-blank-spec =
+    tie.close
+    (tie.spec
+    (λ c κs. search needs)
+    (λ c. cc))

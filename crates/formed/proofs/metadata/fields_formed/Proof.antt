@@ -6,17 +6,13 @@ use Rattle.rules.proofs.Relaid.{length-counted}
 use Rattle.formed.proofs.metadata.fields_formed.Statement.{statement}
 use Rattle.formed.proofs.metadata.fields_formed.Tie as tie
 
-returns : tie.Need-returns
-unfolding isTidyFields fieldsFormed
-returns c =
-    let l = c .before .before .before .before .before .before .args .f .location in
-    rw (c .before .before .location-tidy .ensures, c .before .snapshot-id-zero .ensures, c .sequence-formed .ensures, length-counted 0 (l .bytes) (l .len))
-
 pub fields-formed-spec : {M : Type 1} → statement M
+unfolding isTidyFields fieldsFormed
 fields-formed-spec =
     tie.close
     (tie.spec
     (λ c κs. search needs)
     (λ c κs. search needs)
     (λ c κs. search needs)
-    returns)
+    (λ c. let l = c .before .before .before .before .before .before .args .f .location in
+    rw (c .before .before .location-tidy .ensures, c .before .snapshot-id-zero .ensures, c .sequence-formed .ensures, length-counted 0 (l .bytes) (l .len))))

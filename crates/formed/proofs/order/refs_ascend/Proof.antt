@@ -1,9 +1,7 @@
--- The loop asks of each element that its name is below the next one's, which are laid out.
+-- The loop asks of each name that it is below the next; both are laid out.
 use Prim.Native.Nat.{_-_}
 use native.Mathlib.Omega.{arith}
-use mathlib.Core.Path.{_≡_}
 use borrow.Author.Needs.{needs}
-use lib.ListN.{length}
 use Rattle.records.specs.Blanks.{noRef}
 use Rattle.rules.specs.Register as plain
 use Rattle.rules.specs.Names.{nameBelow}
@@ -21,28 +19,21 @@ Inv-loop t n ok₀ i₀ ok i = Ascended nameBelow (λ (x : plain.NamedRef). x .n
 abbrev μ-loop : tie.MeasureT-loop
 μ-loop t n ok₀ i₀ ok i = n - i
 
-has-slots : (c : tie.Start Inv-loop μ-loop) → length (c .args .t1 .items) ≡ 16
-has-slots c = search (needs, slots)
-
-name-is-below-requires : tie.Need-name-is-below-requires Inv-loop μ-loop
-name-is-below-requires c κs =
-    let i = c .before .before .before .before .before .loop .i in
-    let h = c .before .before .before .before .before .before .pre in
-    (laid-name h (i - 1) _ (omega arith), laid-name h i _ (omega arith))
-
 pub refs-ascend-spec : {M : Type 1} → statement M
 refs-ascend-spec =
     tie.close
     (tie.spec
     Inv-loop
     μ-loop
-    (λ c. ascended-start (omega (arith, has-slots c, refs-fit (c .pre))))
+    (λ c. ascended-start 16 (search (needs, slots)) (refs-fit (c .pre)))
     (λ c. search needs)
     (λ c. omega (arith, refs-fit (c .before .before .pre)))
     (λ c. omega (arith, refs-fit (c .before .before .pre)))
     (λ c. omega (arith, refs-fit (c .before .before .before .pre)))
     (λ c. omega (arith, refs-fit (c .before .before .before .pre)))
-    name-is-below-requires
+    (λ c κs. let i = c .before .before .before .before .before .loop .i in
+    let h = c .before .before .before .before .before .before .pre in
+    (laid-name h (i - 1) _ (omega arith), laid-name h i _ (omega arith)))
     (λ c. omega (arith, refs-fit (c .before .before .before .before .before .before .before .pre)))
     (λ c. search needs)
     (λ c. let l = c .before .before .before .before .before .before in ascended-on (l .loop .inv) names-ordered _ (c .before .before .before .before .before .loop-test .taken) (c .name-is-below .ensures))

@@ -1,9 +1,6 @@
 -- The loop asks of each element that it is below the next.
 use Prim.Native.Nat.{_-_}
-use native.Mathlib.Omega.{arith}
-use mathlib.Core.Path.{_≡_}
 use borrow.Author.Needs.{needs}
-use lib.ListN.{length}
 use lib.Signed.{ltZ}
 use Rattle.records.specs.Blanks.{noSnapshot}
 use Rattle.rules.specs.Register as plain
@@ -20,16 +17,13 @@ Inv-loop t n ok₀ i₀ ok i = Ascended ltZ (λ (x : plain.Snapshot). x .id) rea
 abbrev μ-loop : tie.MeasureT-loop
 μ-loop t n ok₀ i₀ ok i = n - i
 
-has-slots : (c : tie.Start Inv-loop μ-loop) → length (c .args .t1 .items) ≡ 64
-has-slots c = search (needs, slots)
-
 pub snapshots-ascend-spec : {M : Type 1} → statement M
 snapshots-ascend-spec =
     tie.close
     (tie.spec
     Inv-loop
     μ-loop
-    (λ c. ascended-start (omega (arith, has-slots c, c .pre)))
+    (λ c. ascended-start 64 (search (needs, slots)) (c .pre))
     (λ c. search needs)
     (λ c. search needs)
     (λ c. search needs)

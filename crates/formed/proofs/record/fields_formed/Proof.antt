@@ -1,9 +1,6 @@
 -- The loop asks of each field that its id is at least 1 and that no field after it has the same.
 use Prim.Native.Nat.{_-_}
-use native.Mathlib.Omega.{arith}
-use mathlib.Core.Path.{_≡_}
 use borrow.Author.Needs.{needs}
-use lib.ListN.{length}
 use Rattle.blanks.proofs.Scans.{slots}
 use Rattle.formed.proofs.Fields.{Checked, checked-start, checked-on, checked-end}
 use Rattle.formed.proofs.record.fields_formed.Statement.{statement}
@@ -15,16 +12,13 @@ Inv-loop s n ok₀ i₀ ok i = Checked (s .count) (s .items) i ok
 abbrev μ-loop : tie.MeasureT-loop
 μ-loop s n ok₀ i₀ ok i = n - i
 
-has-slots : (c : tie.Start Inv-loop μ-loop) → length (c .args .t1 .items) ≡ 32
-has-slots c = search (needs, slots)
-
 pub fields-formed-spec : {M : Type 1} → statement M
 fields-formed-spec =
     tie.close
     (tie.spec
     Inv-loop
     μ-loop
-    (λ c. checked-start (omega (arith, has-slots c, c .pre)))
+    (λ c. checked-start 32 (search (needs, slots)) (c .pre))
     (λ c. search needs)
     (λ c. search needs)
     (λ c. search needs)

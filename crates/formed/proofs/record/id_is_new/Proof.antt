@@ -1,10 +1,8 @@
 -- The loop asks of each counted field from a place on that its id is another.
 use Prim.Native.Nat.{_-_}
-use native.Mathlib.Omega.{arith}
-use mathlib.Core.Path.{_≡_, ap}
+use mathlib.Core.Path.{ap}
 use mathlib.Core.Bool.{true, not}
 use borrow.Author.Needs.{needs}
-use lib.ListN.{length}
 use Rattle.records.specs.declared.schema.SchemaField.{SchemaField}
 use Rattle.rules.specs.Words.{eqZ}
 use Rattle.blanks.proofs.Scans.{slots}
@@ -18,16 +16,13 @@ Inv-loop x from s n ok₀ i₀ ok i = Taken (λ (f : SchemaField). not (eqZ (x .
 abbrev μ-loop : tie.MeasureT-loop
 μ-loop x from s n ok₀ i₀ ok i = n - i
 
-has-slots : (c : tie.Start Inv-loop μ-loop) → length (c .args .t1 .items) ≡ 32
-has-slots c = search (needs, slots)
-
 pub id-is-new-spec : {M : Type 1} → statement M
 id-is-new-spec =
     tie.close
     (tie.spec
     Inv-loop
     μ-loop
-    (λ c. taken-start (omega (arith, has-slots c, c .pre)))
+    (λ c. taken-start 32 (search (needs, slots)) (c .pre))
     (λ c. search needs)
     (λ c. search needs)
     (λ c κs. search needs)

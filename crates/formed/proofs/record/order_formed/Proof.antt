@@ -6,15 +6,11 @@ use Rattle.formed.proofs.Counted.{read-none}
 use Rattle.formed.proofs.record.order_formed.Statement.{statement}
 use Rattle.formed.proofs.record.order_formed.Tie as tie
 
-returns : tie.Need-returns
-returns c =
-    let o = c .before .before .before .args .o in
-    rw (c .before .order-id-zero .ensures, c .offered-order-formed .ensures, read-none readSortField noSortField (o .items) (o .count))
-
 pub order-formed-spec : {M : Type 1} → statement M
 order-formed-spec =
     tie.close
     (tie.spec
     (λ c κs. search needs)
     (λ c κs. search needs)
-    returns)
+    (λ c. let o = c .before .before .before .args .o in
+    rw (c .before .order-id-zero .ensures, c .offered-order-formed .ensures, read-none readSortField noSortField (o .items) (o .count))))

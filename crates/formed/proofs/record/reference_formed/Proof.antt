@@ -4,11 +4,6 @@ use Rattle.rules.proofs.Relaid.{flag-given}
 use Rattle.formed.proofs.record.reference_formed.Statement.{statement}
 use Rattle.formed.proofs.record.reference_formed.Tie as tie
 
-returns : tie.Need-returns
-returns c =
-    let r = c .before .before .before .before .before .before .before .before .args .r in
-    rw (c .before .before .before .snapshot-id-formed .ensures, c .before .before .min-formed .ensures, c .before .age-formed .ensures, c .age-formed2 .ensures, flag-given (r .«has_min») (r .«min_snapshots_to_keep» .0), flag-given (r .«has_age») (r .«max_snapshot_age_ms» .0))
-
 pub reference-formed-spec : {M : Type 1} → statement M
 reference-formed-spec =
     tie.close
@@ -17,4 +12,5 @@ reference-formed-spec =
     (λ c κs. search needs)
     (λ c κs. search needs)
     (λ c κs. search needs)
-    returns)
+    (λ c. let r = c .before .before .before .before .before .before .before .before .args .r in
+    rw (c .before .before .before .snapshot-id-formed .ensures, c .before .before .min-formed .ensures, c .before .age-formed .ensures, c .age-formed2 .ensures, flag-given (r .«has_min») (r .«min_snapshots_to_keep» .0), flag-given (r .«has_age») (r .«max_snapshot_age_ms» .0))))

@@ -9,23 +9,15 @@ use Rattle.formed.proofs.Counted.{too-many, few-enough}
 use Rattle.formed.proofs.record.schema_formed.Statement.{statement}
 use Rattle.formed.proofs.record.schema_formed.Tie as tie
 
-returns : tie.Need-returns
-returns c =
-    let s = c .before .before .args .s in
-    sym (rw (too-many readSchemaField noSchemaField (s .items) (s .count) 32 (c .if1 .taken), and-false (nonNeg (s .«schema_id» .0))))
-
-returns-2 : tie.Need-returns-2
-returns-2 c =
-    let e = c .before .before in
-    let s = e .before .before .args .s in
-    rw (c .before .schema-id-formed .ensures, c .fields-formed .ensures, few-enough readSchemaField noSchemaField (s .items) (s .count) 32 (e .if1 .left), and-true (nonNeg (s .«schema_id» .0)))
-    (sym (and-assoc (nonNeg (s .«schema_id» .0)) _ _))
-
 pub schema-formed-spec : {M : Type 1} → statement M
 schema-formed-spec =
     tie.close
     (tie.spec
-    returns
+    (λ c. let s = c .before .before .args .s in
+    sym (rw (too-many readSchemaField noSchemaField (s .items) (s .count) 32 (c .if1 .taken), and-false (nonNeg (s .«schema_id» .0)))))
     (λ c κs. search needs)
     (λ c κs. search needs)
-    returns-2)
+    (λ c. let e = c .before .before in
+    let s = e .before .before .args .s in
+    rw (c .before .schema-id-formed .ensures, c .fields-formed .ensures, few-enough readSchemaField noSchemaField (s .items) (s .count) 32 (e .if1 .left), and-true (nonNeg (s .«schema_id» .0)))
+    (sym (and-assoc (nonNeg (s .«schema_id» .0)) _ _))))

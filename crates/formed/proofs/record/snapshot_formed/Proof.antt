@@ -5,11 +5,6 @@ use Rattle.blanks.proofs.Signs.{behind-flag}
 use Rattle.formed.proofs.record.snapshot_formed.Statement.{statement}
 use Rattle.formed.proofs.record.snapshot_formed.Tie as tie
 
-returns : tie.Need-returns
-returns c =
-    let s = c .before .before .before .before .before .before .args .s in
-    rw (c .before .before .snapshot-id-formed .ensures, c .before .snapshot-id-formed2 .ensures, c .sequence-formed .ensures, behind-flag nonNeg (s .«has_parent») (s .«parent_snapshot_id» .0))
-
 pub snapshot-formed-spec : {M : Type 1} → statement M
 snapshot-formed-spec =
     tie.close
@@ -17,4 +12,5 @@ snapshot-formed-spec =
     (λ c κs. search needs)
     (λ c κs. search needs)
     (λ c κs. search needs)
-    returns)
+    (λ c. let s = c .before .before .before .before .before .before .args .s in
+    rw (c .before .before .snapshot-id-formed .ensures, c .before .snapshot-id-formed2 .ensures, c .sequence-formed .ensures, behind-flag nonNeg (s .«has_parent») (s .«parent_snapshot_id» .0))))

@@ -18,11 +18,8 @@ Inv-loop t n ok₀ i₀ ok i =
 abbrev μ-loop : tie.MeasureT-loop
 μ-loop t n ok₀ i₀ ok i = 128 - i
 
-returns : tie.Need-returns Inv-loop μ-loop
-unfolding isTidyMetadataLog metadataLogFormed
-returns c = filled-end (c .before .loop .inv) noMetadataLogEntry (c .loop-test .left)
-
 pub metadata-log-formed-spec : {M : Type 1} → statement M
+unfolding isTidyMetadataLog metadataLogFormed
 metadata-log-formed-spec =
     tie.close
     (tie.spec
@@ -35,4 +32,4 @@ metadata-log-formed-spec =
     (λ c. search needs)
     (λ c. search needs)
     (λ c. let l = c .before .before .before in filled-on (l .loop .inv) _ (c .before .before .loop-test .taken) (c .file-slot .ensures))
-    returns)
+    (λ c. filled-end (c .before .loop .inv) noMetadataLogEntry (c .loop-test .left)))

@@ -16,11 +16,8 @@ Inv-loop t n ok₀ i₀ ok i = Filled readSchema isTidySchema schemaFormed isBla
 abbrev μ-loop : tie.MeasureT-loop
 μ-loop t n ok₀ i₀ ok i = 16 - i
 
-returns : tie.Need-returns Inv-loop μ-loop
-unfolding isTidySchemas
-returns c = filled-end (c .before .loop .inv) noSchema (c .loop-test .left)
-
 pub schemas-filled-spec : {M : Type 1} → statement M
+unfolding isTidySchemas
 schemas-filled-spec =
     tie.close
     (tie.spec
@@ -33,4 +30,4 @@ schemas-filled-spec =
     (λ c. search needs)
     (λ c. search needs)
     (λ c. let l = c .before .before .before in filled-on (l .loop .inv) _ (c .before .before .loop-test .taken) (c .schema-slot .ensures))
-    returns)
+    (λ c. filled-end (c .before .loop .inv) noSchema (c .loop-test .left)))

@@ -22,13 +22,8 @@ Inv-loop t n ok₀ i₀ ok i =
 abbrev μ-loop : tie.MeasureT-loop
 μ-loop t n ok₀ i₀ ok i = 128 - i
 
-returns : tie.Need-returns Inv-loop μ-loop
-unfolding isTidySnapshotLog snapshotLogFormed
-returns c =
-    let t = c .before .before .args .t1 in
-    filled-end (c .before .loop .inv) noLogEntry (c .loop-test .left) ∙ rw (all-tidy 128 isBlankLogEntry (t .items) (t .count))
-
 pub snapshot-log-formed-spec : {M : Type 1} → statement M
+unfolding isTidySnapshotLog snapshotLogFormed
 snapshot-log-formed-spec =
     tie.close
     (tie.spec
@@ -41,4 +36,5 @@ snapshot-log-formed-spec =
     (λ c. search needs)
     (λ c. search needs)
     (λ c. let l = c .before .before .before in filled-on (l .loop .inv) _ (c .before .before .loop-test .taken) (c .log-slot .ensures))
-    returns)
+    (λ c. let t = c .before .before .args .t1 in
+    filled-end (c .before .loop .inv) noLogEntry (c .loop-test .left) ∙ rw (all-tidy 128 isBlankLogEntry (t .items) (t .count))))

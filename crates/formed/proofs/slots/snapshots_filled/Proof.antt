@@ -16,11 +16,8 @@ Inv-loop t n ok₀ i₀ ok i = Filled readSnapshot isTidySnapshot snapshotFormed
 abbrev μ-loop : tie.MeasureT-loop
 μ-loop t n ok₀ i₀ ok i = 64 - i
 
-returns : tie.Need-returns Inv-loop μ-loop
-unfolding isTidySnapshots
-returns c = filled-end (c .before .loop .inv) noSnapshot (c .loop-test .left)
-
 pub snapshots-filled-spec : {M : Type 1} → statement M
+unfolding isTidySnapshots
 snapshots-filled-spec =
     tie.close
     (tie.spec
@@ -33,4 +30,4 @@ snapshots-filled-spec =
     (λ c. search needs)
     (λ c. search needs)
     (λ c. let l = c .before .before .before in filled-on (l .loop .inv) _ (c .before .before .loop-test .taken) (c .snapshot-slot .ensures))
-    returns)
+    (λ c. filled-end (c .before .loop .inv) noSnapshot (c .loop-test .left)))

@@ -4,21 +4,6 @@ use Rattle.formed.proofs.Used.{update-tidy}
 use Rattle.formed.proofs.update.is_tidy.Statement.{statement}
 use Rattle.formed.proofs.update.is_tidy.Tie as tie
 
-returns : tie.Need-returns
-returns c =
-    update-tidy (c .before .before .before .before .before .before .before .before .before .before .before .before .before .before .before .before .before .before .before .before .before .before .before .args .u)
-    (c .before .before .before .before .before .before .before .before .before .before .zeros-from .ensures)
-    (c .before .before .before .before .before .before .before .before .before .location-fits .ensures)
-    (c .before .before .before .before .before .before .before .before .snapshot-fits .ensures)
-    (c .before .before .before .before .before .before .before .snapshot-ids-fit .ensures)
-    (c .before .before .before .before .before .before .ref-name-fits .ensures)
-    (c .before .before .before .before .before .reference-fits .ensures)
-    (c .before .before .before .before .schema-fits .ensures)
-    (c .before .before .before .schema-id-zero .ensures)
-    (c .before .before .schema-ids-fit .ensures)
-    (c .before .order-fits .ensures)
-    (c .order-id-zero .ensures)
-
 pub is-tidy-spec : {M : Type 1} → statement M
 is-tidy-spec =
     tie.close
@@ -35,4 +20,15 @@ is-tidy-spec =
     (λ c κs. search needs)
     (λ c κs. search needs)
     (λ c κs. search needs)
-    returns)
+    (λ c. update-tidy (c .before .before .before .before .before .before .before .before .before .before .before .before .before .before .before .before .before .before .before .before .before .before .before .args .u)
+    (c .before .before .before .before .before .before .before .before .before .before .zeros-from .ensures)
+    (c .before .before .before .before .before .before .before .before .before .location-fits .ensures)
+    (c .before .before .before .before .before .before .before .before .snapshot-fits .ensures)
+    (c .before .before .before .before .before .before .before .snapshot-ids-fit .ensures)
+    (c .before .before .before .before .before .before .ref-name-fits .ensures)
+    (c .before .before .before .before .before .reference-fits .ensures)
+    (c .before .before .before .before .schema-fits .ensures)
+    (c .before .before .before .schema-id-zero .ensures)
+    (c .before .before .schema-ids-fit .ensures)
+    (c .before .order-fits .ensures)
+    (c .order-id-zero .ensures)))

@@ -1,33 +1,19 @@
 -- A kind that uses the record asks that it is tidy, and any other that it is blank, from which it is tidy.
-use mathlib.Core.Path.{_∙_}
 use mathlib.Core.List.{[], _∷_}
 use borrow.Author.Needs.{needs}
-use borrow.Author.Tests.{eq-eqb, ne-eqb}
-use lib.Dec.{eqb}
-use Rattle.rules.specs.Words.{any}
-use Rattle.rules.specs.Blanks.{isTidySnapshotIds, isBlankSnapshotIds}
+use Rattle.rules.specs.Blanks.{isBlankSnapshotIds}
 use Rattle.rules.specs.Kinds.{removeSnapshotsKind}
-use Rattle.formed.proofs.Used.{when-used, when-unused, one-kind, blank-snapshot-ids-tidy}
+use Rattle.formed.proofs.Used.{fits-used, fits-unused, is-kind, is-no-kind, blank-snapshot-ids-tidy}
 use Rattle.formed.proofs.update.snapshot_ids_fit.Statement.{statement}
 use Rattle.formed.proofs.update.snapshot_ids_fit.Tie as tie
-
-returns : tie.Need-returns
-returns c =
-    let k = c .before .before .args .k in
-    let x = c .before .before .args .x in
-    c .snapshot-ids-tidy .ensures ∙ when-used (any (eqb k) (removeSnapshotsKind ∷ [])) (isBlankSnapshotIds x) (isTidySnapshotIds x) (one-kind k removeSnapshotsKind ∙ eq-eqb k removeSnapshotsKind (c .before .if1 .taken))
-
-returns-2 : tie.Need-returns-2
-returns-2 c =
-    let k = c .before .before .args .k in
-    let x = c .before .before .args .x in
-    c .snapshot-ids-blank .ensures ∙ when-unused (any (eqb k) (removeSnapshotsKind ∷ [])) (isBlankSnapshotIds x) (isTidySnapshotIds x) (one-kind k removeSnapshotsKind ∙ ne-eqb k removeSnapshotsKind (c .before .if1 .left)) (blank-snapshot-ids-tidy x)
 
 pub snapshot-ids-fit-spec : {M : Type 1} → statement M
 snapshot-ids-fit-spec =
     tie.close
     (tie.spec
     (λ c κs. search needs)
-    returns
+    (λ c. let a = c .before .before .args in
+    fits-used (removeSnapshotsKind ∷ []) (a .k) (isBlankSnapshotIds (a .x)) (is-kind (a .k) removeSnapshotsKind (c .before .if1 .taken)) (c .snapshot-ids-tidy .ensures))
     (λ c κs. search needs)
-    returns-2)
+    (λ c. let a = c .before .before .args in
+    fits-unused (removeSnapshotsKind ∷ []) (a .k) (is-no-kind (a .k) removeSnapshotsKind (c .before .if1 .left)) (blank-snapshot-ids-tidy (a .x)) (c .snapshot-ids-blank .ensures)))

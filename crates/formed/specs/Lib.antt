@@ -1,1 +1,0 @@
--- Nothing beside the rules.
