@@ -50,20 +50,27 @@ use Rattle.register.proofs.Beginning.{read-fields, read-refs, read-log,
 
 module _ {m : TableMetadata} {terms : RunTerms} {st : State} {b : TableMetadataBuilder} {t : Snapshots} {is : List ℤ} {r : Refs} {h : SnapshotLog} {s : Schemas} {o : SortOrders} {es : List TableUpdate} {c : ℕ} {ns : List ℤ} {a : ℕ} {ms : List ℤ} {k : ℕ} {f : Bool}
     (E : Ended m terms st b t is r h s o es c ns a ms k f) where
-  held-count : t .count ≡ length (st .metadata .snapshots)
+  pub held-count : t .count ≡ length (st .metadata .snapshots)
   unfolding laidSnapshots
   held-count = ap (λ (x : Snapshots). x .count) (E .tables .snapshots)
 
   pub held-fits : t .count ≤ 64
   held-fits = omega (arith, held-count, snapshots-fit E)
 
-  pub adds-fit : a ≤ 64
+  -- no more snapshots are added or become current than there are entries
+  pub adds-most : a ≤ length (st .log)
   unfolding additions
-  adds-fit = omega (arith, E .logs .adds, collect-length addition (st .log), E .room)
+  adds-most = omega (arith, E .logs .adds, collect-length addition (st .log))
 
-  pub mains-fit : k ≤ 64
+  pub mains-most : k ≤ length (st .log)
   unfolding logsMain
-  mains-fit = omega (arith, E .logs .mains, collect-length mainTarget (st .log), E .room)
+  mains-most = omega (arith, E .logs .mains, collect-length mainTarget (st .log))
+
+  adds-fit : a ≤ 64
+  adds-fit = omega (arith, adds-most, E .room)
+
+  mains-fit : k ≤ 64
+  mains-fit = omega (arith, mains-most, E .room)
 
   pub held-ids : take (t .count) is ≡ idsOf (st .metadata .snapshots)
   held-ids = rw (E .tables .ids, held-count, ← (length-map (st .metadata .snapshots) (λ (x : plain.Snapshot). x .id))) (pad-front (pos 0) 64 (idsOf (st .metadata .snapshots)))

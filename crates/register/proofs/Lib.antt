@@ -10,3 +10,5 @@ mod Groups
 mod Taken
 mod Closed
 mod Added
+mod Setting
+mod Pointing

@@ -31,7 +31,7 @@ or-true true = refl
 or-true false = refl
 
 -- an array of signed numbers, or of entries, with one more
-stored : {A : Type 0} (z : A) (l l′ : List A) (x : A) {xs : List A} {n : ℕ} → xs ≡ pad 64 z l → n ≡ length l → length l < 64 → l′ ≡ l ++ (x ∷ []) → set xs n x ≡ pad 64 z l′
+pub stored : {A : Type 0} (z : A) (l l′ : List A) (x : A) {xs : List A} {n : ℕ} → xs ≡ pad 64 z l → n ≡ length l → length l < 64 → l′ ≡ l ++ (x ∷ []) → set xs n x ≡ pad 64 z l′
 stored z l l′ x {xs} {n} e k h q = rw (e, k, q) (pad-push z 64 l x h)
 
 counted : {A : Type 0} (l l′ : List A) (x : A) {n : ℕ} → n ≡ length l → l′ ≡ l ++ (x ∷ []) → n + 1 ≡ length l′
