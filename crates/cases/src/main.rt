@@ -6,7 +6,6 @@ use numbers::input::Place;
 use numbers::input::empty_input;
 use numbers::input::is_good;
 use numbers::input::is_used_up;
-use numbers::input::spoil;
 use numbers::input::start;
 use numbers::output::Output;
 use numbers::output::empty_output;
@@ -14,25 +13,20 @@ use numbers::output::flush;
 use numbers::output::put_line_end;
 
 mod leaf;
+mod runs;
 mod walks;
-
-// A run is not answered yet; at the end of the input there is nothing to answer.
-fn refuse(kind: u64, place: &mut Place) {
-    if kind == 1 {
-        spoil(place);
-    }
-}
 
 // Reads the rest of a case of this kind, and answers it if it is good.
 fn answer(kind: u64, input: &mut Input, place: &mut Place, output: &mut Output, end: &mut usize) {
     match kind {
+        1 => runs::run(input, place, output, end),
         2 => walks::ids(input, place, output, end),
         3 => walks::records(input, place, output, end),
         4 => leaf::limit(input, place, output, end),
         5 => leaf::window(input, place, output, end),
         6 => leaf::row_ids(input, place, output, end),
         7 => leaf::trim(input, place, output, end),
-        _ => refuse(kind, place),
+        _ => {}
     }
 }
 
