@@ -33,18 +33,18 @@ use Rattle.rules.proofs.Tables.{keep-length}
 use Rattle.rules.specs.Run.{weight}
 use Rattle.rules.specs.Kinds.{readUpdate, readUpdates, laidUpdate}
 use Rattle.rules.specs.Answer.{readTerms}
-use Rattle.register.specs.Standing.{startNumber, Standing, Ended, isFieldKind}
-use Rattle.register.proofs.Reading.{formed-tidy, formed-kind, is-field, is-schema-9, is-schema-11, read-4, read-5, read-6, read-7, read-8, snapshot-kind, here, weight-read, counts, group-field, group-9, group-11, group-12}
-use Rattle.register.proofs.Started.{starts, refused-start, sum-counts}
-use Rattle.register.proofs.Effects.{group}
-use Rattle.register.proofs.Moving.{fits, ends}
-use Rattle.register.proofs.Beginning.{standing-start, start-snapshots, laid-snapshots, laid-refs, laid-schemas, laid-orders, location-fits, snapshots-ascend, schemas-ascend, orders-formed, schema-held, read-refs, refs-ascend}
-use Rattle.register.proofs.Taken.{asked-laid, name-5, name-7, name-8, snapshot-back, reference-back, removal-entry, gone-entry, laid-of, holds-some, holds-none}
-use Rattle.register.proofs.Added.{entries-within, last-some, last-none, has-room, stored-last, id-last, put-new, put-laid, put-tables, put-ids, addition-done}
-use Rattle.register.proofs.Setting.{Adds, add-refused, Midway, set-midway, commit-tagged, commit-midway}
-use Rattle.register.proofs.Pointing.{Sought, Aimed, old-held, old-none, old-back, same-held, other-held, none-held, set-number, spot-held, ref-room, log-room, own-added, own-kept, ref-replaced, ref-put, settled, set-other, set-main}
-use Rattle.register.proofs.Closed.{held-ids, held-fits, held-within, held-slice, adds-within, added-slice, adds-most, mains-most}
-use Rattle.register.proofs.Groups.{removed-none, removed-some, gone-none, gone-some, not-formed-refused, check-refused, nothing-changed, fields-changed, schemas-changed, orders-changed}
+use Rattle.standing.specs.Standing.{startNumber, Standing, Ended, isFieldKind}
+use Rattle.standing.proofs.Reading.{formed-tidy, formed-kind, is-field, is-schema-9, is-schema-11, read-4, read-5, read-6, read-7, read-8, snapshot-kind, here, weight-read, counts, group-field, group-9, group-11, group-12}
+use Rattle.standing.proofs.Started.{starts, refused-start, sum-counts}
+use Rattle.standing.proofs.Effects.{group}
+use Rattle.standing.proofs.Moving.{fits, ends}
+use Rattle.standing.proofs.Beginning.{standing-start, start-snapshots, laid-snapshots, laid-refs, laid-schemas, laid-orders, location-fits, snapshots-ascend, schemas-ascend, orders-formed, schema-held, read-refs, refs-ascend}
+use Rattle.standing.proofs.Taken.{asked-laid, name-5, name-7, name-8, snapshot-back, reference-back, removal-entry, gone-entry, laid-of, holds-some, holds-none}
+use Rattle.standing.proofs.Added.{entries-within, last-some, last-none, has-room, stored-last, id-last, put-new, put-laid, put-tables, put-ids, addition-done}
+use Rattle.standing.proofs.Setting.{Adds, add-refused, Midway, set-midway, commit-tagged, commit-midway}
+use Rattle.standing.proofs.Pointing.{Sought, Aimed, old-held, old-none, old-back, same-held, other-held, none-held, set-number, spot-held, ref-room, log-room, own-added, own-kept, ref-replaced, ref-put, settled, set-other, set-main}
+use Rattle.standing.proofs.Closed.{held-ids, held-fits, held-within, held-slice, adds-within, added-slice, adds-most, mains-most}
+use Rattle.standing.proofs.Groups.{removed-none, removed-some, gone-none, gone-some, not-formed-refused, check-refused, nothing-changed, fields-changed, schemas-changed, orders-changed}
 use Rattle.register.proofs.run.Statement.{statement}
 use Rattle.register.proofs.run.Tie as tie
 use Rattle.register.proofs.run.Reads as reads
@@ -71,10 +71,10 @@ use Rattle.builder.proofs.snapshots.remove_snapshots.Reads as remove-snapshots-
 use Rattle.formed.proofs.update.is_formed.Reads as is-formed-reads
 use Rattle.records.proofs.reference.NamedRef.blank.Reads as reference-NamedRef-blank-reads
 use Rattle.records.proofs.update.TableUpdate.blank.Reads as update-TableUpdate-blank-reads
-use Rattle.register.proofs.ending.Reads as ending-reads
-use Rattle.register.proofs.is_field_kind.Reads as is-field-kind-reads
-use Rattle.register.proofs.refused.Reads as refused-reads
-use Rattle.register.proofs.start_number.Reads as start-number-reads
+use Rattle.standing.proofs.ending.Reads as ending-reads
+use Rattle.standing.proofs.is_field_kind.Reads as is-field-kind-reads
+use Rattle.standing.proofs.refused.Reads as refused-reads
+use Rattle.standing.proofs.start_number.Reads as start-number-reads
 use Rattle.tables.specs.Laid.{LaidName}
 use Rattle.tables.specs.Places.{indexOf}
 use Rattle.records.specs.declared.snapshot.SnapshotLog.{SnapshotLog}

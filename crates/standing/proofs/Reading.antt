@@ -22,8 +22,8 @@ use Rattle.rules.specs.Layout.{counted, readRefName, readSnapshot, readReferenc
 use Rattle.rules.specs.Kinds.{isTidyUpdate, kindWeight, atKind, readKind, readUpdate, readUpdates}
 use Rattle.rules.proofs.Checks.{and-left, and-right, by-either, neither, by-test}
 use Rattle.rules.proofs.Relaid.{counted-take, length-counted}
-use Rattle.register.specs.Standing.{isFieldKind}
-use Rattle.register.proofs.Effects.{group}
+use Rattle.standing.specs.Standing.{isFieldKind}
+use Rattle.standing.proofs.Effects.{group}
 
 -- ---- by its kind
 

@@ -44,9 +44,9 @@ use Rattle.close.specs.declared.history.History.{History}
 use Rattle.close.specs.declared.files.FileLogs.{FileLogs}
 use Rattle.close.specs.Facts.{addition, additions, Told}
 use Rattle.close.specs.Answers.{HistoryOf, Handed, Filed, FilesOf}
-use Rattle.register.specs.Standing.{Tables, Logs, Kept, Ended}
-use Rattle.register.proofs.Slots.{pad-length, pad-front, collect-length}
-use Rattle.register.proofs.Beginning.{read-fields, read-refs, read-log, read-schemas, read-orders, snapshots-fit, log-fit}
+use Rattle.standing.specs.Standing.{Tables, Logs, Kept, Ended}
+use Rattle.standing.proofs.Slots.{pad-length, pad-front, collect-length}
+use Rattle.standing.proofs.Beginning.{read-fields, read-refs, read-log, read-schemas, read-orders, snapshots-fit, log-fit}
 
 module _ {m : TableMetadata} {terms : RunTerms} {st : State} {b : TableMetadataBuilder} {t : Snapshots} {is : List ℤ} {r : Refs} {h : SnapshotLog} {s : Schemas} {o : SortOrders} {es : List TableUpdate} {c : ℕ} {ns : List ℤ} {a : ℕ} {ms : List ℤ} {k : ℕ} {f : Bool}
     (E : Ended m terms st b t is r h s o es c ns a ms k f) where

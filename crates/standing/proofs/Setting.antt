@@ -39,12 +39,12 @@ use Rattle.rules.proofs.ReplaySteps.{accepted-if}
 use Rattle.rules.proofs.SoundSnapshots.{add-snapshot-numbered, add-snapshot-sound}
 use Rattle.builder.specs.declared.builder.TableMetadataBuilder.{TableMetadataBuilder}
 use Rattle.builder.specs.Pieces.{laidBuilder, idsOf}
-use Rattle.register.specs.Standing.{startNumber, Tables, Logs, Kept, Ended, Standing}
-use Rattle.register.proofs.Effects.{Moves, add-moves}
-use Rattle.register.proofs.Logged.{push-addition}
-use Rattle.register.proofs.Moving.{fits, next}
-use Rattle.register.proofs.Groups.{check-refused}
-use Rattle.register.proofs.Added.{added-tables, addition-refused}
+use Rattle.standing.specs.Standing.{startNumber, Tables, Logs, Kept, Ended, Standing}
+use Rattle.standing.proofs.Effects.{Moves, add-moves}
+use Rattle.standing.proofs.Logged.{push-addition}
+use Rattle.standing.proofs.Moving.{fits, next}
+use Rattle.standing.proofs.Groups.{check-refused}
+use Rattle.standing.proofs.Added.{added-tables, addition-refused}
 
 -- the number of checks that fail, and of others after them
 first-before : (cs ds : List Check) → (firstOf cs ≡ 0 → ⊥) → firstOf (cs ++ ds) ≡ firstOf cs

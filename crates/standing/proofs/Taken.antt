@@ -28,7 +28,7 @@ use Rattle.rules.specs.Kinds.{readUpdate, isUnusedBlank, isUsedTidy, isTidyUpda
 use Rattle.rules.proofs.Checks.{Hold, parts, and-left, and-right}
 use Rattle.rules.proofs.Relaid.{fields-back, back-ref-name, back-snapshot, back-reference, zeroZ}
 use Rattle.tables.specs.Laid.{LaidName, LaidSnapshotIds, LaidSnapshots}
-use Rattle.register.proofs.Reading.{formed-tidy, read-5, read-6, read-7, read-8}
+use Rattle.standing.proofs.Reading.{formed-tidy, read-5, read-6, read-7, read-8}
 
 blank-id : (x : SnapshotId) → isBlankSnapshotId x ≡ true → x ≡ noSnapshotId
 blank-id x e = λ i. record { 0 = zeroZ (x .0) e i }

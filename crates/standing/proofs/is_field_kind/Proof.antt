@@ -4,10 +4,10 @@ use mathlib.Core.Bool.{Bool, true, false, _||_, true≢false}
 use mathlib.Core.Logic.{⊎-elim}
 use lib.Dec.{eqb, ltb}
 use borrow.Author.Tests.{lt-ltb, le-ltb}
-use Rattle.register.proofs.is_field_kind.Statement.{statement}
-use Rattle.register.proofs.is_field_kind.Tie as tie
-use Rattle.register.proofs.is_field_kind.Reads as reads
-use Rattle.register.proofs.is_field_kind.Lts as lts
+use Rattle.standing.proofs.is_field_kind.Statement.{statement}
+use Rattle.standing.proofs.is_field_kind.Tie as tie
+use Rattle.standing.proofs.is_field_kind.Reads as reads
+use Rattle.standing.proofs.is_field_kind.Lts as lts
 
 returns : tie.Need-returns
 returns c =

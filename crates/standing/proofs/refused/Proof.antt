@@ -1,9 +1,9 @@
 use Rattle.rules.specs.Answer.{laidOutcome}
 use borrow.Author.Needs.{needs}
-use Rattle.register.proofs.refused.Statement.{statement}
-use Rattle.register.proofs.refused.Tie as tie
-use Rattle.register.proofs.refused.Reads as reads
-use Rattle.register.proofs.refused.Lts as lts
+use Rattle.standing.proofs.refused.Statement.{statement}
+use Rattle.standing.proofs.refused.Tie as tie
+use Rattle.standing.proofs.refused.Reads as reads
+use Rattle.standing.proofs.refused.Lts as lts
 use Rattle.records.proofs.metadata.MetadataLog.blank.Reads as metadata-MetadataLog-blank-reads
 use Rattle.records.proofs.update.UpdateList.blank.Reads as update-UpdateList-blank-reads
 

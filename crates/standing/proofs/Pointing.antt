@@ -56,11 +56,11 @@ use Rattle.builder.proofs.Named.{named, named-long}
 use Rattle.builder.proofs.Positions.{found, first-at, snapshot-place, snapshot-found}
 use Rattle.builder.proofs.Wanted.{laid-ref}
 use Rattle.close.specs.Facts.{additions}
-use Rattle.register.specs.Standing.{Tables, Logs, Ended, Standing}
-use Rattle.register.proofs.Logged.{push-main, push-quiet, logs-addition}
-use Rattle.register.proofs.Beginning.{read-snapshots, read-refs, read-log, laid-snapshots, laid-refs, laid-log, refs-ascend}
-use Rattle.register.proofs.Closed.{held-ids, held-count, held-fits, added-ids}
-use Rattle.register.proofs.Setting.{Midway}
+use Rattle.standing.specs.Standing.{Tables, Logs, Ended, Standing}
+use Rattle.standing.proofs.Logged.{push-main, push-quiet, logs-addition}
+use Rattle.standing.proofs.Beginning.{read-snapshots, read-refs, read-log, laid-snapshots, laid-refs, laid-log, refs-ascend}
+use Rattle.standing.proofs.Closed.{held-ids, held-count, held-fits, added-ids}
+use Rattle.standing.proofs.Setting.{Midway}
 
 -- ---- a table in which the key is held
 

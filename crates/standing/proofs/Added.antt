@@ -43,11 +43,11 @@ use Rattle.rules.proofs.Reread.{reread-snapshots, reread-refs}
 use Rattle.builder.specs.declared.builder.TableMetadataBuilder.{TableMetadataBuilder}
 use Rattle.builder.specs.Pieces.{laidBuilder, idsOf, Took, Stepped}
 use Rattle.builder.specs.Answers.{Answers}
-use Rattle.register.specs.Standing.{startNumber, Tables, Logs, Kept, Ended, Standing}
-use Rattle.register.proofs.Effects.{Moves, moves, group, Aside, aside, Quiet}
-use Rattle.register.proofs.Logged.{push-addition}
-use Rattle.register.proofs.Moving.{fits, next, refusal, stays, took}
-use Rattle.register.proofs.Groups.{check-refused}
+use Rattle.standing.specs.Standing.{startNumber, Tables, Logs, Kept, Ended, Standing}
+use Rattle.standing.proofs.Effects.{Moves, moves, group, Aside, aside, Quiet}
+use Rattle.standing.proofs.Logged.{push-addition}
+use Rattle.standing.proofs.Moving.{fits, next, refusal, stays, took}
+use Rattle.standing.proofs.Groups.{check-refused}
 use Rattle.records.specs.declared.counters.Time.{Time}
 use Rattle.records.specs.declared.snapshot.Snapshot.{Snapshot}
 use Rattle.records.specs.declared.snapshot.SnapshotLogEntry.{SnapshotLogEntry}
@@ -63,10 +63,10 @@ use Rattle.tables.specs.Laid.{LaidSnapshots}
 use Rattle.builder.specs.Pieces.{lastTime, isAbove}
 use Rattle.builder.proofs.Positions.{last-at}
 use Rattle.builder.proofs.Last.{put-last}
-use Rattle.register.proofs.Beginning.{read-snapshots, read-log, laid-log, laid-snapshots, snapshots-ascend}
-use Rattle.register.proofs.Closed.{held-ids, held-count}
-use Rattle.register.proofs.Logged.{stored}
-use Rattle.register.proofs.Taken.{laid-of}
+use Rattle.standing.proofs.Beginning.{read-snapshots, read-log, laid-log, laid-snapshots, snapshots-ascend}
+use Rattle.standing.proofs.Closed.{held-ids, held-count}
+use Rattle.standing.proofs.Logged.{stored}
+use Rattle.standing.proofs.Taken.{laid-of}
 
 -- ---- what the checks leave
 

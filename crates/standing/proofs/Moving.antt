@@ -42,11 +42,11 @@ use Rattle.rules.proofs.Checks.{and-left, and-right}
 use Rattle.tables.specs.Laid.{LaidSnapshots, LaidRefs, LaidSnapshotLog, LaidSchemas, LaidOrders}
 use Rattle.builder.specs.declared.builder.TableMetadataBuilder.{TableMetadataBuilder}
 use Rattle.builder.specs.Pieces.{laidBuilder, Took, Stepped}
-use Rattle.register.specs.Standing.{startNumber, Tables, Logs, Kept, Ended, Standing}
-use Rattle.register.proofs.Effects.{Moves, moves, group, Aside, aside}
-use Rattle.register.proofs.Logged.{push-quiet}
-use Rattle.register.proofs.Started.{starts, started-answer}
-use Rattle.register.proofs.Reading.{all-read, read-length}
+use Rattle.standing.specs.Standing.{startNumber, Tables, Logs, Kept, Ended, Standing}
+use Rattle.standing.proofs.Effects.{Moves, moves, group, Aside, aside}
+use Rattle.standing.proofs.Logged.{push-quiet}
+use Rattle.standing.proofs.Started.{starts, started-answer}
+use Rattle.standing.proofs.Reading.{all-read, read-length}
 
 module _ {m : TableMetadata} {us : UpdateList} {terms : RunTerms} {text : List ℕ} {i : ℕ} {b : TableMetadataBuilder} {t : Snapshots} {is : List ℤ} {r : Refs} {h : SnapshotLog} {s : Schemas} {o : SortOrders} {es : List TableUpdate} {c : ℕ} {ns : List ℤ} {a : ℕ} {ms : List ℤ} {k : ℕ} {f : Bool}
     (S : Standing m us terms text i b t is r h s o es c ns a ms k f) (v : Update) (at : drop i (readUpdates us) ≡ v ∷ drop (i + 1) (readUpdates us)) where

@@ -42,11 +42,11 @@ use Rattle.rules.proofs.Reread.{reread-snapshots, reread-refs}
 use Rattle.builder.specs.declared.builder.TableMetadataBuilder.{TableMetadataBuilder}
 use Rattle.builder.specs.Pieces.{laidBuilder, idsOf, Took, Stepped}
 use Rattle.builder.specs.Answers.{Answers}
-use Rattle.register.specs.Standing.{startNumber, Tables, Logs, Kept, Ended, Standing}
-use Rattle.register.proofs.Effects.{Moves, moves, group, Aside, aside, Quiet}
-use Rattle.register.proofs.Logged.{push-quiet, push-removal}
-use Rattle.register.proofs.Moving.{fits, next, refusal, stays, took}
-use Rattle.register.proofs.Beginning.{read-snapshots, read-refs}
+use Rattle.standing.specs.Standing.{startNumber, Tables, Logs, Kept, Ended, Standing}
+use Rattle.standing.proofs.Effects.{Moves, moves, group, Aside, aside, Quiet}
+use Rattle.standing.proofs.Logged.{push-quiet, push-removal}
+use Rattle.standing.proofs.Moving.{fits, next, refusal, stays, took}
+use Rattle.standing.proofs.Beginning.{read-snapshots, read-refs}
 
 -- a removal of a ref changes no other table
 abbrev Leaves : State → State → Type 0

@@ -6,17 +6,17 @@ use mathlib.Core.Logic.{⊎-elim}
 use native.Mathlib.Omega.{arith}
 use borrow.Author.Needs.{needs}
 use borrow.Author.Tests.{not-true, not-false, ltb-true, ltb-false}
-use Rattle.register.specs.Standing.{startNumber}
+use Rattle.standing.specs.Standing.{startNumber}
 use Rattle.rules.specs.WellFormed.{metadataFormed}
 use Rattle.rules.specs.Blanks.{isTidyMetadata}
 use Rattle.rules.specs.Layout.{readMetadata}
-use Rattle.register.proofs.Started.{not-formed, file-long, too-many, starts-0}
-use Rattle.register.proofs.start_number.Statement.{statement}
-use Rattle.register.proofs.start_number.Tie as tie
-use Rattle.register.proofs.start_number.Reads as reads
-use Rattle.register.proofs.start_number.Lts as lts
+use Rattle.standing.proofs.Started.{not-formed, file-long, too-many, starts-0}
+use Rattle.standing.proofs.start_number.Statement.{statement}
+use Rattle.standing.proofs.start_number.Tie as tie
+use Rattle.standing.proofs.start_number.Reads as reads
+use Rattle.standing.proofs.start_number.Lts as lts
 use Rattle.formed.proofs.metadata.is_formed.Reads as is-formed-reads
-use Rattle.register.proofs.list_sum.Reads as list-sum-reads
+use Rattle.standing.proofs.list_sum.Reads as list-sum-reads
 
 is-formed-requires : tie.Need-is-formed-requires
 is-formed-requires c κs = search needs

@@ -37,8 +37,8 @@ use Rattle.tables.specs.Laid.{LaidSnapshots, LaidRefs, LaidSnapshotLog, LaidSch
 use Rattle.builder.specs.declared.builder.TableMetadataBuilder.{TableMetadataBuilder}
 use Rattle.builder.specs.Pieces.{fresh, laidBuilder, idsOf}
 use Rattle.close.specs.Facts.{additions}
-use Rattle.register.specs.Standing.{startNumber, Tables, Logs, Kept, Ended, Standing}
-use Rattle.register.proofs.Started.{Starts, starts, file-short}
+use Rattle.standing.specs.Standing.{startNumber, Tables, Logs, Kept, Ended, Standing}
+use Rattle.standing.proofs.Started.{Starts, starts, file-short}
 
 module _ (m : TableMetadata) (us : UpdateList) (terms : RunTerms) (text : List ℕ) (z : startNumber m us terms ≡ 0) where
   start : Starts m us terms

@@ -12,13 +12,13 @@ use Rattle.records.specs.declared.update.TableUpdate.{TableUpdate}
 use Rattle.rules.specs.Words.{total}
 use Rattle.rules.specs.Run.{weight, listSum}
 use Rattle.rules.specs.Kinds.{readUpdate, readUpdates}
-use Rattle.register.specs.Standing.{shortSum}
-use Rattle.register.proofs.Reading.{here, all-read, weight-read, counts}
-use Rattle.register.proofs.list_sum.Statement.{statement}
-use Rattle.register.proofs.list_sum.Tie as tie
-use Rattle.register.proofs.list_sum.Reads as reads
-use Rattle.register.proofs.list_sum.Lts as lts
-use Rattle.register.proofs.weight.Reads as weight-reads
+use Rattle.standing.specs.Standing.{shortSum}
+use Rattle.standing.proofs.Reading.{here, all-read, weight-read, counts}
+use Rattle.standing.proofs.list_sum.Statement.{statement}
+use Rattle.standing.proofs.list_sum.Tie as tie
+use Rattle.standing.proofs.list_sum.Reads as reads
+use Rattle.standing.proofs.list_sum.Lts as lts
+use Rattle.standing.proofs.weight.Reads as weight-reads
 
 -- what the logic reads past an array's end
 abbrev nothing : TableUpdate

@@ -26,8 +26,8 @@ use Rattle.rules.specs.Answer.{readTerms, laidOutcome, answer}
 use Rattle.rules.proofs.Checks.{parts, only-then, both}
 use Rattle.rules.proofs.Relaid.{length-counted}
 use Rattle.records.specs.Blanks.{noUpdate}
-use Rattle.register.specs.Standing.{startNumber, shortSum}
-use Rattle.register.proofs.Reading.{weighs, read-length}
+use Rattle.standing.specs.Standing.{startNumber, shortSum}
+use Rattle.standing.proofs.Reading.{weighs, read-length}
 
 module _ (m : TableMetadata) (us : UpdateList) (terms : RunTerms) where
   -- the name of the current file is not too long

@@ -18,9 +18,9 @@ use Rattle.rules.specs.Layout.{pad}
 use Rattle.rules.specs.Kinds.{laidUpdate}
 use Rattle.rules.proofs.ReplayLists.{any-append}
 use Rattle.close.specs.Facts.{addition, additions}
-use Rattle.register.specs.Standing.{Logs}
-use Rattle.register.proofs.Slots.{pad-push, collect-length, collect-none, collect-some}
-use Rattle.register.proofs.Effects.{Quiet}
+use Rattle.standing.specs.Standing.{Logs}
+use Rattle.standing.proofs.Slots.{pad-push, collect-length, collect-none, collect-some}
+use Rattle.standing.proofs.Effects.{Quiet}
 
 or-false : (b : Bool) → (b || false) ≡ b
 or-false true = refl

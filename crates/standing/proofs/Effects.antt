@@ -22,7 +22,7 @@ use Rattle.rules.specs.Updates.{effect}
 use Rattle.rules.specs.Run.{weight}
 use Rattle.rules.proofs.Checks.{by-test, by-option}
 use Rattle.close.specs.Facts.{addition}
-use Rattle.register.proofs.Slots.{last-cancels, no-longer}
+use Rattle.standing.proofs.Slots.{last-cancels, no-longer}
 
 -- ---- what no update changes, and how much one logs
 
