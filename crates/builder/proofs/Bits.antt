@@ -1,9 +1,7 @@
--- A signed number stands in a test by its bits, and two numbers are equal exactly if their bits are.
+-- A signed number that is read back from its bits, in the test whether two are equal.
 use mathlib.Core.Path.{_≡_, sym, ap, _∙_}
 use mathlib.Core.Bool.{true, false}
-use borrow.Author.Tests.{eqb-true, eqb-false}
 use borrow.Table.Steps.{cases}
-use lib.Dec.{eqb}
 use lib.IntN.{ℤ}
 use mir.Syntax.{Width}
 use mir.Val.{SFits, toZ, ofZ}
@@ -30,10 +28,3 @@ module _ {w : Width} where
 
     pub reads-not : (ofZ w a ≡ ofZ w b → ⊥) → eqZ a (toZ w (ofZ w b)) ≡ false
     reads-not h = unequal a (toZ w (ofZ w b)) (λ e. h (ap (ofZ w) (e ∙ toZ-ofZ g)))
-
-  -- the test on the bits is the rule's
-  pub test : (a b : ℤ) → SFits w a → SFits w b → eqb (ofZ w a) (ofZ w b) ≡ eqZ a b
-  test a b f g =
-      cases (eqb (ofZ w a) (ofZ w b))
-      (λ t. t ∙ sym (equal a b (same a f g (eqb-true (ofZ w a) (ofZ w b) t))))
-      (λ n. n ∙ sym (unequal a b (λ e. eqb-false (ofZ w a) (ofZ w b) n (ap (ofZ w) e))))

@@ -1,59 +1,40 @@
--- What a search in a table finds: the element at the place that it gives, which is laid out as the table is.
-use Prim.Native.Nat.{ℕ, zero, suc, _≤_, _<_}
-use mathlib.Core.Path.{_≡_, refl, sym, ap, _∙_}
-use mathlib.Core.Bool.{Bool, true, false, cond, false≢true, true≢false}
-use mathlib.Core.List.{List, [], _∷_, _++_, map}
+-- What a search in a table finds: the first that passes the test, which stands at the place that it gives.
+use Prim.Native.Nat.{ℕ, _≤_, _<_}
+use mathlib.Core.Path.{_≡_, _∙_}
+use mathlib.Core.Bool.{Bool, true, false, false≢true, true≢false}
 use mathlib.Core.Option.{Option, none, some}
-use native.Mathlib.Omega.{arith}
+use borrow.Author.Tests.{lt-ltb, le-ltb, ltb-true}
+use borrow.Table.Steps.{cases}
+use lib.Dec.{ltb}
 use lib.IntN.{ℤ}
-use lib.ListN.{length, getD}
-use Rattle.records.specs.declared.schema.Schema.{Schema}
-use Rattle.records.specs.declared.schema.Schemas.{Schemas}
+use lib.ListN.{getD}
 use Rattle.rules.specs.Words.{first}
-use Rattle.rules.specs.Register as plain
-use Rattle.rules.specs.Layout.{laidSchema, readSchemas, laidSchemas}
+use Rattle.rules.specs.Layout.{given}
 use Rattle.tables.specs.Places.{indexOf}
-use Rattle.tables.specs.Laid.{LaidSchemas}
+use Rattle.tables.proofs.Table.{Kind, Tidy, listed, read-length, at}
 use Rattle.builder.specs.Added.{Numbered}
+use Rattle.builder.proofs.Positions.{first-at}
 
-module _ {A : Type 0} (p : A → Bool) where
-  pub first-at : (l : List A) (d : A) → indexOf p l < length l → first p l ≡ some (getD l (indexOf p l) d)
-  first-at [] d h = absurd (omega arith)
-  first-at (x ∷ l) d h = go (p x) (first-at l d) h
-    where
-      go : (b : Bool) → (indexOf p l < length l → first p l ≡ some (getD l (indexOf p l) d)) → cond b 0 (suc (indexOf p l)) < suc (length l)
-          → cond b (some x) (first p l) ≡ some (getD (x ∷ l) (cond b 0 (suc (indexOf p l))) d)
-      go true ih h = refl
-      go false ih h = ih (omega arith)
+module _ {K : Kind} {t : K .Whole} (h : Tidy K t) (p : K .Plain → Bool) {i : ℕ} (q : i ≡ indexOf p (listed K t)) where
+  -- there is one exactly if the place is within the count
+  pub found-at : (d : K .Slot) → first p (listed K t) ≡ given (ltb i (K .count t)) (K .read (getD (K .items t) i d))
+  found-at d =
+      first-at p (K .read d) (listed K t)
+      ∙ rw (← q, read-length h)
+      (cases (ltb i (K .count t))
+      (λ b. rw (b, at h i d (ltb-true i (K .count t) b)))
+      (λ f. rw f))
 
-  pub first-none : (l : List A) → length l ≤ indexOf p l → first p l ≡ none
-  first-none [] h = refl
-  first-none (x ∷ l) h = go (p x) (first-none l) h
-    where
-      go : (b : Bool) → (length l ≤ indexOf p l → first p l ≡ none) → suc (length l) ≤ cond b 0 (suc (indexOf p l)) → cond b (some x) (first p l) ≡ none
-      go true ih h = absurd (omega arith)
-      go false ih h = ih (omega arith)
+  pub first-found : (d : K .Slot) → i < K .count t → first p (listed K t) ≡ some (K .read (getD (K .items t) i d))
+  first-found d b = found-at d ∙ rw (lt-ltb i (K .count t) b)
 
   -- the id of what is found
-  module _ (key : A → ℤ) (l : List A) (i : ℕ) (q : i ≡ indexOf p l) where
-    pub id-found : (d : A) → i < length l → _≡_ {A = Option ℤ} (elim (first p l) [ none ↦ none | some x ↦ some (key x) ]) (some (key (getD l i d)))
-    id-found d h = rw (first-at l d (rw q at h), q)
+  module _ (key : K .Plain → ℤ) where
+    pub id-found : (d : K .Slot) → i < K .count t → _≡_ {A = Option ℤ} (elim (first p (listed K t)) [ none ↦ none | some x ↦ some (key x) ]) (some (key (K .read (getD (K .items t) i d))))
+    id-found d b = rw (first-found d b)
 
-    pub id-none : length l ≤ i → _≡_ {A = Option ℤ} (elim (first p l) [ none ↦ none | some x ↦ some (key x) ]) none
-    id-none h = rw (first-none l (rw q at h))
-
-module _ {A B : Type 0} (ld : B → A) where
-  -- an element of a laid-out list is laid out itself
-  pub item : (l : List B) (rest : List A) (i : ℕ) (d : A) (e : B) → i < length l → getD (map ld l ++ rest) i d ≡ ld (getD l i e)
-  item [] rest i d e h = absurd (omega arith)
-  item (y ∷ l) rest zero d e h = refl
-  item (y ∷ l) rest (suc i) d e h = item l rest i d e (omega arith)
-
--- ---- schemas
-
-pub schema-at : (t : Schemas) → LaidSchemas t → (i : ℕ) (d : Schema) (e : plain.Schema) → i < length (readSchemas t) → getD (t .items) i d ≡ laidSchema (getD (readSchemas t) i e)
-unfolding laidSchemas
-schema-at t h i d e k = ap (λ (x : Schemas). getD (x .items) i d) (sym (h .back)) ∙ item laidSchema (readSchemas t) _ i d e k
+    pub id-none : K .count t ≤ i → _≡_ {A = Option ℤ} (elim (first p (listed K t)) [ none ↦ none | some x ↦ some (key x) ]) none
+    id-none b = rw (found-at (K .blank), le-ltb i (K .count t) b)
 
 -- ---- the id that one with the same fields has, or the next
 

@@ -1,6 +1,6 @@
 -- What the proofs of several functions cite, here and in the crates of the updates, and the laws that the run cites.
-pub mod Bits
-pub mod Slots
+mod Bits
+mod Slots
 mod Ids
 mod Texts
 pub mod Choices

@@ -1,5 +1,5 @@
 -- A new id is the highest one's successor: it fits where the highest is not the type's largest, and none of the held ones has it.
-use Prim.Native.Nat.{ℕ, zero, suc, _^_, _-_, _<_}
+use Prim.Native.Nat.{zero, suc, _^_, _-_, _<_}
 use mathlib.Core.Path.{_≡_, refl, sym, ap, _∙_}
 use mathlib.Core.Bool.{true, false, true≢false}
 use mathlib.Core.List.{List, [], _∷_, map}

@@ -18,6 +18,7 @@ use Rattle.rules.specs.WellFormed.{hasSnapshot, holdsSnapshot}
 use Rattle.rules.specs.Layout.{given}
 use Rattle.rules.proofs.Orders.{numbers-told}
 use Rattle.tables.specs.Places.{indexOf}
+use Rattle.tables.proofs.Search.{index-below}
 use Rattle.builder.specs.Pieces.{idsOf}
 use Rattle.builder.proofs.Bits.{equal, unequal}
 
@@ -38,8 +39,7 @@ module _ {A : Type 0} (p : A → Bool) (d : A) (l : List A) (i : ℕ) where
 module _ {A : Type 0} (p : A → Bool) where
   -- it is a place of the list exactly if the test holds for any
   pub found : (l : List A) → ltb (indexOf p l) (length l) ≡ any p l
-  found [] = refl
-  found (x ∷ l) = cases (p x) (λ t. rw t (lt-ltb 0 (suc (length l)) (omega arith))) (λ f. rw f (leb·suc-suc (suc (indexOf p l)) (length l) ∙ found l))
+  found l = index-below p l
 
   -- and then the first for which it holds stands there
   pub first-at : (d : A) (l : List A) → first p l ≡ given (ltb (indexOf p l) (length l)) (getD l (indexOf p l) d)

@@ -1,3 +1,2 @@
--- What the proofs of several functions cite.
-mod Tables
+-- What is said of orders alone.
 mod NewOrders

@@ -28,13 +28,14 @@ use Rattle.rules.specs.Kinds.{laidUpdate, ofKind, withSortOrder, addSortOrderKi
 use Rattle.rules.proofs.Checks.{by-test, Passed, passed}
 use Rattle.rules.proofs.Reread.{reread-schemas, reread-sort-orders}
 use Rattle.tables.specs.Laid.{LaidOrder}
+use Rattle.tables.proofs.Table.{listed-length}
+use Rattle.tables.proofs.Each.{sortOrders}
 use Rattle.builder.specs.declared.builder.TableMetadataBuilder.{TableMetadataBuilder}
 use Rattle.builder.specs.Pieces.{laidBuilder}
 use Rattle.order_updates.specs.Orders.{addedOrder, OrderGrown}
 use Rattle.builder.proofs.Steps.{stepped-unless}
 use Rattle.builder.proofs.Choices.{given-back}
 use Rattle.order_updates.proofs.NewOrders.{new-order-not-held}
-use Rattle.order_updates.proofs.Tables.{orders-counted, order-renamed}
 use Rattle.order_updates.proofs.add_sort_order.Statement.{statement}
 use Rattle.order_updates.proofs.add_sort_order.Tie as tie
 
@@ -45,6 +46,11 @@ after id b = record { fields = b .fields; «has_own» = b .«has_own»; own = b 
 -- the order under this id
 abbrev renamed : SortOrderId → SortOrder → SortOrder
 renamed id o = record { «order_id» = id; items = o .items; count = o .count }
+
+-- which is laid out as it was
+order-renamed : (o : SortOrder) → LaidOrder o → (id : SortOrderId) → LaidOrder (renamed id o)
+unfolding laidSortOrder
+order-renamed o h id = record { back = λ i. record { «order_id» = id; items = h .back i .items; count = h .back i .count }; fits = h .fits }
 
 module _ (b : TableMetadataBuilder) (t : SortOrders) (schemas : Schemas) (o : SortOrder) (k : LaidOrder o) (id : SortOrderId) where
   at-state : (st : State) → t ≡ laidSortOrders (st .metadata .orders) → readSortOrders t ≡ st .metadata .orders
@@ -91,7 +97,7 @@ module _ (b : TableMetadataBuilder) (t : SortOrders) (schemas : Schemas) (o : So
     new-at-state st q = ap (reusedOrder (readSortOrder o)) (sym (at-state st q)) ∙ e
 
     checked : number ≡ firstOf (newChecks unfit (readSortOrders t))
-    checked = n ∙ ap (λ (y : Bool). cond y 18 (cond unfit 17 (cond (leb sortOrderRoom (t .count)) 19 0))) x ∙ ap (λ (y : ℕ). cond (largest (readSortOrders t)) 18 (cond unfit 17 (cond (leb sortOrderRoom y) 19 0))) (sym (orders-counted t))
+    checked = n ∙ ap (λ (y : Bool). cond y 18 (cond unfit 17 (cond (leb sortOrderRoom (t .count)) 19 0))) x ∙ ap (λ (y : ℕ). cond (largest (readSortOrders t)) 18 (cond unfit 17 (cond (leb sortOrderRoom y) 19 0))) (sym (listed-length sortOrders t))
 
     accepted : number ≡ 0 → Passed (newChecks unfit (readSortOrders t))
     accepted z = passed (newChecks unfit (readSortOrders t)) refl (sym checked ∙ z)
@@ -124,7 +130,7 @@ module _ (b : TableMetadataBuilder) (t : SortOrders) (schemas : Schemas) (o : So
               );
           table = λ st q z. rw (new-at-state st q, addSortOrder, eq-eqb number 0 z) (ap (λ (d : ℤ). put orderBelow (record { id = d; fields = readSortOrder o .fields }) (st .metadata .orders)) (sym (numbered st q z)));
           laid = order-renamed o k id;
-          room = λ h. let f = leb-false sortOrderRoom (length (readSortOrders t)) (accepted (eqb-true number 0 h) .1 .1 .0) in omega (arith, f, orders-counted t);
+          room = λ h. let f = leb-false sortOrderRoom (length (readSortOrders t)) (accepted (eqb-true number 0 h) .1 .1 .0) in omega (arith, f, listed-length sortOrders t);
           new = λ h. rw (g (accepted (eqb-true number 0 h) .0)) (new-order-not-held (readSortOrder o) (readSortOrders t) formed e);
         }
 

@@ -27,13 +27,14 @@ use Rattle.rules.specs.Kinds.{laidUpdate, ofKind, withSchema, addSchemaKind}
 use Rattle.rules.proofs.Checks.{by-test, Passed, passed}
 use Rattle.rules.proofs.Reread.{reread-schemas}
 use Rattle.tables.specs.Laid.{LaidSchema}
+use Rattle.tables.proofs.Table.{listed-length}
+use Rattle.tables.proofs.Each.{schemas}
 use Rattle.builder.specs.declared.builder.TableMetadataBuilder.{TableMetadataBuilder}
 use Rattle.builder.specs.Pieces.{laidBuilder}
 use Rattle.schema_updates.specs.Schemas.{addedSchema, SchemaGrown}
 use Rattle.builder.proofs.Steps.{stepped-unless}
 use Rattle.builder.proofs.Choices.{given-back}
 use Rattle.builder.proofs.NewIds.{highest-not-held}
-use Rattle.schema_updates.proofs.Tables.{schemas-counted, schema-renamed}
 use Rattle.schema_updates.proofs.add_schema.Statement.{statement}
 use Rattle.schema_updates.proofs.add_schema.Tie as tie
 
@@ -62,6 +63,11 @@ after id column b =
       «has_order» = b .«has_order»;
       «last_added_order_id» = b .«last_added_order_id»;
     }
+
+-- under another id it is laid out as it was
+schema-renamed : (s : Schema) → LaidSchema s → (id : SchemaId) → LaidSchema (record { «schema_id» = id; items = s .items; count = s .count })
+unfolding laidSchema
+schema-renamed s h id = record { back = λ i. record { «schema_id» = id; items = h .back i .items; count = h .back i .count }; fits = h .fits }
 
 module _ (b : TableMetadataBuilder) (t : Schemas) (s : Schema) (k : LaidSchema s) (id : SchemaId) where
   at-state : (st : State) → t ≡ laidSchemas (st .metadata .schemas) → readSchemas t ≡ st .metadata .schemas
@@ -103,7 +109,7 @@ module _ (b : TableMetadataBuilder) (t : Schemas) (s : Schema) (k : LaidSchema s
     new-at-state st q = ap (reusedSchema (readSchema s)) (sym (at-state st q)) ∙ e
 
     checked : number ≡ firstOf (newChecks (readSchemas t))
-    checked = n ∙ ap (λ (y : Bool). cond y 18 (cond (leb schemaRoom (t .count)) 19 0)) x ∙ ap (λ (y : ℕ). cond (eqZ (top (readSchemas t)) largestSchemaId) 18 (cond (leb schemaRoom y) 19 0)) (sym (schemas-counted t))
+    checked = n ∙ ap (λ (y : Bool). cond y 18 (cond (leb schemaRoom (t .count)) 19 0)) x ∙ ap (λ (y : ℕ). cond (eqZ (top (readSchemas t)) largestSchemaId) 18 (cond (leb schemaRoom y) 19 0)) (sym (listed-length schemas t))
 
     accepted : number ≡ 0 → Passed (newChecks (readSchemas t))
     accepted z = passed (newChecks (readSchemas t)) refl (sym checked ∙ z)
@@ -130,7 +136,7 @@ module _ (b : TableMetadataBuilder) (t : Schemas) (s : Schema) (k : LaidSchema s
               );
           table = λ st q z. rw (new-at-state st q, addSchema, eq-eqb number 0 z) (ap (λ (d : ℤ). put schemaBelow (record { id = d; fields = readSchema s .fields }) (st .metadata .schemas)) (sym (numbered st q z)));
           laid = schema-renamed s k id;
-          room = λ h. let f = leb-false schemaRoom (length (readSchemas t)) (accepted (eqb-true number 0 h) .1 .0) in omega (arith, f, schemas-counted t);
+          room = λ h. let f = leb-false schemaRoom (length (readSchemas t)) (accepted (eqb-true number 0 h) .1 .0) in omega (arith, f, listed-length schemas t);
           new = λ h. rw (g (accepted (eqb-true number 0 h) .0)) (highest-not-held (λ (d : plain.Schema). d .id) (readSchemas t));
         }
 
