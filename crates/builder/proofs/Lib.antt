@@ -1,5 +1,4 @@
 -- What the proofs of several functions cite, here and in the crates of the updates, and the laws that the run cites.
-mod Bits
 mod Slots
 mod Ids
 mod Texts

@@ -18,6 +18,10 @@ ghost use Rattle.builder.specs.Answers.{Answers};
 ghost use Rattle.builder.specs.Added.{Numbered};
 ghost use Rattle.order_updates.specs.Orders.{addedOrder, OrderGrown, OrdersAnswer};
 use builder::builder::TableMetadataBuilder;
+use builder::checks::IDS_EXHAUSTED;
+use builder::checks::NOTHING_ADDED;
+use builder::checks::TABLE_FULL;
+use builder::checks::UNKNOWN_ID;
 use builder::checks::choose;
 use records::capacities::SORT_ORDERS;
 use records::counters::SortOrderId;
@@ -33,15 +37,7 @@ use tables::sort_orders::is_unfit;
 
 const LAST_ADDED: i64 = TableMetadataBuilder::LAST_ADDED as i64;
 
-const NOTHING_ADDED: u8 = 14;
-
-const UNKNOWN_ID: u8 = 15;
-
 const FIELD_NOT_IN_SCHEMA: u8 = 17;
-
-const IDS_EXHAUSTED: u8 = 18;
-
-const TABLE_FULL: u8 = 19;
 
 // ---- add order
 

@@ -19,6 +19,10 @@ ghost use Rattle.builder.specs.Answers.{Answers};
 ghost use Rattle.builder.specs.Added.{Numbered};
 ghost use Rattle.schema_updates.specs.Schemas.{addedSchema, SchemaGrown, SchemasAnswer};
 use builder::builder::TableMetadataBuilder;
+use builder::checks::IDS_EXHAUSTED;
+use builder::checks::NOTHING_ADDED;
+use builder::checks::TABLE_FULL;
+use builder::checks::UNKNOWN_ID;
 use builder::checks::choose;
 use records::capacities::SCHEMAS;
 use records::counters::FieldId;
@@ -31,15 +35,7 @@ use tables::ids::same_schema;
 use tables::schemas::find_equal;
 use tables::schemas::highest;
 
-const NOTHING_ADDED: u8 = 14;
-
-const UNKNOWN_ID: u8 = 15;
-
 const CURRENT_SCHEMA_REMOVED: u8 = 16;
-
-const IDS_EXHAUSTED: u8 = 18;
-
-const TABLE_FULL: u8 = 19;
 
 // ---- add schema
 
