@@ -1,11 +1,12 @@
 -- A choice among ids, where -1 stands for the last added, as the code makes it: of a flag and a number, and of checks one after the other.
-use mathlib.Core.Path.{_≡_, refl}
+use Prim.Native.Nat.{ℕ}
+use mathlib.Core.Path.{_≡_, refl, ap, ap₂, _∙_}
 use mathlib.Core.Bool.{Bool, true, false, cond, not, _&&_}
 use mathlib.Core.Option.{Option, none, some}
 use lib.IntN.{ℤ, pos}
 use Rattle.rules.specs.Words.{eqZ, isSome, orElse, someWith, firstOf}
 use Rattle.rules.specs.Register.{lastAdded}
-use Rattle.rules.specs.SchemaUpdates.{chosen, choiceChecks}
+use Rattle.rules.specs.SchemaUpdates.{chosen, choiceChecks, choiceLogged}
 use Rattle.rules.specs.Layout.{given}
 use Rattle.rules.proofs.Relaid.{flag-given}
 
@@ -30,6 +31,29 @@ pub chosen-is : (h : Bool) (x id : ℤ) → cond (eqZ id lastAdded && h) x id �
 chosen-is h x id = picked (eqZ id lastAdded) h x id
 
 -- 14, then 15
-pub choice-number : (id : ℤ) (h : Bool) (x current : ℤ) (held : ℤ → Bool) (c : ℤ) → c ≡ chosen id (given h x)
+choice-number : (id : ℤ) (h : Bool) (x current : ℤ) (held : ℤ → Bool) (c : ℤ) → c ≡ chosen id (given h x)
     → cond (eqZ id lastAdded && not h) 14 (cond (not (eqZ c current) && not (held c)) 15 0) ≡ firstOf (choiceChecks id (given h x) current held)
 choice-number id h x current held c e = rw (e, flag-given h x)
+
+-- what is answered where an id is set: the rule's number, whether it is the current one, the id that is chosen and the one that is logged
+pub record Choice (id : ℤ) (last : Option ℤ) (current : ℤ) (held : ℤ → Bool) (number : ℕ) (same : Bool) (x logged : ℤ) : Type 0 where
+  pub checked : number ≡ firstOf (choiceChecks id last current held)
+  pub unchanged : same ≡ eqZ (chosen id last) current
+  pub takes : x ≡ chosen id last
+  pub logs : logged ≡ choiceLogged (chosen id last) last
+
+-- from what each call gives, where the last added, the current and the held ones are a state's
+module _ (id : ℤ) (h : Bool) (y : ℤ) {now x logged current : ℤ} {last : Option ℤ} {held held′ : ℤ → Bool} {asked same has : Bool} {later number : ℕ}
+    (o : given h y ≡ last) (k : now ≡ current) (m : held ≡ held′)
+    (a : asked ≡ eqZ id lastAdded) (c : x ≡ chosen id (given h y)) (s : same ≡ eqZ x now) (g : has ≡ held x)
+    (l : later ≡ cond (not same && not has) 15 0) (n : number ≡ cond (asked && not h) 14 later) (w : logged ≡ choiceLogged x (given h y)) where
+  pub choice : Choice id last current held′ number same x logged
+  choice =
+      let v : x ≡ chosen id last = c ∙ ap (chosen id) o in
+      let u : number ≡ firstOf (choiceChecks id (given h y) now held) = n ∙ rw (l, s, g, a) (choice-number id h y now held x c) in
+      record {
+        checked = u ∙ rw (o, k, m);
+        unchanged = s ∙ ap₂ eqZ v k;
+        takes = v;
+        logs = w ∙ ap₂ choiceLogged v o;
+      }

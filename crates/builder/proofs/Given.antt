@@ -23,7 +23,8 @@ use Rattle.rules.proofs.Relaid.{zeroZ, length-counted, fields-back, back-schema
 use Rattle.tables.specs.Laid.{LaidSchema, LaidOrder, LaidSchemaIds}
 
 module _ (u : TableUpdate) (e : isTidyUpdate u ≡ true) where
-  used : Hold (isTidyLocation (u .location) ∷ isTidySnapshot (u .snapshot) ∷ isTidySnapshotIds (u .«snapshot_ids») ∷ isTidyRefName (u .«ref_name») ∷ isTidyReference (u .reference) ∷ isTidySchema (u .schema) ∷ isTidySchemaIds (u .«schema_ids») ∷ isTidySortOrder (u .«sort_order») ∷ [])
+  -- every record is tidy
+  pub used : Hold (isTidyLocation (u .location) ∷ isTidySnapshot (u .snapshot) ∷ isTidySnapshotIds (u .«snapshot_ids») ∷ isTidyRefName (u .«ref_name») ∷ isTidyReference (u .reference) ∷ isTidySchema (u .schema) ∷ isTidySchemaIds (u .«schema_ids») ∷ isTidySortOrder (u .«sort_order») ∷ [])
   unfolding isUsedTidy
   used =
       parts (isTidyLocation (u .location)) (isTidySnapshot (u .snapshot) ∷ isTidySnapshotIds (u .«snapshot_ids») ∷ isTidyRefName (u .«ref_name») ∷ isTidyReference (u .reference) ∷ isTidySchema (u .schema) ∷ isTidySchemaIds (u .«schema_ids») ∷ isTidySortOrder (u .«sort_order») ∷ [])

@@ -1,7 +1,7 @@
 -- Where the first element stands for which a test holds, read from the front, and what that place says of the first and of any.
 use Prim.Native.Nat.{ℕ, suc, _+_, _-_, _≤_, _<_}
 use mathlib.Core.Path.{_≡_, refl, sym, ap, _∙_}
-use mathlib.Core.Bool.{Bool, true, false, true≢false}
+use mathlib.Core.Bool.{Bool, true, false}
 use mathlib.Core.List.{List, [], _∷_}
 use mathlib.Core.Option.{some}
 use native.Mathlib.Numerals.{add-one}
@@ -18,8 +18,8 @@ use Rattle.rules.specs.WellFormed.{hasSnapshot, holdsSnapshot}
 use Rattle.rules.specs.Layout.{given}
 use Rattle.rules.proofs.Orders.{numbers-told}
 use Rattle.tables.specs.Places.{indexOf}
+use Rattle.tables.proofs.Search.{index-below}
 use Rattle.builder.specs.Pieces.{idsOf}
-use Rattle.builder.proofs.Bits.{equal, unequal}
 
 -- ---- read from the front
 
@@ -38,8 +38,7 @@ module _ {A : Type 0} (p : A → Bool) (d : A) (l : List A) (i : ℕ) where
 module _ {A : Type 0} (p : A → Bool) where
   -- it is a place of the list exactly if the test holds for any
   pub found : (l : List A) → ltb (indexOf p l) (length l) ≡ any p l
-  found [] = refl
-  found (x ∷ l) = cases (p x) (λ t. rw t (lt-ltb 0 (suc (length l)) (omega arith))) (λ f. rw f (leb·suc-suc (suc (indexOf p l)) (length l) ∙ found l))
+  found l = index-below p l
 
   -- and then the first for which it holds stands there
   pub first-at : (d : A) (l : List A) → first p l ≡ given (ltb (indexOf p l) (length l)) (getD l (indexOf p l) d)
@@ -51,20 +50,16 @@ module _ {A : Type 0} (p : A → Bool) where
 
 -- ---- ids
 
-eqZ-turned : (x y : ℤ) → eqZ x y ≡ eqZ y x
+pub eqZ-turned : (x y : ℤ) → eqZ x y ≡ eqZ y x
 eqZ-turned x y =
     cases (eqZ x y)
-    (λ t. t ∙ sym (equal y x (sym (numbers-told .equal x y t))))
-    (λ f. f ∙ sym (unequal y x (λ e. true≢false (sym (equal x y (sym e)) ∙ f))))
+    (λ t. rw (numbers-told .equal x y t))
+    (λ f. cases (eqZ y x) (λ t. rw (numbers-told .equal y x t)) (λ g. f ∙ sym g))
 
 module _ (id : ℤ) where
   -- an id stands in the list exactly if it has a place there
   pub id-found : (l : List ℤ) → ltb (indexOf (λ x. eqZ x id) l) (length l) ≡ isIn l id
-  id-found l = found (λ x. eqZ x id) l ∙ each l
-    where
-      each : (l : List ℤ) → any (λ x. eqZ x id) l ≡ any (eqZ id) l
-      each [] = refl
-      each (x ∷ l) = rw (eqZ-turned x id, each l)
+  id-found l = found (λ x. eqZ x id) l ∙ ap (λ (q : ℤ → Bool). any q l) (λ i x. eqZ-turned x id i)
 
   -- its place among the ids of snapshots is that of the snapshot
   pub snapshot-place : (l : List Snapshot) → indexOf (λ x. eqZ x id) (idsOf l) ≡ indexOf (hasSnapshot id) l

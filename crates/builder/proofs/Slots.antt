@@ -1,19 +1,14 @@
--- Slots of a table: what stands at an index of the array stands there in the list that is read of it.
-use Prim.Native.Nat.{ℕ, _≤_, _<_}
-use mathlib.Core.Path.{_≡_, ap, _∙_}
-use mathlib.Core.List.{List, map}
+-- Elements of a list written one by one over blanks.
+use Prim.Native.Nat.{ℕ, _+_, _≤_, _<_}
+use mathlib.Core.Path.{_≡_}
+use mathlib.Core.List.{List}
 use native.Mathlib.Omega.{arith}
-use lib.ListN.{length, getD, length-append, length-replicate, length-map, List·getD-map}
-use lib.Seq.{getD-take}
-use Rattle.rules.specs.Layout.{counted, pad}
-use Rattle.rules.proofs.Relaid.{length-counted, counted-take}
+use native.Mathlib.Numerals.{add-one}
+use lib.ListN.{length, getD, take, set}
+use lib.Seq.{take-suc, length-take-le}
+use Rattle.rules.specs.Layout.{pad}
+use Rattle.tables.proofs.Push.{set-pad}
 
-pub length-pad : {A : Type 0} (room : ℕ) (b : A) (l : List A) → length l ≤ room → length (pad room b l) ≡ room
-length-pad room b l h = simp (length-append, length-replicate) (omega arith)
-
-module _ {A B : Type 0} (rd : A → B) (b : A) (items : List A) (n : ℕ) where
-  pub read-long : length (map rd (counted b items n)) ≡ n
-  read-long = length-map (counted b items n) rd ∙ length-counted b items n
-
-  pub read-at : n ≤ length items → (i : ℕ) (d : A) → i < n → getD (map rd (counted b items n)) i (rd d) ≡ rd (getD items i d)
-  read-at h i d k = List·getD-map rd (counted b items n) i d ∙ ap rd (rw (counted-take b items n h, getD-take n items i d k))
+-- one more
+pub pad-more : {A : Type 0} (room i : ℕ) (b d : A) (l : List A) → i < length l → length l ≤ room → set (pad room b (take i l)) i (getD l i d) ≡ pad room b (take (i + 1) l)
+pad-more room i b d l h k = rw (add-one, take-suc l i d h) (set-pad room b (take i l) i (getD l i d) (length-take-le i l (omega arith)) (omega arith))

@@ -1,17 +1,11 @@
 -- The pieces of a state, read back from its builder.
-use mathlib.Core.Path.{_≡_, refl, ap, _∙_}
-use mathlib.Core.Option.{Option, none, some}
-use lib.IntN.{ℤ, pos}
-use Rattle.rules.specs.Words.{isSome, orElse}
+use mathlib.Core.Path.{_≡_, ap, _∙_}
 use Rattle.rules.specs.Register.{State}
 use Rattle.rules.specs.Layout.{given, readFields}
 use Rattle.rules.proofs.Reread.{reread-fields}
 use Rattle.builder.specs.declared.builder.TableMetadataBuilder.{TableMetadataBuilder}
 use Rattle.builder.specs.Pieces.{laidBuilder}
-
-own-back : (o : Option ℤ) → given (isSome o) (orElse o (pos 0)) ≡ o
-own-back none = refl
-own-back (some t) = refl
+use Rattle.builder.proofs.Choices.{given-back}
 
 module _ {b : TableMetadataBuilder} (st : State) (e : b ≡ laidBuilder st) where
   pub its-fields : readFields (b .fields) ≡ st .metadata .fields
@@ -20,4 +14,4 @@ module _ {b : TableMetadataBuilder} (st : State) (e : b ≡ laidBuilder st) wher
 
   pub its-own : given (b .«has_own») (b .own .0) ≡ st .own
   unfolding laidBuilder
-  its-own = ap (λ (b : TableMetadataBuilder). given (b .«has_own») (b .own .0)) e ∙ own-back (st .own)
+  its-own = ap (λ (b : TableMetadataBuilder). given (b .«has_own») (b .own .0)) e ∙ given-back (st .own)

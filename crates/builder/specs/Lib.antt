@@ -2,5 +2,3 @@
 pub mod Pieces
 pub mod Answers
 pub mod Added
-pub mod Snapshots
-pub mod Refs

@@ -5,15 +5,16 @@ ghost use mathlib.Core.List.{[]};
 ghost use Prim.Native.Nat.{_≤_};
 ghost use lib.Dec.{eqb};
 ghost use lib.ListN.{length};
-ghost use Rattle.rules.specs.Words.{sameBytes};
+ghost use Rattle.rules.specs.Words.{orElse, sameBytes};
 ghost use Rattle.rules.specs.Names.{trimmed as trimmedBytes};
 ghost use Rattle.rules.specs.Capacities.{locationRoom};
 ghost use Rattle.rules.specs.Register.{State};
 ghost use Rattle.rules.specs.SingleUpdates.{assignUuid, upgradeFormatVersionChecks, upgradeFormatVersion, setLocation};
-ghost use Rattle.rules.specs.Layout.{readLocation, laidLocation};
+ghost use Rattle.rules.specs.Layout.{given, readLocation, laidLocation};
 ghost use Rattle.rules.specs.Kinds.{ofKind, withUuid, withFormatVersion, withLocation, assignUuidKind, upgradeFormatVersionKind, setLocationKind};
 ghost use Rattle.builder.specs.Pieces.{fresh, laidBuilder};
 ghost use Rattle.builder.specs.Answers.{Answers};
+use crate::checks::choose;
 use leaves::location::trim;
 use leaves::names::same_bytes;
 use records::counters::RowId;
@@ -47,16 +48,6 @@ pub struct LocationSet {
     pub logs: bool,
     pub location: Location,
     pub builder: TableMetadataBuilder,
-}
-
-// One check of several: its number where it fails, else what the later ones say.
-pub fn choose(fails: bool, number: u8, later: u8) -> u8
-    ensures { λ r. ⌜ r ≡ cond fails number later ⌝ }
-{
-    if fails {
-        return number;
-    }
-    later
 }
 
 pub fn location_of(bytes: &[u8]) -> Location
@@ -102,6 +93,18 @@ fn next_row_at(version: u8, next: RowId) -> RowId
         return RowId(0);
     }
     next
+}
+
+// The run's own last update, or the other time where it has none yet.
+pub fn own_or(b: TableMetadataBuilder, other: Time) -> Time
+    ensures { λ r. ⌜ r .0 ≡ orElse (given (b .«has_own») (b .own .0)) (other .0) ⌝ }
+{
+    let h = b.has_own;
+    let o = b.own;
+    if h {
+        return o;
+    }
+    other
 }
 
 impl TableMetadataBuilder {

@@ -5,6 +5,12 @@ ghost use lib.Dec.{leb};
 
 pub const ACCEPTED: u8 = 0;
 
+pub const NOTHING_ADDED: u8 = 14;
+
+pub const UNKNOWN_ID: u8 = 15;
+
+pub const IDS_EXHAUSTED: u8 = 18;
+
 pub const TABLE_FULL: u8 = 19;
 
 pub fn choose(test: bool, number: u8, rest: u8) -> u8

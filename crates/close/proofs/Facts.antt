@@ -22,7 +22,8 @@ use Rattle.rules.proofs.Reread.{reread-snapshot-log}
 use Rattle.close.specs.Facts.{additions, intermediatesOf, isGone, isStaying, Told}
 use Rattle.close.specs.Answers.{HistoryOf, endsOff, numberChecks}
 use Rattle.close.specs.declared.history.History.{History}
-use Rattle.close.proofs.Ids.{eqZ-turned, in-held}
+use Rattle.builder.proofs.Positions.{eqZ-turned}
+use Rattle.close.proofs.Ids.{in-held}
 use Rattle.close.proofs.Scans.{none-after, keep-others}
 
 -- the log adds a snapshot exactly if it is among its additions

@@ -1,36 +1,14 @@
--- Ids in a list: one stands in it exactly if its place is below the length, and among those kept if the test holds of it too.
-use Prim.Native.Nat.{suc}
-use native.Mathlib.Omega.{arith}
+-- Ids in a list: one stands among those kept exactly if it stands in the list and the test holds of it.
 use mathlib.Core.Path.{_≡_, refl, sym, ap, _∙_}
-use mathlib.Core.Bool.{Bool, true, false, cond, _||_, _&&_, and-false}
+use mathlib.Core.Bool.{Bool, false, _&&_, and-false}
 use mathlib.Core.List.{List, [], _∷_, map}
-use borrow.Author.Tests.{lt-ltb}
 use borrow.Table.Steps.{cases}
-use lib.Dec.{ltb, leb·suc-suc}
 use lib.IntN.{ℤ}
-use lib.ListN.{length}
-use Rattle.rules.specs.Words.{eqZ, any, keep, isIn}
+use Rattle.rules.specs.Words.{eqZ, keep, isIn}
 use Rattle.rules.specs.Register.{Snapshot}
 use Rattle.rules.specs.WellFormed.{holdsSnapshot}
 use Rattle.rules.proofs.Orders.{numbers-told}
-use Rattle.tables.specs.Places.{indexOf}
-
-pub eqZ-turned : (a b : ℤ) → eqZ a b ≡ eqZ b a
-eqZ-turned a b =
-    cases (eqZ a b)
-    (λ t. rw (numbers-told .equal a b t))
-    (λ f. cases (eqZ b a) (λ t. rw (numbers-told .equal b a t)) (λ g. f ∙ sym g))
-
-pub place-any : {A : Type 0} (p : A → Bool) (l : List A) → ltb (indexOf p l) (length l) ≡ any p l
-place-any p [] = refl
-place-any p (x ∷ l) = go (p x) (place-any p l)
-  where
-    go : (t : Bool) → ltb (indexOf p l) (length l) ≡ any p l → ltb (cond t 0 (suc (indexOf p l))) (suc (length l)) ≡ t || any p l
-    go true h = lt-ltb 0 (suc (length l)) (omega arith)
-    go false h = leb·suc-suc (suc (indexOf p l)) (length l) ∙ h
-
-pub place-in : (l : List ℤ) (id : ℤ) → ltb (indexOf (λ x. eqZ x id) l) (length l) ≡ isIn l id
-place-in l id = place-any (λ x. eqZ x id) l ∙ ap (λ (q : ℤ → Bool). any q l) (λ i x. eqZ-turned x id i)
+use Rattle.builder.proofs.Positions.{eqZ-turned}
 
 pub in-kept : (p : ℤ → Bool) (l : List ℤ) (x : ℤ) → isIn (keep p l) x ≡ isIn l x && p x
 in-kept p [] x = refl

@@ -1,5 +1,5 @@
 -- What the proofs of several functions cite.
-mod Bits
+pub mod Bits
 pub mod Table
 pub mod Search
 pub mod Push
@@ -8,6 +8,6 @@ mod Gather
 mod Shift
 mod Put
 mod Alike
-mod Highest
+pub mod Highest
 pub mod Each
 mod Name

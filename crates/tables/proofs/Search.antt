@@ -17,7 +17,7 @@ module _ {A : Type 0} (p : A → Bool) where
   index-le [] = omega arith
   index-le (x ∷ l) = cases (p x) (λ t. rw t (omega arith)) (λ f. rw f (omega (arith, index-le l)))
 
-  index-below : (l : List A) → ltb (indexOf p l) (length l) ≡ any p l
+  pub index-below : (l : List A) → ltb (indexOf p l) (length l) ≡ any p l
   index-below [] = refl
   index-below (x ∷ l) = cases (p x) (λ t. rw t (lt-ltb 0 (suc (length l)) (omega arith))) (λ f. rw f (leb·suc-suc (suc (indexOf p l)) (length l) ∙ index-below l))
 

@@ -44,9 +44,13 @@ pub record Made (K : Kind) (laid : List (K .Plain) → K .Whole) : Type 0 where
   pub laid-count : (l : List (K .Plain)) → K .count (laid l) ≡ length l
   pub same : {t u : K .Whole} → K .items t ≡ K .items u → K .count t ≡ K .count u → t ≡ u
 
+-- as many are read as the count says
+pub listed-length : (K : Kind) (t : K .Whole) → length (listed K t) ≡ K .count t
+listed-length K t = length-map (counted (K .blank) (K .items t) (K .count t)) (K .read) ∙ length-counted (K .blank) (K .items t) (K .count t)
+
 module _ {K : Kind} {t : K .Whole} (h : Tidy K t) where
   pub read-length : length (listed K t) ≡ K .count t
-  read-length = length-map (counted (K .blank) (K .items t) (K .count t)) (K .read) ∙ length-counted (K .blank) (K .items t) (K .count t)
+  read-length = listed-length K t
 
   pub within : K .count t ≤ K .room
   within = omega (arith, h .fits, read-length)

@@ -5,7 +5,7 @@ use borrow.Author.Needs.{needs, sfits-of}
 use lib.Dec.{ltb}
 use lib.ListN.{length}
 use mir.Facts.{toZ-ofZ}
-use Rattle.close.proofs.Ids.{place-in}
+use Rattle.builder.proofs.Positions.{id-found}
 use Rattle.close.proofs.history.is_among.Statement.{statement}
 use Rattle.close.proofs.history.is_among.Tie as tie
 
@@ -15,4 +15,4 @@ is-among-spec =
     (tie.spec
     (λ c κs. search needs)
     (λ c. let a = c .before .before .args in
-    ap (λ (n : ℕ). ltb n (length (a .ids .now))) (rw (toZ-ofZ (sfits-of (c .before .struct-told .given .0 .1))) at (c .position .ensures)) ∙ place-in (a .ids .now) (a .id .0)))
+    ap (λ (n : ℕ). ltb n (length (a .ids .now))) (rw (toZ-ofZ (sfits-of (c .before .struct-told .given .0 .1))) at (c .position .ensures)) ∙ id-found (a .id .0) (a .ids .now)))

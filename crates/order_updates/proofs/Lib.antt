@@ -1,0 +1,2 @@
+-- What is said of orders alone.
+mod NewOrders

@@ -1,0 +1,2 @@
+-- What the contracts of the updates of sort orders cite beside the rules.
+pub mod Orders

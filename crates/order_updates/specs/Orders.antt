@@ -1,0 +1,43 @@
+-- Sort orders: the id of the one added last, what an addition puts into the table, and what an update of sort orders answers.
+use Prim.Native.Nat.{_<_}
+use mathlib.Core.Path.{_≡_}
+use mathlib.Core.Bool.{true, false, cond}
+use mathlib.Core.Option.{Option}
+use lib.IntN.{ℤ}
+use Rattle.records.specs.declared.schema.Schemas.{Schemas}
+use Rattle.records.specs.declared.«sort_order».SortOrder.{SortOrder}
+use Rattle.records.specs.declared.«sort_order».SortOrders.{SortOrders}
+use Rattle.records.specs.declared.update.TableUpdate.{TableUpdate}
+use Rattle.rules.specs.Words.{put}
+use Rattle.rules.specs.Capacities.{sortOrderRoom}
+use Rattle.rules.specs.Register.{Terms, State}
+use Rattle.rules.specs.WellFormed.{orderBelow}
+use Rattle.rules.specs.OrderUpdates.{holdsOrder, addSortOrderChecks, addSortOrder}
+use Rattle.rules.specs.Updates.{effect}
+use Rattle.rules.specs.Layout.{given, laidSchemas, readSortOrder, readSortOrders, laidSortOrders}
+use Rattle.rules.specs.Kinds.{readUpdate, ofKind, withSortOrder, addSortOrderKind}
+use Rattle.tables.specs.Laid.{LaidOrder}
+use Rattle.builder.specs.declared.builder.TableMetadataBuilder.{TableMetadataBuilder}
+use Rattle.builder.specs.Pieces.{laidBuilder}
+use Rattle.builder.specs.Answers.{Answers, AnswersUpdate}
+use Rattle.order_updates.specs.declared.OrderAdded.{OrderAdded}
+use Rattle.order_updates.specs.declared.OrdersUpdated.{OrdersUpdated}
+
+-- the id of the order added last, where there is one
+abbrev pub addedOrder : TableMetadataBuilder → Option ℤ
+addedOrder b = given (b .«has_order») (b .«last_added_order_id» .0)
+
+-- the answer, the table after it, and that an order to put is laid out, has room and is not held
+pub record OrderGrown (b : TableMetadataBuilder) (t : SortOrders) (schemas : Schemas) (o : SortOrder) (r : OrderAdded) : Type 0 where
+  pub answers : (st : State) → b ≡ laidBuilder st → schemas ≡ laidSchemas (st .metadata .schemas) → t ≡ laidSortOrders (st .metadata .orders) → Answers (addSortOrderChecks (readSortOrder o) st) st (addSortOrder (readSortOrder o) st) (r .number) (r .logs) (r .builder) (withSortOrder (r .order) (ofKind addSortOrderKind))
+  pub table : (st : State) → t ≡ laidSortOrders (st .metadata .orders) → r .number ≡ 0 → addSortOrder (readSortOrder o) st .metadata .orders ≡ cond (r .grows) (put orderBelow (readSortOrder (r .order)) (st .metadata .orders)) (st .metadata .orders)
+  pub laid : LaidOrder (r .order)
+  pub room : r .grows ≡ true → t .count < sortOrderRoom
+  pub new : r .grows ≡ true → holdsOrder (readSortOrders t) (r .order .«order_id» .0) ≡ false
+
+-- an update of sort orders; where it took effect, the table is the new state's
+abbrev pub OrdersAnswer : TableMetadataBuilder → Schemas → SortOrders → TableUpdate → OrdersUpdated → Type 0
+OrdersAnswer b schemas t u r =
+    (terms : Terms) (st : State) → b ≡ laidBuilder st → schemas ≡ laidSchemas (st .metadata .schemas) → t ≡ laidSortOrders (st .metadata .orders)
+    → AnswersUpdate terms (readUpdate u) st (r .number) (r .logs) (r .builder) (r .entry)
+    × (r .number ≡ 0 → r .logs ≡ true → r .orders ≡ laidSortOrders (effect terms (readUpdate u) st .metadata .orders))

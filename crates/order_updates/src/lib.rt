@@ -1,0 +1,285 @@
+// Sort orders: adding, choosing the default one.
+// Document 01, "Rules for each update", as the crate `rules` writes it in OrderUpdates.
+ghost use mathlib.Core.Path.{_≡_};
+ghost use mathlib.Core.Bool.{true, false, cond, not, _&&_};
+ghost use mathlib.Core.Option.{some};
+ghost use lib.IntN.{sucℤ};
+ghost use Rattle.rules.specs.Words.{eqZ, someWith, isEmpty, first, highest as highestOf};
+ghost use Rattle.rules.specs.Capacities.{largestSortOrderId};
+ghost use Rattle.rules.specs.Register.{State};
+ghost use Rattle.rules.specs.WellFormed.{hasSchema, ordersFormed, updateFormed};
+ghost use Rattle.rules.specs.SchemaUpdates.{holdsSchema, chosen, choiceLogged};
+ghost use Rattle.rules.specs.OrderUpdates.{reusedOrder, orderIds, newOrderId, setDefaultSortOrderChecks, setDefaultSortOrder};
+ghost use Rattle.rules.specs.Layout.{readSchema, readSchemas, readSortOrder, readSortOrders, laidSortOrders};
+ghost use Rattle.rules.specs.Kinds.{isTidyUpdate, readKind, ofKind, withSortOrderId, addSortOrderKind, setDefaultSortOrderKind};
+ghost use Rattle.tables.specs.Laid.{LaidSchema, LaidSchemas, LaidOrder, LaidOrders};
+ghost use Rattle.builder.specs.Pieces.{laidBuilder};
+ghost use Rattle.builder.specs.Answers.{Answers};
+ghost use Rattle.builder.specs.Added.{Numbered};
+ghost use Rattle.order_updates.specs.Orders.{addedOrder, OrderGrown, OrdersAnswer};
+use builder::builder::TableMetadataBuilder;
+use builder::checks::IDS_EXHAUSTED;
+use builder::checks::NOTHING_ADDED;
+use builder::checks::TABLE_FULL;
+use builder::checks::UNKNOWN_ID;
+use builder::checks::choose;
+use records::capacities::SORT_ORDERS;
+use records::counters::SortOrderId;
+use records::schema::Schema;
+use records::schema::Schemas;
+use records::sort_order::SortOrder;
+use records::sort_order::SortOrders;
+use records::update::TableUpdate;
+use tables::ids::same_order;
+use tables::sort_orders::find_equal;
+use tables::sort_orders::highest;
+use tables::sort_orders::is_unfit;
+
+const LAST_ADDED: i64 = TableMetadataBuilder::LAST_ADDED as i64;
+
+const FIELD_NOT_IN_SCHEMA: u8 = 17;
+
+// ---- add order
+
+fn is_last_added(b: TableMetadataBuilder, id: SortOrderId) -> bool
+    ensures { λ r. ⌜ r ≡ someWith (eqZ (id .0)) (addedOrder b) ⌝ }
+{
+    let h = b.has_order;
+    let x = b.last_added_order_id;
+    let same = same_order(id, x);
+    h & same
+}
+
+fn is_largest(id: SortOrderId) -> bool
+    ensures { λ r. ⌜ r ≡ eqZ (id .0) largestSortOrderId ⌝ }
+{
+    same_order(id, SortOrderId(i64::MAX))
+}
+
+fn next_id(id: SortOrderId) -> SortOrderId
+    ensures { λ r. ⌜ r .0 ≡ cond (eqZ (id .0) largestSortOrderId) (id .0) (sucℤ (id .0)) ⌝ }
+{
+    let x = id.0;
+    if is_largest(id) {
+        return id;
+    }
+    SortOrderId(x + 1)
+}
+
+// The id is found where a held order has the same fields; a new one may be past the largest.
+pub struct OrderNumbered {
+    pub found: bool,
+    pub exhausted: bool,
+    pub id: SortOrderId,
+}
+
+fn reuse_or_create_new_sort_id(t: SortOrders, o: SortOrder) -> OrderNumbered
+    requires { ⌜ LaidOrders t ⌝ }
+    requires { ⌜ LaidOrder o ⌝ }
+    ensures { λ r. ⌜ Numbered (reusedOrder (readSortOrder o) (readSortOrders t)) (not (isEmpty (readSortOrder o .fields)) && eqZ (highestOf (orderIds (readSortOrders t))) largestSortOrderId) (newOrderId (readSortOrder o) (readSortOrders t)) (r .found) (r .exhausted) (r .id .0) ⌝ }
+{
+    let n = t.count;
+    let m = o.count;
+    let i = find_equal(t, o);
+    if i < n {
+        let x = t.items[i];
+        let id = x.order_id;
+        return OrderNumbered {
+            found: true,
+            exhausted: false,
+            id,
+        };
+    }
+    if m == 0 {
+        return OrderNumbered {
+            found: false,
+            exhausted: false,
+            id: SortOrderId(0),
+        };
+    }
+    let h = highest(t);
+    let exhausted = is_largest(h);
+    let id = next_id(h);
+    OrderNumbered {
+        found: false,
+        exhausted,
+        id,
+    }
+}
+
+fn current_schema(b: TableMetadataBuilder, t: Schemas) -> Schema
+    requires { ⌜ LaidSchemas t ⌝ }
+    requires { ⌜ holdsSchema (readSchemas t) (b .fields .«current_schema_id» .0) ≡ true ⌝ }
+    ensures { λ r. ⌜ first (hasSchema (b .fields .«current_schema_id» .0)) (readSchemas t) ≡ some (readSchema r) ⌝ }
+    ensures { λ r. ⌜ LaidSchema r ⌝ }
+{
+    let f = b.fields;
+    let current = f.current_schema_id;
+    let i = tables::schemas::find(t, current);
+    t.items[i]
+}
+
+// The order is the one to log, and where the table grows the one to put.
+pub struct OrderAdded {
+    pub number: u8,
+    pub logs: bool,
+    pub grows: bool,
+    pub order: SortOrder,
+    pub builder: TableMetadataBuilder,
+}
+
+pub fn add_sort_order(
+    b: TableMetadataBuilder,
+    t: SortOrders,
+    schemas: Schemas,
+    o: SortOrder,
+) -> OrderAdded
+    requires { ⌜ LaidOrders t ⌝ }
+    requires { ⌜ ordersFormed (readSortOrders t) ≡ true ⌝ }
+    requires { ⌜ LaidSchemas schemas ⌝ }
+    requires { ⌜ holdsSchema (readSchemas schemas) (b .fields .«current_schema_id» .0) ≡ true ⌝ }
+    requires { ⌜ LaidOrder o ⌝ }
+    ensures { λ r. ⌜ OrderGrown b t schemas o r ⌝ }
+{
+    let n = t.count;
+    let x = reuse_or_create_new_sort_id(t, o);
+    let found = x.found;
+    let exhausted = x.exhausted;
+    let id = x.id;
+    let mut c = b;
+    c.has_order = true;
+    c.last_added_order_id = id;
+    let mut y = o;
+    y.order_id = id;
+    if found {
+        let last = is_last_added(b, id);
+        return OrderAdded {
+            number: 0,
+            logs: !last,
+            grows: false,
+            order: y,
+            builder: c,
+        };
+    }
+    let s = current_schema(b, schemas);
+    let unfit = is_unfit(o, s);
+    let later = choose(n >= SORT_ORDERS, TABLE_FULL, 0);
+    let rest = choose(unfit, FIELD_NOT_IN_SCHEMA, later);
+    let number = choose(exhausted, IDS_EXHAUSTED, rest);
+    OrderAdded {
+        number,
+        logs: true,
+        grows: number == 0,
+        order: y,
+        builder: c,
+    }
+}
+
+// ---- set default order
+
+fn chosen_order(b: TableMetadataBuilder, id: SortOrderId) -> SortOrderId
+    ensures { λ r. ⌜ r .0 ≡ chosen (id .0) (addedOrder b) ⌝ }
+{
+    let h = b.has_order;
+    let last = b.last_added_order_id;
+    let asked = same_order(id, SortOrderId(LAST_ADDED));
+    if asked & h {
+        return last;
+    }
+    id
+}
+
+fn logged_order(b: TableMetadataBuilder, id: SortOrderId) -> SortOrderId
+    ensures { λ r. ⌜ r .0 ≡ choiceLogged (id .0) (addedOrder b) ⌝ }
+{
+    if is_last_added(b, id) {
+        return SortOrderId(LAST_ADDED);
+    }
+    id
+}
+
+// The id is the one to log.
+pub struct OrderSet {
+    pub number: u8,
+    pub logs: bool,
+    pub order_id: SortOrderId,
+    pub builder: TableMetadataBuilder,
+}
+
+pub fn set_default_sort_order(b: TableMetadataBuilder, t: SortOrders, id: SortOrderId) -> OrderSet
+    requires { ⌜ LaidOrders t ⌝ }
+    ensures { λ r. ⌜ ((st : State) → b ≡ laidBuilder st → t ≡ laidSortOrders (st .metadata .orders) → Answers (setDefaultSortOrderChecks (id .0) st) st (setDefaultSortOrder (id .0) st) (r .number) (r .logs) (r .builder) (withSortOrderId (r .«order_id») (ofKind setDefaultSortOrderKind))) ⌝ }
+{
+    let mut f = b.fields;
+    let current = f.default_sort_order_id;
+    let h = b.has_order;
+    let asked = same_order(id, SortOrderId(LAST_ADDED));
+    let x = chosen_order(b, id);
+    let same = same_order(x, current);
+    let held = tables::sort_orders::holds(t, x);
+    let later = choose(!same & !held, UNKNOWN_ID, 0);
+    let number = choose(asked & !h, NOTHING_ADDED, later);
+    let logged = logged_order(b, x);
+    f.default_sort_order_id = x;
+    let mut c = b;
+    c.fields = f;
+    OrderSet {
+        number,
+        logs: !same,
+        order_id: logged,
+        builder: c,
+    }
+}
+
+// ---- the table's update
+
+pub struct OrdersUpdated {
+    pub number: u8,
+    pub logs: bool,
+    pub builder: TableMetadataBuilder,
+    pub orders: SortOrders,
+    pub entry: TableUpdate,
+}
+
+pub fn update_orders(
+    b: TableMetadataBuilder,
+    schemas: Schemas,
+    t: SortOrders,
+    u: TableUpdate,
+) -> OrdersUpdated
+    requires { ⌜ LaidSchemas schemas ⌝ }
+    requires { ⌜ holdsSchema (readSchemas schemas) (b .fields .«current_schema_id» .0) ≡ true ⌝ }
+    requires { ⌜ LaidOrders t ⌝ }
+    requires { ⌜ ordersFormed (readSortOrders t) ≡ true ⌝ }
+    requires { ⌜ isTidyUpdate u ≡ true ⌝ }
+    requires { ⌜ updateFormed (readKind u) ≡ true ⌝ }
+    requires { ⌜ u .kind ≡ addSortOrderKind ⌝ }
+    ensures { λ r. ⌜ OrdersAnswer b schemas t u r ⌝ }
+{
+    let v = u.sort_order;
+    let x = add_sort_order(b, t, schemas, v);
+    let y = x.order;
+    let c = x.builder;
+    let number = x.number;
+    let logs = x.logs;
+    let grows = x.grows;
+    let mut e = u;
+    e.sort_order = y;
+    if grows {
+        let o = tables::sort_orders::put(t, y);
+        return OrdersUpdated {
+            number,
+            logs,
+            builder: c,
+            orders: o,
+            entry: e,
+        };
+    }
+    OrdersUpdated {
+        number,
+        logs,
+        builder: c,
+        orders: t,
+        entry: e,
+    }
+}

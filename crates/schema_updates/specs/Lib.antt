@@ -1,0 +1,2 @@
+-- What the contracts of the updates of schemas cite beside the rules.
+pub mod Schemas

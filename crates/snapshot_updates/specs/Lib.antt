@@ -1,0 +1,2 @@
+-- What the contracts of the updates of snapshots cite beside the rules.
+pub mod Snapshots
