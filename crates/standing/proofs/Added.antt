@@ -62,7 +62,7 @@ use Rattle.tables.proofs.Push.{pushed-one}
 use Rattle.tables.specs.Laid.{LaidSnapshots}
 use Rattle.builder.specs.Pieces.{lastTime, isAbove}
 use Rattle.builder.proofs.Positions.{last-at}
-use Rattle.builder.proofs.Last.{put-last}
+use Rattle.snapshot_updates.proofs.Last.{put-last}
 use Rattle.standing.proofs.Beginning.{read-snapshots, read-log, laid-log, laid-snapshots, snapshots-ascend}
 use Rattle.standing.proofs.Closed.{held-ids, held-count}
 use Rattle.standing.proofs.Logged.{stored}

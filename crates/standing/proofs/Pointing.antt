@@ -49,12 +49,12 @@ use Rattle.tables.proofs.Table.{at, read-length}
 use Rattle.tables.proofs.Each.{tidy-snapshots, tidy-refs, made-refs, ref-at, tidy-snapshot-log, made-snapshot-log}
 use Rattle.tables.proofs.Push.{pushed-one, replaced}
 use Rattle.builder.specs.declared.builder.TableMetadataBuilder.{TableMetadataBuilder}
-use Rattle.builder.specs.declared.refs.AsMain.{AsMain}
+use Rattle.ref_updates.specs.declared.AsMain.{AsMain}
 use Rattle.builder.specs.Pieces.{laidBuilder, idsOf}
-use Rattle.builder.specs.Refs.{BecameMain}
-use Rattle.builder.proofs.Named.{named, named-long}
+use Rattle.ref_updates.specs.Refs.{BecameMain}
+use Rattle.ref_updates.proofs.Named.{named, named-long}
 use Rattle.builder.proofs.Positions.{found, first-at, snapshot-place, snapshot-found}
-use Rattle.builder.proofs.Wanted.{laid-ref}
+use Rattle.ref_updates.proofs.WantedRefs.{laid-ref}
 use Rattle.close.specs.Facts.{additions}
 use Rattle.standing.specs.Standing.{Tables, Logs, Ended, Standing}
 use Rattle.standing.proofs.Logged.{push-main, push-quiet, logs-addition}

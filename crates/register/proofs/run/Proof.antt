@@ -53,21 +53,21 @@ use Rattle.builder.proofs.builder.TableMetadataBuilder.new_from_metadata.Reads 
 use Rattle.builder.proofs.facts.ids_of.Reads as ids-of-reads
 use Rattle.builder.proofs.facts.is_last.Reads as is-last-reads
 use Rattle.builder.proofs.facts.position.Reads as position-reads
-use Rattle.builder.proofs.fields.update_fields.Reads as update-fields-reads
-use Rattle.builder.proofs.orders.update_orders.Reads as update-orders-reads
-use Rattle.builder.proofs.refs.addition.Reads as addition-reads
-use Rattle.builder.proofs.refs.as_main.Reads as as-main-reads
-use Rattle.builder.proofs.refs.is_tag.Reads as is-tag-reads
-use Rattle.builder.proofs.refs.put_ref.Reads as put-ref-reads
-use Rattle.builder.proofs.refs.remove_ref.Reads as remove-ref-reads
-use Rattle.builder.proofs.refs.same_reference.Reads as same-reference-reads
-use Rattle.builder.proofs.refs.set_ref_number.Reads as set-ref-number-reads
-use Rattle.builder.proofs.refs.setting.Reads as setting-reads
-use Rattle.builder.proofs.refs.wanted.Reads as wanted-reads
-use Rattle.builder.proofs.schemas.update_schemas.Reads as update-schemas-reads
-use Rattle.builder.proofs.snapshots.add_snapshot_builder.Reads as add-snapshot-builder-reads
-use Rattle.builder.proofs.snapshots.add_snapshot_number.Reads as add-snapshot-number-reads
-use Rattle.builder.proofs.snapshots.remove_snapshots.Reads as remove-snapshots-reads
+use Rattle.field_updates.proofs.update_fields.Reads as update-fields-reads
+use Rattle.order_updates.proofs.update_orders.Reads as update-orders-reads
+use Rattle.ref_updates.proofs.addition.Reads as addition-reads
+use Rattle.ref_updates.proofs.as_main.Reads as as-main-reads
+use Rattle.ref_updates.proofs.is_tag.Reads as is-tag-reads
+use Rattle.ref_updates.proofs.put_ref.Reads as put-ref-reads
+use Rattle.ref_updates.proofs.remove_ref.Reads as remove-ref-reads
+use Rattle.ref_updates.proofs.same_reference.Reads as same-reference-reads
+use Rattle.ref_updates.proofs.set_ref_number.Reads as set-ref-number-reads
+use Rattle.ref_updates.proofs.setting.Reads as setting-reads
+use Rattle.ref_updates.proofs.wanted.Reads as wanted-reads
+use Rattle.schema_updates.proofs.update_schemas.Reads as update-schemas-reads
+use Rattle.snapshot_updates.proofs.add_snapshot_builder.Reads as add-snapshot-builder-reads
+use Rattle.snapshot_updates.proofs.add_snapshot_number.Reads as add-snapshot-number-reads
+use Rattle.snapshot_updates.proofs.remove_snapshots.Reads as remove-snapshots-reads
 use Rattle.formed.proofs.update.is_formed.Reads as is-formed-reads
 use Rattle.records.proofs.reference.NamedRef.blank.Reads as reference-NamedRef-blank-reads
 use Rattle.records.proofs.update.TableUpdate.blank.Reads as update-TableUpdate-blank-reads
@@ -78,8 +78,8 @@ use Rattle.standing.proofs.start_number.Reads as start-number-reads
 use Rattle.tables.specs.Laid.{LaidName}
 use Rattle.tables.specs.Places.{indexOf}
 use Rattle.records.specs.declared.snapshot.SnapshotLog.{SnapshotLog}
-use Rattle.builder.proofs.Named.{named-within}
-use Rattle.builder.proofs.Wanted.{wanted-read, wanted-laid, laid-ref}
+use Rattle.ref_updates.proofs.Named.{named-within}
+use Rattle.ref_updates.proofs.WantedRefs.{wanted-read, wanted-laid, laid-ref}
 use Rattle.tables.proofs.names.is_main_name.Reads as is-main-name-reads
 use Rattle.tables.proofs.refs.find.Reads as find-reads
 use Rattle.tables.proofs.snapshots.put.Reads as put-reads

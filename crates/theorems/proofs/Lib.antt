@@ -1,0 +1,2 @@
+-- What is true of `run`, by its contract alone.
+pub mod Run

@@ -1,0 +1,94 @@
+-- The entry point `run`: what its contract, as it stands in the source, says of its answers. A call is any arguments and any answer that the contract allows for them.
+use mathlib.Core.Path.{_≡_, sym, ap, subst, _∙_}
+use mathlib.Core.List.{List}
+use Prim.Native.Nat.{ℕ}
+use borrow.Fn.Kinds.{Dens, endedOf}
+use contract.Lifetimes.{Lfts}
+use denote.Ref.{now}
+use denote.Triple.Clauses.{AtExit}
+use Rattle.records.specs.declared.metadata.TableMetadata.{TableMetadata}
+use Rattle.records.specs.declared.update.UpdateList.{UpdateList}
+use Rattle.records.specs.declared.run.RunTerms.{RunTerms}
+use Rattle.records.specs.declared.run.Answer.{Answer}
+use Rattle.rules.specs.Replay.{strip}
+use Rattle.rules.specs.Kinds.{readUpdates, laidUpdates}
+use Rattle.rules.specs.Answer.{answer}
+use Rattle.rules.proofs.AnswerLaws.{Formed, Fits, Unchanged, answer-formed, answer-log-fits, answer-refused}
+use Rattle.rules.proofs.AnswerReplays.{Replays, answer-replays}
+use Rattle.register.proofs.run.Kinds.{ps, r}
+use Rattle.register.proofs.run.Reads.{Post}
+
+-- a call of `run`, and an answer that its contract allows
+pub record Call : Type 1 where
+  pub lifetimes : Lfts 1
+  pub given : Dens lifetimes ps
+  pub answered : Answer
+  pub left : AtExit (endedOf 1 ps r) lifetimes
+  pub allowed : Post lifetimes given answered left
+
+module _ (c : Call) where
+  abbrev pub start : TableMetadata
+  start = c .given .0
+
+  abbrev pub updates : UpdateList
+  updates = c .given .1 .0
+
+  abbrev pub terms : RunTerms
+  terms = c .given .1 .1 .0
+
+  -- the limit text
+  abbrev pub text : List ℕ
+  text = now (c .given .1 .1 .1 .0)
+
+  -- its contract, read
+  says : c .answered ≡ answer start updates terms text
+  says = c .allowed
+
+-- the same start, clock, file name and limit text
+pub record Alike (c d : Call) : Type 0 where
+  pub start : start d ≡ start c
+  pub terms : terms d ≡ terms c
+  pub text : text d ≡ text c
+
+-- any two answers that the contract allows for equal arguments are equal
+pub run-unique : (c d : Call) → Alike c d → updates d ≡ updates c → d .answered ≡ c .answered
+run-unique c d a u = says d ∙ rw (a .start, a .terms, a .text, u) (sym (says c))
+
+module _ (c : Call) (e : c .answered .number ≡ 0) where
+  -- an accepted run's metadata can start the next run
+  pub run-formed : Formed (c .answered .metadata)
+  run-formed = rw (says c) (answer-formed (start c) (updates c) (terms c) (text c) (rw (says c) at e))
+
+  -- an accepted run's changes are well formed, and their sum is at most 64
+  pub run-log-fits : Fits (c .answered .changes)
+  run-log-fits = rw (says c) (answer-log-fits (start c) (updates c) (terms c) (text c) (rw (says c) at e))
+
+-- a refused run gives back its start, no changes and no expired entries
+pub run-refused : (c : Call) → (c .answered .number ≡ 0 → ⊥) → Unchanged (start c) (c .answered)
+run-refused c n = rw (says c) (answer-refused (start c) (updates c) (terms c) (text c) (rw (says c) at n))
+
+-- where the second call runs the changes of the first, and the third those of the second
+pub record Leads (first second third : Call) : Type 0 where
+  pub accepted : second .answered .number ≡ 0
+  pub metadata : second .answered .metadata ≡ first .answered .metadata
+  pub expired : second .answered .expired ≡ first .answered .expired
+  -- the first changes, less the schema removals that name no schema
+  pub changes : second .answered .changes ≡ laidUpdates (strip (readUpdates (first .answered .changes)))
+  pub settles : third .answered ≡ second .answered
+
+-- The log suffices.
+pub run-replays : (first second third : Call) → first .answered .number ≡ 0
+    → Alike first second → updates second ≡ first .answered .changes
+    → Alike first third → updates third ≡ second .answered .changes
+    → Leads first second third
+run-replays c d f e a u b v =
+    let R : Replays (start c) (updates c) (terms c) (text c) = answer-replays (start c) (updates c) (terms c) (text c) (rw (says c) at e) in
+    let D : d .answered ≡ answer (start c) (answer (start c) (updates c) (terms c) (text c) .changes) (terms c) (text c) = says d ∙ rw (a .start, a .terms, a .text, u, says c) in
+    let F : f .answered ≡ answer (start c) (d .answered .changes) (terms c) (text c) = says f ∙ rw (b .start, b .terms, b .text, v) in
+    record {
+      accepted = rw D (R .accepted);
+      metadata = rw (D, says c) (R .metadata);
+      expired = rw (D, says c) (R .expired);
+      changes = rw (D, says c) (R .changes);
+      settles = F ∙ rw D (R .settles);
+    }
