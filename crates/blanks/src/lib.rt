@@ -2,4 +2,4 @@
 // Any value is answered.
 // Document 01, "Unused slots and name bytes are zero or blank", as the crate `rules` writes it in Blanks.
 pub mod blanks;
-pub mod numbers;
+pub mod bounds;

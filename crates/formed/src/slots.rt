@@ -24,7 +24,7 @@ use blanks::blanks::schema_blank;
 use blanks::blanks::schema_tidy;
 use blanks::blanks::snapshot_blank;
 use blanks::blanks::snapshot_tidy;
-use blanks::numbers::snapshot_id_formed;
+use blanks::bounds::snapshot_id_formed;
 use records::capacities::FILE_NAME;
 use records::capacities::METADATA_LOG;
 use records::capacities::REFS;

@@ -115,3 +115,20 @@ passed-after (c ∷ cs) ds p e = go (c .0) (passed-after cs ds (and-right (ltb 0
     go : (b : Bool) → (firstOf (cs ++ ds) ≡ 0 → firstOf ds ≡ 0) → cond b (c .1) (firstOf (cs ++ ds)) ≡ 0 → firstOf ds ≡ 0
     go true ih e = failed (c .1) (and-left (ltb 0 (c .1)) (numbered cs) p) e
     go false ih e = ih e
+
+-- the number of checks that fail, and of others after them
+pub first-before : (cs ds : List Check) → (firstOf cs ≡ 0 → ⊥) → firstOf (cs ++ ds) ≡ firstOf cs
+first-before [] ds e = absurd (e refl)
+first-before (c ∷ cs) ds e = go (c .0) (first-before cs ds) e
+  where
+    go : (b : Bool) → ((firstOf cs ≡ 0 → ⊥) → firstOf (cs ++ ds) ≡ firstOf cs) → (cond b (c .1) (firstOf cs) ≡ 0 → ⊥) → cond b (c .1) (firstOf (cs ++ ds)) ≡ cond b (c .1) (firstOf cs)
+    go true ih e = refl
+    go false ih e = ih e
+
+pub first-after : (cs ds : List Check) → numbered cs ≡ true → firstOf cs ≡ 0 → firstOf (cs ++ ds) ≡ firstOf ds
+first-after [] ds p e = refl
+first-after (c ∷ cs) ds p e = go (c .0) (first-after cs ds (and-right (ltb 0 (c .1)) (numbered cs) p)) e
+  where
+    go : (b : Bool) → (firstOf cs ≡ 0 → firstOf (cs ++ ds) ≡ firstOf ds) → cond b (c .1) (firstOf cs) ≡ 0 → cond b (c .1) (firstOf (cs ++ ds)) ≡ firstOf ds
+    go true ih e = absurd (let l : 0 < c .1 = ltb-true 0 (c .1) (and-left (ltb 0 (c .1)) (numbered cs) p) in omega arith)
+    go false ih e = ih e

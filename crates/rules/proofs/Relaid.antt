@@ -1,17 +1,17 @@
 -- For well-formed metadata going from records to lists and back changes nothing (`relaid`): of every record with slots, those past the
 -- count are blank, and padding puts the same blanks there again.
-use Prim.Native.Nat.{ℕ, suc, _+_, _-_, _≤_, min}
+use Prim.Native.Nat.{ℕ, _+_, _-_, _≤_}
 use native.Mathlib.Omega.{arith}
 use mathlib.Core.Path.{_≡_, refl, sym, ap, ap₂, _∙_}
-use mathlib.Core.Bool.{Bool, true, false, not, _&&_, _||_, cond}
+use mathlib.Core.Bool.{Bool, true, false, not, _&&_, _||_}
 use mathlib.Core.List.{List, [], _∷_, _++_, map, append-nil}
-use mathlib.Core.Option.{Option, none, some}
+use mathlib.Core.Option.{none}
 use lib.Dec.{eqb, leb}
-use lib.IntN.{ℤ, pos, negsuc}
+use lib.IntN.{ℤ, pos}
 use lib.Signed.{nonNeg}
 use lib.ListN.{length, take, drop, replicate, length-append, length-replicate, length-take, length-drop, length-map, take-append-drop}
 use borrow.Author.Tests.{eqb-true, leb-true, not-true}
-use Rattle.records.specs.Blanks.{noRefName, noLocation, noFileName, noSnapshotId, noSnapshot, noLogEntry, noReference, noRef, noSchemaField, noSchema, noSchemaId, noSortField, noSortOrder, noMetadataLogEntry}
+use Rattle.records.specs.Blanks.{noRefName, noFileName, noSnapshot, noLogEntry, noReference, noRef, noSchemaField, noSchema, noSortField, noSortOrder, noMetadataLogEntry}
 use Rattle.records.specs.declared.counters.RowId.{RowId}
 use Rattle.records.specs.declared.text.RefName.{RefName}
 use Rattle.records.specs.declared.text.Location.{Location}
@@ -33,7 +33,7 @@ use Rattle.records.specs.declared.metadata.SingleFields.{SingleFields}
 use Rattle.records.specs.declared.metadata.TableMetadata.{TableMetadata}
 use Rattle.records.specs.declared.snapshot.Snapshot.{Snapshot}
 use Rattle.records.specs.declared.snapshot.Snapshots.{Snapshots}
-use Rattle.rules.specs.Words.{eqZ, isSome, orElse, all, unequal, ascending}
+use Rattle.rules.specs.Words.{isSome, orElse, all, unequal, ascending}
 use Rattle.rules.specs.Capacities.{snapshotRoom, refRoom, snapshotLogRoom, metadataLogRoom, schemaRoom, schemaFieldRoom, sortOrderRoom, sortFieldRoom, refNameRoom, locationRoom, fileNameRoom}
 use Rattle.rules.specs.WellFormed.{snapshotFormed, refFormed, refNameFormed, fileNameFormed, schemaFormed, orderFormed, offeredOrderFormed, sortFieldFormed, atLeastOne, versionFormed, locationFormed, fieldIds, snapshotBelow, refBelow, schemaBelow, orderBelow, snapshotsFormed, refsFormed, snapshotLogFormed, metadataLogFormed, schemasFormed, ordersFormed, fieldsFormed, refsHeld, mainAgrees, currentSchemaHeld, defaultOrderHeld, metadataFormed}
 use Rattle.rules.specs.Blanks.{isZero, isZeroZ, restBlank, tidySlots, noneUsed, isTidyRefName, isBlankRefName, isTidyLocation, isTidyFileName, isBlankFileName, isTidySnapshot, isBlankSnapshot, isTidySnapshots, isBlankLogEntry, isTidySnapshotLog, isTidyReference, isBlankReference, isTidyRef, isBlankRef, isTidyRefs, isBlankSchemaField, isTidySchema, isBlankSchema, isTidySchemas, isBlankSortField, isTidySortOrder, isBlankSortOrder, isTidySortOrders, isTidyMetadataLogEntry, isBlankMetadataLogEntry, isTidyMetadataLog, isTidyFields, isTidyMetadata}

@@ -1,7 +1,7 @@
 -- Adding and removing snapshots keeps metadata sound.
 use Prim.Native.Nat.{_<_}
 use mathlib.Core.Path.{_≡_, refl}
-use mathlib.Core.Bool.{true, not}
+use mathlib.Core.Bool.{true, false, not}
 use mathlib.Core.List.{List, [], _∷_}
 use lib.IntN.{ℤ}
 use lib.Signed.{nonNeg}
@@ -10,7 +10,7 @@ use borrow.Author.Tests.{leb-false}
 use Rattle.rules.specs.Words.{eqZ, ifSome, all, keep, isEmpty, isIn, put, firstOf}
 use Rattle.rules.specs.Capacities.{snapshotRoom, refRoom}
 use Rattle.rules.specs.Register.{Snapshot, NamedRef, Metadata, State, withSnapshots, withRefs, withLastSequence}
-use Rattle.rules.specs.WellFormed.{snapshotFormed, refFormed, snapshotBelow, refBelow, snapshotsFormed, refsFormed, refsHeld, pointsIn}
+use Rattle.rules.specs.WellFormed.{holdsSnapshot, snapshotFormed, refFormed, snapshotBelow, refBelow, snapshotsFormed, refsFormed, refsHeld, pointsIn}
 use Rattle.rules.specs.SnapshotUpdates.{addSnapshotChecks, addSnapshot, nextRowAfter, heldSnapshots, otherSnapshots, withoutSnapshots, removeSnapshots}
 use Rattle.rules.proofs.Checks.{by-test, parts, numbered, passed}
 use Rattle.rules.proofs.Orders.{numbers-ordered}
@@ -24,8 +24,13 @@ pub add-snapshot-numbered : (s : Snapshot) (st : State) → numbered (addSnapsho
 unfolding addSnapshotChecks
 add-snapshot-numbered s st = refl
 
+-- 5 leaves ids that are not held
+pub add-new : (s : Snapshot) (st : State) → firstOf (addSnapshotChecks s st) ≡ 0 → holdsSnapshot (st .metadata .snapshots) (s .id) ≡ false
+unfolding addSnapshotChecks
+add-new s st e = passed (addSnapshotChecks s st) (add-snapshot-numbered s st) e .0
+
 -- 19 leaves room
-add-room : (s : Snapshot) (st : State) → firstOf (addSnapshotChecks s st) ≡ 0 → length (st .metadata .snapshots) < snapshotRoom
+pub add-room : (s : Snapshot) (st : State) → firstOf (addSnapshotChecks s st) ≡ 0 → length (st .metadata .snapshots) < snapshotRoom
 unfolding addSnapshotChecks
 add-room s st e = leb-false snapshotRoom (length (st .metadata .snapshots)) (passed (addSnapshotChecks s st) (add-snapshot-numbered s st) e .1 .1 .1 .1 .1 .1 .1 .0)
 

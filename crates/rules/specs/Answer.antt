@@ -1,9 +1,9 @@
 -- What the entry point answers, on records with slots: the rules on what is read, laid out; on a refusal the metadata that was given.
 -- Document 01, "A refused run returns the starting metadata, an empty log and no expired entries."
 use Prim.Native.Nat.{ℕ}
-use mathlib.Core.Bool.{Bool, cond, _&&_}
-use mathlib.Core.List.{List, []}
-use mathlib.Core.Option.{Option, some}
+use mathlib.Core.Bool.{cond}
+use mathlib.Core.List.{List}
+use mathlib.Core.Option.{some}
 use Rattle.records.specs.Blanks.{noMetadataLog, noUpdates}
 use Rattle.records.specs.declared.metadata.TableMetadata.{TableMetadata}
 use Rattle.records.specs.declared.update.UpdateList.{UpdateList}

@@ -2,14 +2,13 @@
 -- and sentences that no P shows.
 -- That the rules give these replies is one statement over the list (`examples-hold`, in proofs/Examples).
 use Prim.Native.Nat.{ℕ}
-use mathlib.Core.Bool.{Bool, true, false}
 use mathlib.Core.List.{List, [], _∷_}
 use mathlib.Core.Option.{Option, none, some}
 use lib.IntN.{ℤ, pos, negsuc}
 use Rattle.records.specs.declared.counters.SequenceNumber.{SequenceNumber}
 use Rattle.records.specs.declared.counters.RowId.{RowId}
 use Rattle.rules.specs.Names.{mainName}
-use Rattle.rules.specs.Register.{Snapshot, RowRange, Reference, NamedRef, LogEntry, FileEntry, Schema, SortOrder, Metadata, Update, Terms, Outcome}
+use Rattle.rules.specs.Register.{Snapshot, Reference, NamedRef, LogEntry, FileEntry, Schema, Metadata, Update, Terms, Outcome}
 use Rattle.rules.specs.Register.Outcome.{Refused, Accepted}
 use Rattle.rules.specs.Register.Update.{AddSnapshot, RemoveSnapshots, SetRef, AddSchema, SetCurrentSchema, RemoveSchemas}
 use Rattle.rules.specs.Limit.{limitOf}

@@ -2,13 +2,12 @@
 -- count says: a slot that is not there reads as blank, so nothing is lost of a count above the capacity. Laying pads with blanks.
 -- For well-formed metadata going there and back changes nothing (`relaid`, in proofs/Relaid).
 use Prim.Native.Nat.{ℕ, _-_}
-use mathlib.Core.Bool.{Bool, true, false, cond}
-use mathlib.Core.List.{List, [], _∷_, _++_, map}
+use mathlib.Core.Bool.{Bool, true, false}
+use mathlib.Core.List.{List, _++_, map}
 use mathlib.Core.Option.{Option, none, some}
-use lib.Dec.{eqb}
 use lib.IntN.{ℤ, pos}
 use lib.ListN.{length, take, replicate}
-use Rattle.records.specs.Blanks.{noRefName, noLocation, noFileName, noSnapshotId, noSnapshot, noSnapshotIds, noLogEntry, noReference, noRef, noSchemaField, noSchema, noSchemaId, noSchemaIds, noSortField, noSortOrder, noMetadataLogEntry, noUpdate}
+use Rattle.records.specs.Blanks.{noSnapshotId, noSnapshot, noLogEntry, noRef, noSchemaField, noSchema, noSchemaId, noSortField, noSortOrder, noMetadataLogEntry}
 use Rattle.records.specs.declared.counters.RowId.{RowId}
 use Rattle.records.specs.declared.counters.SnapshotId.{SnapshotId}
 use Rattle.records.specs.declared.counters.SchemaId.{SchemaId}

@@ -1,6 +1,6 @@
 -- The limit of the metadata log: document 01, "The close", third paragraph.
 use Prim.Native.Nat.{ℕ, _+_, _-_, _*_, max}
-use mathlib.Core.Bool.{Bool, true, false, cond, _&&_, not}
+use mathlib.Core.Bool.{Bool, cond, _&&_, not}
 use mathlib.Core.List.{List, [], _∷_}
 use mathlib.Core.Option.{Option, none, some}
 use lib.Dec.{eqb, leb}

@@ -2,8 +2,8 @@
 -- Document 01, "What is carried over", and the public table format, "Table Metadata", "Snapshots", "Snapshot References", "Sort Orders".
 use Prim.Native.Nat.{ℕ}
 use mathlib.Core.List.{List, [], _∷_, _++_}
-use mathlib.Core.Option.{Option, none, some}
-use lib.IntN.{ℤ, pos, negsuc}
+use mathlib.Core.Option.{Option}
+use lib.IntN.{ℤ, negsuc}
 use Rattle.records.specs.declared.counters.SequenceNumber.{SequenceNumber}
 use Rattle.records.specs.declared.counters.RowId.{RowId}
 

@@ -1,10 +1,10 @@
 -- Ancestor walks: document 01, "Ancestor walks".
 use Prim.Native.Nat.{ℕ, zero, suc}
-use mathlib.Core.Bool.{Bool, true, false, cond, not, _&&_}
+use mathlib.Core.Bool.{Bool, cond, not, _&&_}
 use mathlib.Core.List.{List, [], _∷_, _++_, map}
 use mathlib.Core.Option.{Option, none, some}
 use lib.Dec.{eqb, leb}
-use lib.IntN.{ℤ, pos, negsuc}
+use lib.IntN.{ℤ, negsuc}
 use lib.Signed.{nonNeg}
 use lib.ListN.{length, drop}
 use Rattle.rules.specs.Words.{eqZ, all, isIn, unequal, someWith, orElse}

@@ -2,14 +2,14 @@
 -- A record of a table is well formed by itself; a table by its count, its records and its order; metadata by its tables, its single
 -- fields, and what they say of each other.
 use Prim.Native.Nat.{ℕ}
-use mathlib.Core.Bool.{Bool, true, false, cond, not, _&&_, _||_, Bool·beq}
-use mathlib.Core.List.{List, [], _∷_, map}
+use mathlib.Core.Bool.{Bool, true, false, not, _&&_, _||_, Bool·beq}
+use mathlib.Core.List.{List, map}
 use mathlib.Core.Option.{Option, none, some}
-use lib.Dec.{eqb, ltb, leb}
-use lib.IntN.{ℤ, pos, negsuc}
+use lib.Dec.{eqb, leb}
+use lib.IntN.{ℤ, pos}
 use lib.Signed.{ltZ, leZ, nonNeg}
 use lib.ListN.{length}
-use Rattle.rules.specs.Words.{eqZ, isSome, ifSome, someWith, sameOption, all, any, first, isEmpty, unequal, isIn, ascending}
+use Rattle.rules.specs.Words.{eqZ, isSome, ifSome, sameOption, all, any, first, isEmpty, unequal, ascending}
 use Rattle.rules.specs.Capacities.{snapshotRoom, refRoom, snapshotLogRoom, metadataLogRoom, schemaRoom, schemaFieldRoom, sortOrderRoom, sortFieldRoom, removalRoom, refNameRoom, locationRoom, fileNameRoom}
 use Rattle.rules.specs.Names.{nameBelow, isMain}
 use Rattle.rules.specs.Register.{Snapshot, Reference, NamedRef, LogEntry, FileEntry, SchemaField, Schema, SortField, SortOrder, SingleFields, Metadata, Update, lastAdded}

@@ -1,60 +1,50 @@
 -- An addition of a snapshot: a refusal, or one snapshot and one entry more.
-use Prim.Native.Nat.{ℕ, suc, _+_, _-_, _≤_, _<_}
+use Prim.Native.Nat.{ℕ, _+_, _-_, _≤_, _<_}
 use native.Mathlib.Omega.{arith}
-use mathlib.Core.Path.{_≡_, refl, sym, ap, ap₂, subst, _∙_}
-use mathlib.Core.Bool.{Bool, true, false, cond, not, true≢false, false≢true}
-use mathlib.Core.List.{List, [], _∷_, _++_, map, map-append}
-use mathlib.Core.Option.{Option, none, some}
-use lib.Dec.{eqb, leb, ltb}
+use mathlib.Core.Path.{_≡_, refl, sym, ap, _∙_}
+use mathlib.Core.Bool.{Bool, true, false}
+use mathlib.Core.List.{List, [], _∷_, _++_, map-append}
+use mathlib.Core.Option.{none}
+use lib.Dec.{ltb}
 use lib.IntN.{ℤ, pos}
 use lib.ListN.{length, drop, take, set, getD, length-map}
-use borrow.Author.Tests.{leb-false, lt-ltb, le-ltb}
-use borrow.Table.Steps.{cases}
-use Rattle.records.specs.Blanks.{noUpdate}
+use borrow.Author.Tests.{lt-ltb, le-ltb}
 use Rattle.records.specs.declared.metadata.TableMetadata.{TableMetadata}
 use Rattle.records.specs.declared.snapshot.Snapshots.{Snapshots}
-use Rattle.records.specs.declared.snapshot.SnapshotIds.{SnapshotIds}
 use Rattle.records.specs.declared.snapshot.SnapshotLog.{SnapshotLog}
 use Rattle.records.specs.declared.reference.Refs.{Refs}
 use Rattle.records.specs.declared.schema.Schemas.{Schemas}
 use Rattle.records.specs.declared.«sort_order».SortOrders.{SortOrders}
-use Rattle.records.specs.declared.text.RefName.{RefName}
 use Rattle.records.specs.declared.update.TableUpdate.{TableUpdate}
 use Rattle.records.specs.declared.update.UpdateList.{UpdateList}
 use Rattle.records.specs.declared.run.RunTerms.{RunTerms}
 use Rattle.records.specs.declared.run.Answer.{Answer}
 use Rattle.rules.specs.Words.{firstOf, put}
 use Rattle.rules.specs.Register as plain
-use Rattle.rules.specs.Register.{Update, State, Terms}
+use Rattle.rules.specs.Register.{Update, State}
 use Rattle.rules.specs.Register.Update.{AddSnapshot}
 use Rattle.rules.specs.Register.Outcome.{Refused}
 use Rattle.rules.specs.WellFormed.{updateFormed, snapshotBelow}
 use Rattle.rules.specs.SnapshotUpdates.{addSnapshotChecks, addSnapshot}
-use Rattle.rules.specs.Names.{isMain}
-use Rattle.rules.specs.RefUpdates.{removeRef, refNamed}
-use Rattle.rules.specs.Updates.{checks, updateNumber, effect}
+use Rattle.rules.specs.Updates.{checks, effect}
 use Rattle.rules.specs.Run.{weight}
-use Rattle.rules.specs.Layout.{pad, readSnapshots, laidSnapshots, readSnapshotIds, laidSnapshotIds, readRefName, laidRefName, readRefs, laidRefs, laidSchemas, laidSortOrders}
+use Rattle.rules.specs.Layout.{pad, readSnapshots, laidSnapshots}
 use Rattle.rules.specs.Kinds.{readUpdates, laidUpdate}
-use Rattle.rules.specs.Answer.{readTerms, laidOutcome, answer}
-use Rattle.rules.proofs.Checks.{by-test}
+use Rattle.rules.specs.Answer.{laidOutcome, answer}
 use Rattle.rules.proofs.ReplaySteps.{accepted-if}
-use Rattle.rules.proofs.Reread.{reread-snapshots, reread-refs}
+use Rattle.rules.proofs.Reread.{reread-snapshots}
 use Rattle.builder.specs.declared.builder.TableMetadataBuilder.{TableMetadataBuilder}
-use Rattle.builder.specs.Pieces.{laidBuilder, idsOf, Took, Stepped}
-use Rattle.builder.specs.Answers.{Answers}
-use Rattle.standing.specs.Standing.{startNumber, Tables, Logs, Kept, Ended, Standing}
-use Rattle.standing.proofs.Effects.{Moves, moves, group, Aside, aside, Quiet}
+use Rattle.builder.specs.Pieces.{laidBuilder, idsOf}
+use Rattle.standing.specs.Standing.{startNumber, Tables, Ended, Standing}
 use Rattle.standing.proofs.Logged.{push-addition}
-use Rattle.standing.proofs.Moving.{fits, next, refusal, stays, took}
+use Rattle.standing.proofs.Moving.{fits, next, refusal}
 use Rattle.standing.proofs.Groups.{check-refused}
 use Rattle.records.specs.declared.counters.Time.{Time}
 use Rattle.records.specs.declared.snapshot.Snapshot.{Snapshot}
 use Rattle.records.specs.declared.snapshot.SnapshotLogEntry.{SnapshotLogEntry}
 use Rattle.rules.specs.WellFormed.{holdsSnapshot}
 use Rattle.rules.specs.Layout.{given, readSnapshot, laidSnapshot, readLogEntry, readSnapshotLog}
-use Rattle.rules.proofs.Checks.{passed}
-use Rattle.rules.proofs.SoundSnapshots.{add-snapshot-numbered}
+use Rattle.rules.proofs.SoundSnapshots.{add-room, add-new}
 use Rattle.rules.proofs.Tables.{put-length}
 use Rattle.tables.proofs.Table.{at, read-length}
 use Rattle.tables.proofs.Each.{tidy-snapshot-log, tidy-snapshots, made-snapshots}
@@ -68,20 +58,7 @@ use Rattle.standing.proofs.Closed.{held-ids, held-count}
 use Rattle.standing.proofs.Logged.{stored}
 use Rattle.standing.proofs.Taken.{laid-of}
 
--- ---- what the checks leave
-
-module _ (x : plain.Snapshot) (st : State) (n : firstOf (addSnapshotChecks x st) ≡ 0) where
-  -- 19: there is room
-  pub add-room : length (st .metadata .snapshots) < 64
-  unfolding addSnapshotChecks
-  add-room = leb-false 64 (length (st .metadata .snapshots)) (passed (addSnapshotChecks x st) (add-snapshot-numbered x st) n .1 .1 .1 .1 .1 .1 .1 .0)
-
-  -- 5: the id is new
-  pub add-new : holdsSnapshot (st .metadata .snapshots) (x .id) ≡ false
-  unfolding addSnapshotChecks
-  add-new = passed (addSnapshotChecks x st) (add-snapshot-numbered x st) n .0
-
--- ---- what they read, and what the addition stores
+-- ---- what its checks read, and what it stores
 
 module _ {m : TableMetadata} {terms : RunTerms} {st : State} {b : TableMetadataBuilder} {t : Snapshots} {is : List ℤ} {r : Refs} {h : SnapshotLog} {s : Schemas} {o : SortOrders} {es : List TableUpdate} {c : ℕ} {ns : List ℤ} {a : ℕ} {ms : List ℤ} {k : ℕ} {f : Bool}
     (E : Ended m terms st b t is r h s o es c ns a ms k f) where

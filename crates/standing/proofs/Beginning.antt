@@ -1,7 +1,7 @@
 -- Before the first update the pieces are those of the start, and what the tables' functions ask of them holds between any two updates.
-use Prim.Native.Nat.{ℕ, _+_, _≤_, _<_}
+use Prim.Native.Nat.{ℕ, _≤_}
 use native.Mathlib.Omega.{arith}
-use mathlib.Core.Path.{_≡_, refl, sym, ap, subst, _∙_}
+use mathlib.Core.Path.{_≡_, refl, sym, ap, _∙_}
 use mathlib.Core.Bool.{Bool, true, false}
 use mathlib.Core.List.{List, [], _∷_}
 use lib.Dec.{leb}
@@ -18,26 +18,25 @@ use Rattle.records.specs.declared.«sort_order».SortOrders.{SortOrders}
 use Rattle.records.specs.declared.update.TableUpdate.{TableUpdate}
 use Rattle.records.specs.declared.update.UpdateList.{UpdateList}
 use Rattle.records.specs.declared.run.RunTerms.{RunTerms}
-use Rattle.rules.specs.Words.{all, any, ascending, total}
+use Rattle.rules.specs.Words.{any, ascending}
 use Rattle.rules.specs.Capacities.{snapshotRoom, refRoom, snapshotLogRoom, schemaRoom, sortOrderRoom, refNameRoom, schemaFieldRoom, sortFieldRoom, locationRoom}
 use Rattle.rules.specs.Register as plain
 use Rattle.rules.specs.Register.{State}
-use Rattle.rules.specs.WellFormed.{snapshotFormed, refFormed, schemaFormed, orderFormed, refNameFormed, snapshotBelow, refBelow, schemaBelow, orderBelow, snapshotsFormed, refsFormed, snapshotLogFormed, schemasFormed, ordersFormed, fieldsFormed, offeredOrderFormed, versionFormed, locationFormed, fieldIds, atLeastOne, sortFieldFormed, hasSchema, hasOrder, currentSchemaHeld, defaultOrderHeld}
+use Rattle.rules.specs.WellFormed.{snapshotFormed, refFormed, schemaFormed, orderFormed, refNameFormed, snapshotBelow, refBelow, schemaBelow, orderBelow, snapshotsFormed, refsFormed, snapshotLogFormed, schemasFormed, ordersFormed, fieldsFormed, offeredOrderFormed, versionFormed, locationFormed, hasSchema, hasOrder, currentSchemaHeld, defaultOrderHeld}
 use lib.Signed.{nonNeg}
 use Rattle.rules.specs.ChangeLog.{logsMain, logsRemoval}
-use Rattle.rules.specs.Run.{started, listSum, weight}
-use Rattle.rules.specs.Layout.{pad, readMetadata, readSnapshots, laidSnapshots, readRefs, laidRefs, readSnapshotLog, laidSnapshotLog, readSchemas, laidSchemas, readSortOrders, laidSortOrders, laidFields, readFields, laidLocation, laidMetadata}
-use Rattle.rules.specs.Kinds.{readUpdates}
-use Rattle.rules.proofs.Sound.{Sound, formed-sound}
+use Rattle.rules.specs.Run.{started, listSum}
+use Rattle.rules.specs.Layout.{pad, readMetadata, readSnapshots, readRefs, readSnapshotLog, readSchemas, readSortOrders, laidFields, readFields, laidLocation, laidMetadata}
+use Rattle.rules.proofs.Sound.{formed-sound}
 use Rattle.rules.proofs.Relaid.{relaid}
 use Rattle.rules.proofs.Reread.{reread-snapshots, reread-refs, reread-snapshot-log, reread-schemas, reread-sort-orders, reread-fields}
 use Rattle.rules.proofs.Tables.{table-parts, log-fits, all-then}
-use Rattle.rules.proofs.Checks.{and-left, and-right, parts}
+use Rattle.rules.proofs.Checks.{and-left, parts}
 use Rattle.tables.specs.Laid.{LaidSnapshots, LaidRefs, LaidSnapshotLog, LaidSchemas, LaidOrders}
 use Rattle.builder.specs.declared.builder.TableMetadataBuilder.{TableMetadataBuilder}
 use Rattle.builder.specs.Pieces.{fresh, laidBuilder, idsOf}
 use Rattle.close.specs.Facts.{additions}
-use Rattle.standing.specs.Standing.{startNumber, Tables, Logs, Kept, Ended, Standing}
+use Rattle.standing.specs.Standing.{startNumber, Ended, Standing}
 use Rattle.standing.proofs.Started.{Starts, starts, file-short}
 
 module _ (m : TableMetadata) (us : UpdateList) (terms : RunTerms) (text : List ℕ) (z : startNumber m us terms ≡ 0) where

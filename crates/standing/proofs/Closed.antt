@@ -1,15 +1,14 @@
 -- The close: what it is told, and what its answer makes of the run.
-use Prim.Native.Nat.{ℕ, _+_, _≤_, _<_}
+use Prim.Native.Nat.{ℕ, _≤_}
 use native.Mathlib.Omega.{arith}
 use mathlib.Core.Path.{_≡_, refl, sym, ap, _∙_}
 use mathlib.Core.Bool.{Bool, true, false, cond, not, _&&_}
 use mathlib.Core.List.{List, [], _∷_}
-use lib.Dec.{eqb, ltb}
+use lib.Dec.{ltb}
 use lib.IntN.{ℤ, pos}
 use lib.ListN.{length, take, length-map}
-use borrow.Author.Tests.{eq-eqb, ne-eqb}
+use borrow.Author.Tests.{ne-eqb}
 use Rattle.records.specs.declared.metadata.TableMetadata.{TableMetadata}
-use Rattle.records.specs.declared.metadata.MetadataLog.{MetadataLog}
 use Rattle.records.specs.declared.metadata.SingleFields.{SingleFields}
 use Rattle.records.specs.declared.counters.Time.{Time}
 use Rattle.records.specs.declared.snapshot.Snapshots.{Snapshots}
@@ -22,8 +21,8 @@ use Rattle.records.specs.declared.run.RunTerms.{RunTerms}
 use Rattle.records.specs.declared.run.Answer.{Answer}
 use Rattle.rules.specs.Words.{firstOf, orElse, afterLast, Check}
 use Rattle.rules.specs.Capacities.{metadataLogRoom}
-use Rattle.rules.specs.Replies.{defaultOrderUnfit, logEndsElsewhere, mainDisagrees, tooManyFiles, accepted}
-use Rattle.rules.specs.Register.{Metadata, Update, State, Terms}
+use Rattle.rules.specs.Replies.{defaultOrderUnfit, logEndsElsewhere, mainDisagrees}
+use Rattle.rules.specs.Register.{State}
 use Rattle.rules.specs.Register.Outcome.{Refused, Accepted}
 use Rattle.rules.specs.WellFormed.{mainAgrees, metadataLogFormed, fileNameFormed}
 use Rattle.rules.specs.ChangeLog.{logsMain, logsRemoval, mainTarget}
@@ -31,8 +30,8 @@ use Rattle.rules.specs.Limit.{limitOf, isNumber, afterPlus}
 use Rattle.rules.proofs.Checks.{by-test}
 use Rattle.rules.specs.Close.{isRebuilt, isMissing, isIntermediate, rebuilt, isDefaultUnfit, endsElsewhere, history, staying, expired, closeChecks, closed}
 use Rattle.rules.specs.Run.{close}
-use Rattle.rules.specs.Layout.{pad, laidSnapshots, laidRefs, laidSnapshotLog, laidSchemas, laidSortOrders, laidFields, readFields, readSnapshotLog, readMetadataLog, laidMetadataLog, laidMetadata}
-use Rattle.rules.specs.Kinds.{laidUpdates, laidUpdate}
+use Rattle.rules.specs.Layout.{laidSnapshots, laidFields, readSnapshotLog, laidMetadata}
+use Rattle.rules.specs.Kinds.{laidUpdates}
 use Rattle.rules.specs.Answer.{readTerms, laidOutcome}
 use Rattle.rules.proofs.Reread.{reread-fields, reread-snapshot-log}
 use Rattle.rules.proofs.Tables.{log-fits, keep-length, afterLast-length}
@@ -44,7 +43,7 @@ use Rattle.close.specs.declared.history.History.{History}
 use Rattle.close.specs.declared.files.FileLogs.{FileLogs}
 use Rattle.close.specs.Facts.{addition, additions, Told}
 use Rattle.close.specs.Answers.{HistoryOf, Handed, Filed, FilesOf}
-use Rattle.standing.specs.Standing.{Tables, Logs, Kept, Ended}
+use Rattle.standing.specs.Standing.{Ended}
 use Rattle.standing.proofs.Slots.{pad-length, pad-front, collect-length}
 use Rattle.standing.proofs.Beginning.{read-fields, read-refs, read-log, read-schemas, read-orders, snapshots-fit, log-fit}
 

@@ -2,22 +2,21 @@
 use Prim.Native.Nat.{ℕ, _+_, _≤_}
 use native.Mathlib.Omega.{arith}
 use mathlib.Core.Path.{_≡_, refl, subst, _∙_}
-use mathlib.Core.Bool.{Bool, true, false, cond, true≢false}
+use mathlib.Core.Bool.{true, false, true≢false}
 use mathlib.Core.List.{List, [], _∷_, _++_}
-use mathlib.Core.Option.{Option, none, some}
+use mathlib.Core.Option.{none}
 use lib.Dec.{eqb}
-use lib.IntN.{ℤ, sucℤ}
 use lib.ListN.{length, length-append}
-use Rattle.rules.specs.Words.{eqZ, someWith, isEmpty, isIn, sameBytes, highest, isSome}
+use Rattle.rules.specs.Words.{eqZ, someWith, isEmpty, sameBytes, isSome}
 use Rattle.rules.specs.Names.{trimmed, isMain}
-use Rattle.rules.specs.Register.{Schema, SortOrder, Reference, Snapshot, Update, Terms, State, withOwn, logged, lastAdded}
+use Rattle.rules.specs.Register.{Reference, Snapshot, Update, Terms, State, logged}
 use Rattle.rules.specs.Register.Update.{AssignUuid, UpgradeFormatVersion, SetLocation, AddSnapshot, SetBranchSnapshot, RemoveSnapshots, SetRef, RemoveRef, AddSchema, SetCurrentSchema, RemoveSchemas, AddSortOrder, SetDefaultSortOrder, NotFormed}
 use Rattle.rules.specs.ChangeLog.{mainTarget, isSnapshotRemoval}
 use Rattle.rules.specs.SingleUpdates.{assignUuid, upgradeFormatVersion, setLocation}
 use Rattle.rules.specs.SnapshotUpdates.{addSnapshot, removeSnapshots, heldSnapshots}
-use Rattle.rules.specs.RefUpdates.{setRef, setBranchSnapshot, removeRef, isHeldRef, ownAfter, asMain, putRef, refNamed, committed}
-use Rattle.rules.specs.SchemaUpdates.{addSchema, setCurrentSchema, removeSchemas, reusedSchema, chosen, reuseSchema, newSchema, schemaIds}
-use Rattle.rules.specs.OrderUpdates.{addSortOrder, setDefaultSortOrder, reusedOrder, reuseOrder, newOrder, newOrderId}
+use Rattle.rules.specs.RefUpdates.{setRef, setBranchSnapshot, removeRef, isHeldRef, putRef, refNamed, committed}
+use Rattle.rules.specs.SchemaUpdates.{addSchema, setCurrentSchema, removeSchemas, reusedSchema, chosen}
+use Rattle.rules.specs.OrderUpdates.{addSortOrder, setDefaultSortOrder, reusedOrder}
 use Rattle.rules.specs.Updates.{effect}
 use Rattle.rules.specs.Run.{weight}
 use Rattle.rules.proofs.Checks.{by-test, by-option}

@@ -1,49 +1,42 @@
 -- What the answer of each group of updates says of the run: a refusal, a step, or nothing changed.
-use Prim.Native.Nat.{ℕ, _+_, _≤_, _<_}
+use Prim.Native.Nat.{ℕ, _+_, _≤_}
 use native.Mathlib.Omega.{arith}
-use mathlib.Core.Path.{_≡_, refl, sym, ap, ap₂, subst, _∙_}
-use mathlib.Core.Bool.{Bool, true, false, cond, not, true≢false, false≢true}
-use mathlib.Core.List.{List, [], _∷_, _++_, map}
-use mathlib.Core.Option.{Option, none, some}
-use lib.Dec.{eqb, leb, ltb}
+use mathlib.Core.Path.{_≡_, refl, sym, _∙_}
+use mathlib.Core.Bool.{Bool, true, false, not, true≢false, false≢true}
+use mathlib.Core.List.{List, [], _∷_, _++_}
 use lib.IntN.{ℤ, pos}
-use lib.ListN.{length, drop, take, set}
-use borrow.Author.Tests.{eq-eqb, ne-eqb, leb-true}
-use borrow.Table.Steps.{cases}
-use Rattle.records.specs.Blanks.{noUpdate}
+use lib.ListN.{drop, set}
 use Rattle.records.specs.declared.metadata.TableMetadata.{TableMetadata}
 use Rattle.records.specs.declared.snapshot.Snapshots.{Snapshots}
-use Rattle.records.specs.declared.snapshot.SnapshotIds.{SnapshotIds}
 use Rattle.records.specs.declared.snapshot.SnapshotLog.{SnapshotLog}
 use Rattle.records.specs.declared.reference.Refs.{Refs}
 use Rattle.records.specs.declared.schema.Schemas.{Schemas}
 use Rattle.records.specs.declared.«sort_order».SortOrders.{SortOrders}
-use Rattle.records.specs.declared.text.RefName.{RefName}
 use Rattle.records.specs.declared.update.TableUpdate.{TableUpdate}
 use Rattle.records.specs.declared.update.UpdateList.{UpdateList}
 use Rattle.records.specs.declared.run.RunTerms.{RunTerms}
 use Rattle.records.specs.declared.run.Answer.{Answer}
 use Rattle.rules.specs.Words.{firstOf, isEmpty, isSome, keep}
-use Rattle.rules.specs.Register.{Update, State, Terms}
+use Rattle.rules.specs.Register.{Update, State}
 use Rattle.rules.specs.Register.Update.{RemoveSnapshots, RemoveRef}
 use Rattle.rules.specs.Register.Outcome.{Refused}
 use Rattle.rules.specs.WellFormed.{updateFormed, pointsIn}
-use Rattle.rules.specs.SnapshotUpdates.{removeSnapshots, heldSnapshots, otherSnapshots, withoutSnapshots}
+use Rattle.rules.specs.SnapshotUpdates.{removeSnapshots, heldSnapshots, otherSnapshots}
 use Rattle.rules.specs.Names.{isMain}
 use Rattle.rules.specs.RefUpdates.{removeRef, refNamed}
 use Rattle.rules.specs.Updates.{checks, updateNumber, effect}
 use Rattle.rules.specs.Run.{weight}
-use Rattle.rules.specs.Layout.{pad, readSnapshots, laidSnapshots, readSnapshotIds, laidSnapshotIds, readRefName, laidRefName, readRefs, laidRefs, laidSchemas, laidSortOrders}
+use Rattle.rules.specs.Layout.{pad, readSnapshots, laidSnapshots, readRefs, laidRefs, laidSchemas, laidSortOrders}
 use Rattle.rules.specs.Kinds.{readUpdates, laidUpdate}
 use Rattle.rules.specs.Answer.{readTerms, laidOutcome, answer}
 use Rattle.rules.proofs.Checks.{by-test}
 use Rattle.rules.proofs.ReplaySteps.{accepted-if}
-use Rattle.rules.proofs.Reread.{reread-snapshots, reread-refs}
+use Rattle.rules.proofs.Reread.{reread-snapshots}
 use Rattle.builder.specs.declared.builder.TableMetadataBuilder.{TableMetadataBuilder}
-use Rattle.builder.specs.Pieces.{laidBuilder, idsOf, Took, Stepped}
+use Rattle.builder.specs.Pieces.{laidBuilder, idsOf}
 use Rattle.builder.specs.Answers.{Answers}
-use Rattle.standing.specs.Standing.{startNumber, Tables, Logs, Kept, Ended, Standing}
-use Rattle.standing.proofs.Effects.{Moves, moves, group, Aside, aside, Quiet}
+use Rattle.standing.specs.Standing.{startNumber, Tables, Standing}
+use Rattle.standing.proofs.Effects.{group}
 use Rattle.standing.proofs.Logged.{push-quiet, push-removal}
 use Rattle.standing.proofs.Moving.{fits, next, refusal, stays, took}
 use Rattle.standing.proofs.Beginning.{read-snapshots, read-refs}

@@ -1,17 +1,15 @@
 -- One update more: where it is accepted the pieces are those of the next state, where it is refused the answer is known.
-use Prim.Native.Nat.{ℕ, suc, _+_, _≤_, _<_}
+use Prim.Native.Nat.{ℕ, _+_, _≤_}
 use native.Mathlib.Omega.{arith}
 use native.Mathlib.Numerals.{add-one}
-use mathlib.Core.Path.{_≡_, refl, sym, ap, subst, _∙_}
-use mathlib.Core.Bool.{Bool, true, false, cond}
-use mathlib.Core.List.{List, [], _∷_, _++_, map}
-use mathlib.Core.Option.{Option, none, some}
-use lib.Dec.{eqb, leb}
-use lib.IntN.{ℤ, pos}
-use lib.ListN.{length, drop, take, set}
-use borrow.Author.Tests.{eq-eqb, ne-eqb, leb-true}
+use mathlib.Core.Path.{_≡_, sym, ap, _∙_}
+use mathlib.Core.Bool.{Bool, true, false}
+use mathlib.Core.List.{List, _∷_}
+use lib.Dec.{eqb}
+use lib.IntN.{ℤ}
+use lib.ListN.{length, drop, set}
+use borrow.Author.Tests.{eq-eqb, ne-eqb}
 use borrow.Table.Steps.{cases}
-use Rattle.records.specs.Blanks.{noUpdate}
 use Rattle.records.specs.declared.metadata.TableMetadata.{TableMetadata}
 use Rattle.records.specs.declared.snapshot.Snapshots.{Snapshots}
 use Rattle.records.specs.declared.snapshot.SnapshotLog.{SnapshotLog}
@@ -22,27 +20,19 @@ use Rattle.records.specs.declared.update.TableUpdate.{TableUpdate}
 use Rattle.records.specs.declared.update.UpdateList.{UpdateList}
 use Rattle.records.specs.declared.run.RunTerms.{RunTerms}
 use Rattle.records.specs.declared.run.Answer.{Answer}
-use Rattle.rules.specs.Words.{all, total, firstOf, ascending}
-use Rattle.rules.specs.Register as plain
-use Rattle.rules.specs.Register.{Update, State, Terms}
+use Rattle.rules.specs.Words.{total}
+use Rattle.rules.specs.Register.{Update}
 use Rattle.rules.specs.Register.Outcome.{Refused}
-use Rattle.rules.specs.WellFormed.{updateFormed, refNameFormed, snapshotBelow, refBelow, snapshotFormed, refFormed, schemaFormed, orderFormed, schemaBelow, orderBelow}
-use Rattle.rules.specs.Updates.{checks, updateNumber, effect}
-use Rattle.rules.specs.Run.{weight, listSum, runFrom, started, closeRan, close}
-use Rattle.rules.specs.Run.Ran.{Stopped, Reached}
-use Rattle.rules.specs.Layout.{readMetadata, readSnapshots, laidSnapshots, readRefs, laidRefs, readSnapshotLog, laidSnapshotLog, readSchemas, laidSchemas, readSortOrders, laidSortOrders}
-use Rattle.rules.specs.Kinds.{readUpdate, readUpdates, laidUpdate}
+use Rattle.rules.specs.Updates.{updateNumber, effect}
+use Rattle.rules.specs.Run.{weight, runFrom, started, close}
+use Rattle.rules.specs.Run.Ran.{Stopped}
+use Rattle.rules.specs.Layout.{readMetadata, laidSchemas, laidSortOrders}
+use Rattle.rules.specs.Kinds.{readUpdates}
 use Rattle.rules.specs.Answer.{readTerms, laidOutcome, answer}
-use Rattle.rules.proofs.Sound.{Sound}
 use Rattle.rules.proofs.SoundUpdates.{effect-sound}
-use Rattle.rules.proofs.ReplaySteps.{accepted-if}
-use Rattle.rules.proofs.Reread.{reread-snapshots, reread-refs, reread-snapshot-log, reread-schemas, reread-sort-orders}
-use Rattle.rules.proofs.Tables.{table-parts, log-fits, all-then}
-use Rattle.rules.proofs.Checks.{and-left, and-right}
-use Rattle.tables.specs.Laid.{LaidSnapshots, LaidRefs, LaidSnapshotLog, LaidSchemas, LaidOrders}
 use Rattle.builder.specs.declared.builder.TableMetadataBuilder.{TableMetadataBuilder}
-use Rattle.builder.specs.Pieces.{laidBuilder, Took, Stepped}
-use Rattle.standing.specs.Standing.{startNumber, Tables, Logs, Kept, Ended, Standing}
+use Rattle.builder.specs.Pieces.{Took}
+use Rattle.standing.specs.Standing.{startNumber, Tables, Logs, Standing}
 use Rattle.standing.proofs.Effects.{Moves, moves, group, Aside, aside}
 use Rattle.standing.proofs.Logged.{push-quiet}
 use Rattle.standing.proofs.Started.{starts, started-answer}

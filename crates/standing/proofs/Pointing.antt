@@ -2,21 +2,19 @@
 use Prim.Native.Nat.{ℕ, _+_, _≤_, _<_}
 use native.Mathlib.Omega.{arith}
 use mathlib.Core.Path.{_≡_, refl, sym, ap, subst, _∙_}
-use mathlib.Core.Bool.{Bool, true, false, cond, not, _&&_, true≢false, false≢true}
+use mathlib.Core.Bool.{Bool, true, false, not, _&&_}
 use mathlib.Core.List.{List, [], _∷_, _++_}
-use mathlib.Core.Option.{Option, none, some}
+use mathlib.Core.Option.{some}
 use lib.Dec.{leb, ltb}
-use lib.IntN.{ℤ, pos}
+use lib.IntN.{ℤ}
 use lib.ListN.{length, take, set, getD}
 use borrow.Author.Tests.{ltb-true, leb-false, lt-ltb, le-ltb, not-false}
 use borrow.Table.Steps.{cases}
 use Rattle.records.specs.Blanks.{noRef}
 use Rattle.records.specs.declared.counters.SnapshotId.{SnapshotId}
-use Rattle.records.specs.declared.counters.Time.{Time}
 use Rattle.records.specs.declared.metadata.TableMetadata.{TableMetadata}
 use Rattle.records.specs.declared.snapshot.Snapshot.{Snapshot}
 use Rattle.records.specs.declared.snapshot.Snapshots.{Snapshots}
-use Rattle.records.specs.declared.snapshot.SnapshotLogEntry.{SnapshotLogEntry}
 use Rattle.records.specs.declared.snapshot.SnapshotLog.{SnapshotLog}
 use Rattle.records.specs.declared.reference.SnapshotReference.{SnapshotReference}
 use Rattle.records.specs.declared.reference.NamedRef.{NamedRef}
@@ -27,65 +25,38 @@ use Rattle.records.specs.declared.text.RefName.{RefName}
 use Rattle.records.specs.declared.update.TableUpdate.{TableUpdate}
 use Rattle.records.specs.declared.update.UpdateList.{UpdateList}
 use Rattle.records.specs.declared.run.RunTerms.{RunTerms}
-use Rattle.rules.specs.Words.{eqZ, firstOf, all, any, first, ifSome, put, orElse, isSome, someWith, sameBytes, ascending, Check}
-use Rattle.rules.specs.Names.{isMain, nameBelow}
+use Rattle.rules.specs.Words.{eqZ, firstOf, all, any, first, ifSome, put, orElse, isSome, sameBytes, Check}
+use Rattle.rules.specs.Names.{isMain}
 use Rattle.rules.specs.Replies.{snapshotNotHeld, tableFull}
 use Rattle.rules.specs.Capacities.{refRoom, snapshotLogRoom}
 use Rattle.rules.specs.Register as plain
-use Rattle.rules.specs.Register.{State, Terms, withOwn}
+use Rattle.rules.specs.Register.{State, withOwn}
 use Rattle.rules.specs.Register.Update.{SetRef}
 use Rattle.rules.specs.WellFormed.{refBelow, hasSnapshot, holdsSnapshot}
 use Rattle.rules.specs.ChangeLog.{logsAddition}
-use Rattle.rules.specs.RefUpdates.{hasName, refNamed, sameReference, isHeldRef, setRefChecks, setRef, timeOf, ownAfter, asMain}
-use Rattle.rules.specs.Layout.{given, readRefName, readReference, laidReference, readRef, laidRef, readRefs, laidRefs, readSnapshot, readSnapshots, laidSnapshots, laidLogEntry, laidSnapshotLog, readSnapshotLog}
+use Rattle.rules.specs.RefUpdates.{hasName, refNamed, sameReference, isHeldRef, setRefChecks, setRef, timeOf, ownAfter}
+use Rattle.rules.specs.Layout.{given, readRefName, readReference, laidReference, readRef, laidRef, readRefs, laidRefs, readSnapshot, readSnapshots, laidLogEntry, laidSnapshotLog}
 use Rattle.rules.specs.Kinds.{laidUpdate}
-use Rattle.rules.specs.Answer.{readTerms}
-use Rattle.rules.proofs.Checks.{Passed, passed-unless, by-either}
-use Rattle.rules.proofs.Orders.{Ordered, Tells, names-ordered, names-told}
-use Rattle.rules.proofs.Tables.{byKey, all-head, all-tail, ascending-head, ascending-tail, first-any}
+use Rattle.rules.proofs.Checks.{Passed, passed-unless}
+use Rattle.rules.proofs.Orders.{names-ordered, names-told}
 use Rattle.tables.specs.Places.{indexOf}
-use Rattle.tables.specs.Laid.{LaidName, LaidRef}
+use Rattle.tables.specs.Laid.{LaidRef}
 use Rattle.tables.proofs.Table.{at, read-length}
 use Rattle.tables.proofs.Each.{tidy-snapshots, tidy-refs, made-refs, ref-at, tidy-snapshot-log, made-snapshot-log}
 use Rattle.tables.proofs.Push.{pushed-one, replaced}
+use Rattle.tables.proofs.Put.{put-held}
 use Rattle.builder.specs.declared.builder.TableMetadataBuilder.{TableMetadataBuilder}
 use Rattle.ref_updates.specs.declared.AsMain.{AsMain}
-use Rattle.builder.specs.Pieces.{laidBuilder, idsOf}
+use Rattle.builder.specs.Pieces.{laidBuilder}
 use Rattle.ref_updates.specs.Refs.{BecameMain}
 use Rattle.ref_updates.proofs.Named.{named, named-long}
 use Rattle.builder.proofs.Positions.{found, first-at, snapshot-place, snapshot-found}
-use Rattle.ref_updates.proofs.WantedRefs.{laid-ref}
 use Rattle.close.specs.Facts.{additions}
-use Rattle.standing.specs.Standing.{Tables, Logs, Ended, Standing}
+use Rattle.standing.specs.Standing.{Ended, Standing}
 use Rattle.standing.proofs.Logged.{push-main, push-quiet, logs-addition}
 use Rattle.standing.proofs.Beginning.{read-snapshots, read-refs, read-log, laid-snapshots, laid-refs, laid-log, refs-ascend}
-use Rattle.standing.proofs.Closed.{held-ids, held-count, held-fits, added-ids}
+use Rattle.standing.proofs.Closed.{held-ids, held-count, added-ids}
 use Rattle.standing.proofs.Setting.{Midway}
-
--- ---- a table in which the key is held
-
-module _ {A K : Type 0} {lt same : K → K → Bool} (o : Ordered lt) (t : Tells same) (key : A → K) where
-  -- what is below all of a table is below a key of it
-  below-held : (k j : K) (l : List A) → all (λ (x : A). lt k (key x)) l ≡ true → any (λ (x : A). same (key x) j) l ≡ true → lt k j ≡ true
-  below-held k j [] b h = absurd (false≢true h)
-  below-held k j (x ∷ l) b h =
-      let p : A → Bool = λ y. lt k (key y) in
-      by-either (same (key x) j) (any (λ (y : A). same (key y) j) l)
-      (λ e. subst (λ (z : K). lt k z ≡ true) (t .equal (key x) j e) (all-head p x l b))
-      (below-held k j l (all-tail p x l b)) h
-
-  not-turned : (a b : K) → lt a b ≡ true → lt b a ≡ false
-  not-turned a b h = cases (lt b a) (λ u. absurd (true≢false (sym (o .transitive a b a h u) ∙ o .irreflexive a))) (λ f. f)
-
-  -- a put takes the place of the one with that key
-  put-held : (a : A) (l : List A) → ascending (byKey lt key) l ≡ true → any (λ (x : A). same (key x) (key a)) l ≡ true → set l (indexOf (λ (x : A). same (key x) (key a)) l) a ≡ put (byKey lt key) a l
-  put-held a [] u h = absurd (false≢true h)
-  put-held a (x ∷ l) u h =
-      cases (same (key x) (key a))
-      (λ e. rw (e, t .equal (key x) (key a) e, o .irreflexive (key a)))
-      (λ e. let g : any (λ (y : A). same (key y) (key a)) l ≡ true = rw e at h in
-      let b : lt (key x) (key a) ≡ true = below-held (key x) (key a) l (ascending-head (byKey lt key) x l u) g in
-      rw (e, not-turned (key x) (key a) b, b) (ap {B = List A} (λ r. x ∷ r) (put-held a l (ascending-tail (byKey lt key) x l u) g)))
 
 -- the first that passes a test passes it
 first-passes : {A : Type 0} (p : A → Bool) (l : List A) → ifSome p (first p l) ≡ true

@@ -1,14 +1,14 @@
 -- Updates as they are read: by their kind, by their place in the list, and what they count.
-use Prim.Native.Nat.{ℕ, zero, suc, _+_, _-_, _≤_, _<_}
+use Prim.Native.Nat.{ℕ, zero, suc, _+_, _≤_, _<_}
 use native.Mathlib.Omega.{arith}
 use native.Mathlib.Numerals.{add-one}
 use mathlib.Core.Path.{_≡_, refl, sym, ap, _∙_}
 use mathlib.Core.Bool.{Bool, true, false, cond, _&&_, _||_, true≢false, false≢true}
-use mathlib.Core.List.{List, [], _∷_, _++_, map}
+use mathlib.Core.List.{List, [], _∷_, map}
 use lib.Dec.{eqb, leb, ltb}
 use lib.ListN.{length, getD, take, drop, length-map, length-take, drop-of-length-le}
 use lib.Seq.{drop-cons, getD-take}
-use borrow.Author.Tests.{le-leb, ne-eqb, eqb-true, eqb-false, ltb-true, ltb-false, leb-true, leb-false}
+use borrow.Author.Tests.{le-leb, ne-eqb, eqb-true, eqb-false, ltb-true, ltb-false, leb-true}
 use borrow.Table.Steps.{cases}
 use Rattle.records.specs.Blanks.{noUpdate}
 use Rattle.records.specs.declared.update.TableUpdate.{TableUpdate}
@@ -17,7 +17,7 @@ use Rattle.rules.specs.Words.{all, any, total}
 use Rattle.rules.specs.Register.{Update}
 use Rattle.rules.specs.Register.Update.{AssignUuid, UpgradeFormatVersion, SetLocation, AddSnapshot, SetBranchSnapshot, RemoveSnapshots, SetRef, RemoveRef, AddSchema, SetCurrentSchema, RemoveSchemas, AddSortOrder, SetDefaultSortOrder, NotFormed}
 use Rattle.rules.specs.WellFormed.{updateFormed}
-use Rattle.rules.specs.Run.{weight, listSum}
+use Rattle.rules.specs.Run.{weight}
 use Rattle.rules.specs.Layout.{counted, readRefName, readSnapshot, readReference, readSnapshotIds, readLocation, readSchema, readSchemaIds, readSortOrder}
 use Rattle.rules.specs.Kinds.{isTidyUpdate, kindWeight, atKind, readKind, readUpdate, readUpdates}
 use Rattle.rules.proofs.Checks.{and-left, and-right, by-either, neither, by-test}

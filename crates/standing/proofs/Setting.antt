@@ -2,15 +2,11 @@
 use Prim.Native.Nat.{ℕ, _+_, _≤_, _<_}
 use native.Mathlib.Omega.{arith}
 use mathlib.Core.Logic.{_⊎_, ⊎-elim}
-use mathlib.Core.Path.{_≡_, refl, sym, ap, subst, _∙_}
-use mathlib.Core.Bool.{Bool, true, false, cond, not, _&&_, true≢false, false≢true}
-use mathlib.Core.List.{List, [], _∷_, _++_, map}
-use mathlib.Core.Option.{Option, none, some}
-use lib.Dec.{eqb, leb, ltb}
+use mathlib.Core.Path.{_≡_, sym, _∙_}
+use mathlib.Core.Bool.{Bool, true, false}
+use mathlib.Core.List.{List, _∷_}
 use lib.IntN.{ℤ, pos}
-use lib.ListN.{length, drop, take, set, getD, length-append}
-use borrow.Author.Tests.{ltb-true, ltb-false, leb-false}
-use borrow.Table.Steps.{cases}
+use lib.ListN.{length, drop, set}
 use Rattle.records.specs.declared.metadata.TableMetadata.{TableMetadata}
 use Rattle.records.specs.declared.snapshot.Snapshots.{Snapshots}
 use Rattle.records.specs.declared.snapshot.SnapshotLog.{SnapshotLog}
@@ -21,7 +17,7 @@ use Rattle.records.specs.declared.update.TableUpdate.{TableUpdate}
 use Rattle.records.specs.declared.update.UpdateList.{UpdateList}
 use Rattle.records.specs.declared.run.RunTerms.{RunTerms}
 use Rattle.records.specs.declared.run.Answer.{Answer}
-use Rattle.rules.specs.Words.{firstOf, put, Check}
+use Rattle.rules.specs.Words.{firstOf, put}
 use Rattle.rules.specs.Register as plain
 use Rattle.rules.specs.Register.{Update, State}
 use Rattle.rules.specs.Register.Update.{AddSnapshot, SetBranchSnapshot, SetRef}
@@ -34,34 +30,17 @@ use Rattle.rules.specs.Run.{weight}
 use Rattle.rules.specs.Layout.{pad, laidSnapshots}
 use Rattle.rules.specs.Kinds.{readUpdates, laidUpdate}
 use Rattle.rules.specs.Answer.{readTerms, laidOutcome, answer}
-use Rattle.rules.proofs.Checks.{and-left, and-right, numbered}
+use Rattle.rules.proofs.Checks.{and-right, first-before, first-after}
 use Rattle.rules.proofs.ReplaySteps.{accepted-if}
 use Rattle.rules.proofs.SoundSnapshots.{add-snapshot-numbered, add-snapshot-sound}
 use Rattle.builder.specs.declared.builder.TableMetadataBuilder.{TableMetadataBuilder}
 use Rattle.builder.specs.Pieces.{laidBuilder, idsOf}
-use Rattle.standing.specs.Standing.{startNumber, Tables, Logs, Kept, Ended, Standing}
+use Rattle.standing.specs.Standing.{startNumber, Tables, Logs, Ended, Standing}
 use Rattle.standing.proofs.Effects.{Moves, add-moves}
 use Rattle.standing.proofs.Logged.{push-addition}
 use Rattle.standing.proofs.Moving.{fits, next}
 use Rattle.standing.proofs.Groups.{check-refused}
 use Rattle.standing.proofs.Added.{added-tables, addition-refused}
-
--- the number of checks that fail, and of others after them
-first-before : (cs ds : List Check) → (firstOf cs ≡ 0 → ⊥) → firstOf (cs ++ ds) ≡ firstOf cs
-first-before [] ds e = absurd (e refl)
-first-before (c ∷ cs) ds e = go (c .0) (first-before cs ds) e
-  where
-    go : (b : Bool) → ((firstOf cs ≡ 0 → ⊥) → firstOf (cs ++ ds) ≡ firstOf cs) → (cond b (c .1) (firstOf cs) ≡ 0 → ⊥) → cond b (c .1) (firstOf (cs ++ ds)) ≡ cond b (c .1) (firstOf cs)
-    go true ih e = refl
-    go false ih e = ih e
-
-first-after : (cs ds : List Check) → numbered cs ≡ true → firstOf cs ≡ 0 → firstOf (cs ++ ds) ≡ firstOf ds
-first-after [] ds p e = refl
-first-after (c ∷ cs) ds p e = go (c .0) (first-after cs ds (and-right (ltb 0 (c .1)) (numbered cs) p)) e
-  where
-    go : (b : Bool) → (firstOf cs ≡ 0 → firstOf (cs ++ ds) ≡ firstOf ds) → cond b (c .1) (firstOf cs) ≡ 0 → cond b (c .1) (firstOf (cs ++ ds)) ≡ firstOf ds
-    go true ih e = absurd (let l : 0 < c .1 = ltb-true 0 (c .1) (and-left (ltb 0 (c .1)) (numbered cs) p) in omega arith)
-    go false ih e = ih e
 
 -- the update adds a snapshot, by itself or to a branch that is no tag
 abbrev pub Adds : Update → List ℕ → plain.Snapshot → State → Type 0

@@ -1,33 +1,31 @@
 -- The start of a run: its number, and what the answer is where it is 0 and where it is not.
-use Prim.Native.Nat.{ℕ, _+_, _≤_, _<_}
+use Prim.Native.Nat.{ℕ, _≤_, _<_}
 use native.Mathlib.Omega.{arith}
-use mathlib.Core.Path.{_≡_, refl, sym, ap, _∙_}
-use mathlib.Core.Bool.{Bool, true, false, cond, _&&_, true≢false, false≢true}
+use mathlib.Core.Path.{_≡_, refl, sym}
+use mathlib.Core.Bool.{Bool, true, false, cond, _&&_}
 use mathlib.Core.List.{List, [], _∷_}
-use mathlib.Core.Option.{Option}
-use lib.Dec.{eqb, leb, ltb}
+use lib.Dec.{leb, ltb}
 use lib.ListN.{length}
-use borrow.Author.Tests.{leb-true, eqb-true, ltb-true, ltb-false, le-leb, lt-leb}
+use borrow.Author.Tests.{leb-true, ltb-true, le-leb, lt-leb}
 use borrow.Table.Steps.{cases}
 use Rattle.records.specs.declared.metadata.TableMetadata.{TableMetadata}
 use Rattle.records.specs.declared.update.UpdateList.{UpdateList}
 use Rattle.records.specs.declared.run.RunTerms.{RunTerms}
-use Rattle.records.specs.declared.run.Answer.{Answer}
-use Rattle.rules.specs.Words.{ifSome, total}
+use Rattle.rules.specs.Words.{ifSome}
 use Rattle.rules.specs.Replies.{accepted, startNotFormed, listTooLong}
 use Rattle.rules.specs.Capacities.{listRoom}
 use Rattle.rules.specs.Register.Outcome.{Refused}
 use Rattle.rules.specs.WellFormed.{metadataFormed, fileNameFormed}
-use Rattle.rules.specs.Run.{listSum, weight, runFrom, started, closeRan, startFormed, run}
+use Rattle.rules.specs.Run.{listSum, runFrom, started, closeRan, run}
 use Rattle.rules.specs.Blanks.{isTidyMetadata}
 use Rattle.rules.specs.Layout.{given, counted, readFileName, readMetadata}
-use Rattle.rules.specs.Kinds.{readUpdate, readUpdates}
+use Rattle.rules.specs.Kinds.{readUpdates}
 use Rattle.rules.specs.Answer.{readTerms, laidOutcome, answer}
-use Rattle.rules.proofs.Checks.{parts, only-then, both}
+use Rattle.rules.proofs.Checks.{parts, only-then}
 use Rattle.rules.proofs.Relaid.{length-counted}
 use Rattle.records.specs.Blanks.{noUpdate}
 use Rattle.standing.specs.Standing.{startNumber, shortSum}
-use Rattle.standing.proofs.Reading.{weighs, read-length}
+use Rattle.standing.proofs.Reading.{weighs}
 
 module _ (m : TableMetadata) (us : UpdateList) (terms : RunTerms) where
   -- the name of the current file is not too long

@@ -2,29 +2,27 @@
 use Prim.Native.Nat.{ℕ, _≤_, _<_}
 use native.Mathlib.Omega.{arith}
 use mathlib.Core.Path.{_≡_, refl, sym, ap, _∙_}
-use mathlib.Core.Bool.{Bool, true, false, _||_, _&&_}
+use mathlib.Core.Bool.{Bool, true, false}
 use mathlib.Core.List.{List, [], _∷_}
-use lib.Dec.{eqb, leb}
-use lib.IntN.{ℤ, pos}
+use lib.Dec.{leb}
+use lib.IntN.{ℤ}
 use lib.ListN.{length}
-use lib.Signed.{nonNeg}
-use borrow.Author.Tests.{leb-true, eqb-true, le-leb, lt-leb}
+use borrow.Author.Tests.{leb-true, le-leb, lt-leb}
 use Rattle.records.specs.Blanks.{noSnapshotId, noUpdate}
 use Rattle.records.specs.declared.counters.SnapshotId.{SnapshotId}
 use Rattle.records.specs.declared.text.RefName.{RefName}
 use Rattle.records.specs.declared.snapshot.SnapshotIds.{SnapshotIds}
 use Rattle.records.specs.declared.update.TableUpdate.{TableUpdate}
-use Rattle.rules.specs.Words.{all, isEmpty}
+use Rattle.rules.specs.Words.{isEmpty}
 use Rattle.rules.specs.Capacities.{removalRoom, refNameRoom}
 use Rattle.rules.specs.Register as plain
-use Rattle.rules.specs.Register.{Update}
 use Rattle.rules.proofs.Reread.{reread-snapshots}
 use Rattle.records.specs.declared.snapshot.Snapshots.{Snapshots}
-use Rattle.rules.specs.Register.Update.{RemoveSnapshots, RemoveRef, SetRef, SetBranchSnapshot}
-use Rattle.rules.specs.WellFormed.{updateFormed, removalFormed, refNameFormed, snapshotFormed, referenceFormed}
-use Rattle.rules.specs.Blanks.{isZeroZ, isTidyLocation, isTidySnapshot, isTidySnapshotIds, isBlankSnapshotId, isTidyRefName, isTidyReference, isTidySchema, isTidySchemaIds, isTidySortOrder}
+use Rattle.rules.specs.Register.Update.{RemoveSnapshots, RemoveRef}
+use Rattle.rules.specs.WellFormed.{updateFormed, removalFormed, refNameFormed}
+use Rattle.rules.specs.Blanks.{isTidyLocation, isTidySnapshot, isTidySnapshotIds, isBlankSnapshotId, isTidyRefName, isTidyReference, isTidySchema, isTidySchemaIds, isTidySortOrder}
 use Rattle.rules.specs.Layout.{readRefName, laidRefName, readSnapshot, laidSnapshot, readReference, laidReference, readSnapshotIds, laidSnapshotIds, readSnapshots, laidSnapshots}
-use Rattle.rules.specs.Kinds.{readUpdate, isUnusedBlank, isUsedTidy, isTidyUpdate, laidUpdate, withSnapshotIds, withRefName, ofKind}
+use Rattle.rules.specs.Kinds.{readUpdate, isUnusedBlank, isUsedTidy, laidUpdate, withSnapshotIds, withRefName}
 use Rattle.rules.proofs.Checks.{Hold, parts, and-left, and-right}
 use Rattle.rules.proofs.Relaid.{fields-back, back-ref-name, back-snapshot, back-reference, zeroZ}
 use Rattle.tables.specs.Laid.{LaidName, LaidSnapshotIds, LaidSnapshots}

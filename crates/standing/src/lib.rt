@@ -6,7 +6,7 @@ ghost use Rattle.rules.specs.Register.Outcome.{Refused};
 ghost use Rattle.rules.specs.Register.{State};
 ghost use Rattle.rules.specs.Run.{close as closeOf};
 ghost use Rattle.rules.specs.Kinds.{kindWeight};
-ghost use Rattle.rules.specs.Answer.{readTerms, laidOutcome, answer};
+ghost use Rattle.rules.specs.Answer.{readTerms, laidOutcome};
 ghost use Rattle.standing.specs.Standing.{startNumber, isFieldKind, Closing, Ended, shortSum};
 use builder::builder::TableMetadataBuilder;
 use records::metadata::MetadataLog;

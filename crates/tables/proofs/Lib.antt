@@ -6,7 +6,7 @@ pub mod Push
 mod Filter
 mod Gather
 mod Shift
-mod Put
+pub mod Put
 mod Alike
 pub mod Highest
 pub mod Each

@@ -1,12 +1,10 @@
 -- Records that are laid out from what is read of them, within their capacities. Tables of well-formed metadata are (`relaid`, of the rules).
-use Prim.Native.Nat.{ℕ, _≤_}
+use Prim.Native.Nat.{_≤_}
 use mathlib.Core.Path.{_≡_}
 use mathlib.Core.Bool.{true}
-use mathlib.Core.List.{List}
 use lib.Dec.{leb}
 use lib.ListN.{length}
 use Rattle.records.specs.declared.text.RefName.{RefName}
-use Rattle.records.specs.declared.snapshot.Snapshot.{Snapshot}
 use Rattle.records.specs.declared.snapshot.Snapshots.{Snapshots}
 use Rattle.records.specs.declared.snapshot.SnapshotIds.{SnapshotIds}
 use Rattle.records.specs.declared.snapshot.SnapshotLog.{SnapshotLog}
@@ -17,11 +15,10 @@ use Rattle.records.specs.declared.schema.Schemas.{Schemas}
 use Rattle.records.specs.declared.schema.SchemaIds.{SchemaIds}
 use Rattle.records.specs.declared.«sort_order».SortOrder.{SortOrder}
 use Rattle.records.specs.declared.«sort_order».SortOrders.{SortOrders}
-use Rattle.records.specs.declared.metadata.MetadataLogEntry.{MetadataLogEntry}
 use Rattle.records.specs.declared.metadata.MetadataLog.{MetadataLog}
 use Rattle.rules.specs.Words.{all}
-use Rattle.rules.specs.Capacities.{snapshotRoom, refRoom, snapshotLogRoom, metadataLogRoom, schemaRoom, schemaFieldRoom, sortOrderRoom, sortFieldRoom, removalRoom, refNameRoom, fileNameRoom}
-use Rattle.rules.specs.Layout.{readRefName, laidRefName, readSnapshot, laidSnapshot, readSnapshots, laidSnapshots, readSnapshotIds, laidSnapshotIds, readSnapshotLog, laidSnapshotLog, readRef, laidRef, readRefs, laidRefs, readSchema, laidSchema, readSchemas, laidSchemas, readSchemaIds, laidSchemaIds, readSortOrder, laidSortOrder, readSortOrders, laidSortOrders, readMetadataLogEntry, laidMetadataLogEntry, readMetadataLog, laidMetadataLog}
+use Rattle.rules.specs.Capacities.{snapshotRoom, refRoom, snapshotLogRoom, metadataLogRoom, schemaRoom, schemaFieldRoom, sortOrderRoom, sortFieldRoom, removalRoom, refNameRoom}
+use Rattle.rules.specs.Layout.{readRefName, laidRefName, readSnapshots, laidSnapshots, readSnapshotIds, laidSnapshotIds, readSnapshotLog, laidSnapshotLog, readRef, laidRef, readRefs, laidRefs, readSchema, laidSchema, readSchemas, laidSchemas, readSchemaIds, laidSchemaIds, readSortOrder, laidSortOrder, readSortOrders, laidSortOrders, readMetadataLog, laidMetadataLog}
 use Rattle.rules.specs.Register as plain
 
 -- ---- texts

@@ -1,5 +1,5 @@
 -- The entry point `run`: what its contract, as it stands in the source, says of its answers. A call is any arguments and any answer that the contract allows for them.
-use mathlib.Core.Path.{_≡_, sym, ap, subst, _∙_}
+use mathlib.Core.Path.{_≡_, sym, _∙_}
 use mathlib.Core.List.{List}
 use Prim.Native.Nat.{ℕ}
 use borrow.Fn.Kinds.{Dens, endedOf}

@@ -1,7 +1,7 @@
 -- `run` meets its contract: between two updates the pieces are those of a state, from which the rest of the list leads where the whole list leads from the start.
-use Prim.Native.Nat.{ℕ, _+_, _*_, _-_, _≤_, _<_}
+use Prim.Native.Nat.{_+_, _-_, _≤_, _<_}
 use mathlib.Core.Path.{_≡_, refl, sym, ap, _∙_}
-use mathlib.Core.Bool.{Bool, true, false, not, cond, _||_}
+use mathlib.Core.Bool.{true, false, not, cond, _||_}
 use mathlib.Core.Logic.{_⊎_, inl, inr, ⊎-elim}
 use mathlib.Core.List.{List, [], _∷_}
 use native.Mathlib.Omega.{arith}
@@ -16,24 +16,23 @@ use lib.IntN.{ℤ, pos}
 use lib.ListN.{length, getD, set, drop, take, length-map}
 use Rattle.records.specs.Blanks.{noSnapshot, noReference}
 use Rattle.records.specs.declared.update.TableUpdate.{TableUpdate}
-use Rattle.records.specs.declared.update.UpdateList.{UpdateList}
 use Rattle.records.specs.declared.snapshot.Snapshot.{Snapshot}
 use Rattle.rules.specs.Register as plain
 use Rattle.rules.specs.Register.{State, Terms, withOwn}
 use Rattle.rules.specs.WellFormed.{updateFormed, snapshotBelow, refBelow}
 use Rattle.rules.specs.Words.{isIn, eqZ, firstOf, put}
-use Rattle.rules.specs.SnapshotUpdates.{addSnapshotChecks, addSnapshot}
+use Rattle.rules.specs.SnapshotUpdates.{addSnapshotChecks}
 use Rattle.rules.specs.Names.{isMain}
 use Rattle.rules.specs.RefUpdates.{isTag, committed, sameReference, isHeldRef, setRefChecks, ownAfter}
 use Rattle.builder.specs.Pieces.{lastTime, laidBuilder, idsOf, isAbove}
-use Rattle.rules.specs.Layout.{given, pad, readSnapshot, laidSnapshot, readSnapshots, laidSnapshots, readSnapshotIds, readRefName, readReference, laidReference, readRef, readRefs, laidRefs}
+use Rattle.rules.specs.Layout.{given, pad, readSnapshot, laidSnapshot, readSnapshots, laidSnapshots, readSnapshotIds, readRefName, readReference, laidReference, readRefs, laidRefs}
 use Rattle.records.specs.declared.text.RefName.{RefName}
 use Rattle.rules.specs.Register.Update.{AddSnapshot, SetRef}
 use Rattle.rules.proofs.Tables.{keep-length}
 use Rattle.rules.specs.Run.{weight}
 use Rattle.rules.specs.Kinds.{readUpdate, readUpdates, laidUpdate}
 use Rattle.rules.specs.Answer.{readTerms}
-use Rattle.standing.specs.Standing.{startNumber, Standing, Ended, isFieldKind}
+use Rattle.standing.specs.Standing.{startNumber, Standing}
 use Rattle.standing.proofs.Reading.{formed-tidy, formed-kind, is-field, is-schema-9, is-schema-11, read-4, read-5, read-6, read-7, read-8, snapshot-kind, here, weight-read, counts, group-field, group-9, group-11, group-12}
 use Rattle.standing.proofs.Started.{starts, refused-start, sum-counts}
 use Rattle.standing.proofs.Effects.{group}
@@ -48,41 +47,11 @@ use Rattle.standing.proofs.Groups.{removed-none, removed-some, gone-none, gone-
 use Rattle.register.proofs.run.Statement.{statement}
 use Rattle.register.proofs.run.Tie as tie
 use Rattle.register.proofs.run.Reads as reads
-use Rattle.register.proofs.run.Lts as lts
-use Rattle.builder.proofs.builder.TableMetadataBuilder.new_from_metadata.Reads as new-from-metadata-reads
-use Rattle.builder.proofs.facts.ids_of.Reads as ids-of-reads
-use Rattle.builder.proofs.facts.is_last.Reads as is-last-reads
-use Rattle.builder.proofs.facts.position.Reads as position-reads
-use Rattle.field_updates.proofs.update_fields.Reads as update-fields-reads
-use Rattle.order_updates.proofs.update_orders.Reads as update-orders-reads
-use Rattle.ref_updates.proofs.addition.Reads as addition-reads
-use Rattle.ref_updates.proofs.as_main.Reads as as-main-reads
-use Rattle.ref_updates.proofs.is_tag.Reads as is-tag-reads
-use Rattle.ref_updates.proofs.put_ref.Reads as put-ref-reads
-use Rattle.ref_updates.proofs.remove_ref.Reads as remove-ref-reads
-use Rattle.ref_updates.proofs.same_reference.Reads as same-reference-reads
-use Rattle.ref_updates.proofs.set_ref_number.Reads as set-ref-number-reads
-use Rattle.ref_updates.proofs.setting.Reads as setting-reads
-use Rattle.ref_updates.proofs.wanted.Reads as wanted-reads
-use Rattle.schema_updates.proofs.update_schemas.Reads as update-schemas-reads
-use Rattle.snapshot_updates.proofs.add_snapshot_builder.Reads as add-snapshot-builder-reads
-use Rattle.snapshot_updates.proofs.add_snapshot_number.Reads as add-snapshot-number-reads
-use Rattle.snapshot_updates.proofs.remove_snapshots.Reads as remove-snapshots-reads
-use Rattle.formed.proofs.update.is_formed.Reads as is-formed-reads
-use Rattle.records.proofs.reference.NamedRef.blank.Reads as reference-NamedRef-blank-reads
-use Rattle.records.proofs.update.TableUpdate.blank.Reads as update-TableUpdate-blank-reads
-use Rattle.standing.proofs.ending.Reads as ending-reads
-use Rattle.standing.proofs.is_field_kind.Reads as is-field-kind-reads
-use Rattle.standing.proofs.refused.Reads as refused-reads
-use Rattle.standing.proofs.start_number.Reads as start-number-reads
 use Rattle.tables.specs.Laid.{LaidName}
 use Rattle.tables.specs.Places.{indexOf}
 use Rattle.records.specs.declared.snapshot.SnapshotLog.{SnapshotLog}
 use Rattle.ref_updates.proofs.Named.{named-within}
 use Rattle.ref_updates.proofs.WantedRefs.{wanted-read, wanted-laid, laid-ref}
-use Rattle.tables.proofs.names.is_main_name.Reads as is-main-name-reads
-use Rattle.tables.proofs.refs.find.Reads as find-reads
-use Rattle.tables.proofs.snapshots.put.Reads as put-reads
 
 abbrev Inv-loop : tie.InvT-loop
 Inv-loop m terms limit us number n clock b₀ t₀ ids₀ r₀ log₀ s₀ o₀ none entries₀ c₀ added₀ adds₀ mained₀ mains₀ removal₀ i₀ b t ids r log s o entries c added adds mained mains removal i = (i ≤ n) × Standing m us terms limit i b t ids r log s o entries c added adds mained mains removal

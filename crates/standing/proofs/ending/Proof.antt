@@ -1,19 +1,12 @@
 -- `ending` meets its contract: the close is told what the rules' close reads of the state, and its answers make the outcome.
 use Rattle.rules.specs.Answer.{readTerms}
-use mathlib.Core.Path.{_≡_, sym, _∙_}
+use mathlib.Core.Path.{sym, _∙_}
 use Rattle.standing.proofs.Beginning.{laid-refs, laid-log, laid-schemas, laid-orders, schema-held, order-held}
-use Rattle.standing.proofs.Closed.{held-within, adds-within, mains-within, held-slice, added-slice, main-slice, told, handed, laid-history, files-laid, filed, limit-least, close-refused, files-refused, close-accepted}
+use Rattle.standing.proofs.Closed.{held-within, adds-within, mains-within, held-slice, added-slice, main-slice, told, handed, files-laid, filed, limit-least, close-refused, files-refused, close-accepted}
 use borrow.Author.Needs.{needs}
 use Rattle.standing.proofs.ending.Statement.{statement}
 use Rattle.standing.proofs.ending.Tie as tie
 use Rattle.standing.proofs.ending.Reads as reads
-use Rattle.standing.proofs.ending.Lts as lts
-use Rattle.close.proofs.close_number.Reads as close-number-reads
-use Rattle.close.proofs.files.files.Reads as files-reads
-use Rattle.close.proofs.history.close_log.Reads as close-log-reads
-use Rattle.close.proofs.last_update.Reads as last-update-reads
-use Rattle.leaves.proofs.limit.limit.Reads as limit-reads
-use Rattle.standing.proofs.refused.Reads as refused-reads
 
 abbrev begin : tie.After-f → tie.Start
 begin c = c .before .before .before .before .before .before

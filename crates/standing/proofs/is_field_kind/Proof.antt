@@ -1,13 +1,11 @@
 -- `is_field_kind` meets its contract: the flag of the first two tests is true or the third decides.
-use mathlib.Core.Path.{_≡_, refl, sym, ap, _∙_}
-use mathlib.Core.Bool.{Bool, true, false, _||_, true≢false}
+use mathlib.Core.Path.{_≡_, sym, _∙_}
+use mathlib.Core.Bool.{true, false, true≢false}
 use mathlib.Core.Logic.{⊎-elim}
 use lib.Dec.{eqb, ltb}
 use borrow.Author.Tests.{lt-ltb, le-ltb}
 use Rattle.standing.proofs.is_field_kind.Statement.{statement}
 use Rattle.standing.proofs.is_field_kind.Tie as tie
-use Rattle.standing.proofs.is_field_kind.Reads as reads
-use Rattle.standing.proofs.is_field_kind.Lts as lts
 
 returns : tie.Need-returns
 returns c =

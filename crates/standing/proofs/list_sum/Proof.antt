@@ -1,9 +1,9 @@
 -- `list_sum` meets its contract: what is summed and what the rest of the list counts make the list's sum.
-use Prim.Native.Nat.{ℕ, _+_, _*_, _-_, _≤_, _<_}
-use mathlib.Core.Path.{_≡_, refl, sym, ap, _∙_}
+use Prim.Native.Nat.{_+_, _*_, _-_, _≤_}
+use mathlib.Core.Path.{_≡_, sym, ap, _∙_}
 use native.Mathlib.Omega.{arith}
 use borrow.Author.Tests.{lt-ltb, le-ltb}
-use borrow.Author.Needs.{needs, length-unmapped}
+use borrow.Author.Needs.{needs}
 use mathlib.Core.List.{[], _∷_}
 use lib.IntN.{pos}
 use lib.ListN.{length, getD, drop, length-map}

@@ -2,10 +2,6 @@ use Rattle.rules.specs.Answer.{laidOutcome}
 use borrow.Author.Needs.{needs}
 use Rattle.standing.proofs.refused.Statement.{statement}
 use Rattle.standing.proofs.refused.Tie as tie
-use Rattle.standing.proofs.refused.Reads as reads
-use Rattle.standing.proofs.refused.Lts as lts
-use Rattle.records.proofs.metadata.MetadataLog.blank.Reads as metadata-MetadataLog-blank-reads
-use Rattle.records.proofs.update.UpdateList.blank.Reads as update-UpdateList-blank-reads
 
 -- src/lib.rt:59:9
 blank-requires : tie.Need-blank-requires

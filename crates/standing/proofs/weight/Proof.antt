@@ -2,8 +2,6 @@ use mathlib.Core.Path.{sym}
 use borrow.Author.Tests.{ne-eqb}
 use Rattle.standing.proofs.weight.Statement.{statement}
 use Rattle.standing.proofs.weight.Tie as tie
-use Rattle.standing.proofs.weight.Reads as reads
-use Rattle.standing.proofs.weight.Lts as lts
 
 -- src/lib.rt:76:9
 returns : tie.Need-returns

@@ -1,0 +1,71 @@
+// P7 and P9: the limit of a text, and ancestor walks.
+use crate::start::three;
+use casefile::slots::with_slots;
+use catalogue::table_ancestors;
+use leaves::limit::limit;
+use numbers::output::Output;
+use plaintext::name::say_name;
+use plaintext::number::say_i64;
+use plaintext::number::say_u64;
+use plaintext::table::say_comma;
+use plaintext::table::say_none;
+use plaintext::text::say;
+use walk::ancestors;
+
+fn say_limit(output: &mut Output, end: &mut usize, text: &[u8]) {
+    say_name(output, end, text, text.len());
+    say(output, end, b": ");
+    say_u64(output, end, limit(text));
+}
+
+// Limits `0`, `+5`, empty, ` 5`, `18446744073709551616`: 1, 5, 100, 100, 100.
+pub fn p7(output: &mut Output, end: &mut usize) {
+    say_limit(output, end, b"0");
+    say(output, end, b", ");
+    say_limit(output, end, b"+5");
+    say(output, end, b", ");
+    say_limit(output, end, b"");
+    say(output, end, b", ");
+    say_limit(output, end, b" 5");
+    say(output, end, b", ");
+    say_limit(output, end, b"18446744073709551616");
+}
+
+fn say_ids(output: &mut Output, end: &mut usize, buffer: &[i64], count: usize) {
+    say_none(output, end, count);
+    let n = with_slots(count, buffer.len());
+    let mut i = 0;
+    while i < n {
+        let id = buffer[i];
+        say_comma(output, end, i);
+        say_i64(output, end, id);
+        i += 1;
+    }
+}
+
+// 3 has the parent 2, and 2 has 1.
+fn say_between(output: &mut Output, end: &mut usize, excluded: i64) {
+    let ids = [1i64, 2, 3];
+    let parents = [-1i64, 1, 2];
+    let mut buffer = [0i64; 3];
+    let walked = ancestors(&ids, &parents, 3, true, excluded, &mut buffer);
+    say_ids(output, end, &buffer, walked.count);
+}
+
+// The same walk over snapshot records.
+fn say_records_between(output: &mut Output, end: &mut usize, excluded: i64) {
+    let start = three();
+    let mut buffer = [0i64; 3];
+    let walked = table_ancestors(start.snapshots, 3, true, excluded, &mut buffer);
+    say_ids(output, end, &buffer, walked.count);
+}
+
+// Parents 3, 2, 1: between 3 and 1 gives 3, 2; between 3 and 3 nothing.
+pub fn p9(output: &mut Output, end: &mut usize) {
+    say(output, end, b"between 3 and 1: ");
+    say_between(output, end, 1);
+    say(output, end, b"; between 3 and 3: ");
+    say_between(output, end, 3);
+    say(output, end, b"; over records, between 3 and 1: ");
+    say_records_between(output, end, 1);
+}

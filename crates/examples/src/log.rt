@@ -1,0 +1,63 @@
+// P8 and P10: which metadata files expire and which stay; what is logged.
+use crate::question::ask;
+use crate::question::ask_with_file;
+use crate::start::file_name;
+use crate::start::filed;
+use crate::start::three;
+use crate::update::only;
+use crate::update::remove_schema;
+use casefile::slots::with_slots;
+use numbers::output::Output;
+use plaintext::metadata::say_file;
+use plaintext::table::say_comma;
+use plaintext::table::say_none;
+use plaintext::text::say;
+use plaintext::update::say_update;
+use records::capacities::METADATA_LOG;
+use records::capacities::UPDATES;
+use records::metadata::MetadataLog;
+use records::update::UpdateList;
+
+fn say_files(output: &mut Output, end: &mut usize, log: MetadataLog) {
+    let n = with_slots(log.count, METADATA_LOG);
+    let mut i = 0;
+    while i < n {
+        let entry = log.items[i];
+        say_comma(output, end, i);
+        say_file(output, end, entry);
+        i += 1;
+    }
+}
+
+// Three metadata entries, limit 2, one joins: two oldest expire.
+pub fn p8(output: &mut Output, end: &mut usize) {
+    let answer = ask_with_file(filed(), UpdateList::blank(), file_name(b'd'), b"2");
+    let metadata = answer.metadata;
+    say(output, end, b"expired: ");
+    say_files(output, end, answer.expired);
+    say(output, end, b"; staying: ");
+    say_files(output, end, metadata.metadata_log);
+}
+
+fn say_changes(output: &mut Output, end: &mut usize, changes: UpdateList) {
+    let n = with_slots(changes.count, UPDATES);
+    say_none(output, end, n);
+    let mut i = 0;
+    while i < n {
+        let update = changes.items[i];
+        say_comma(output, end, i);
+        say_update(output, end, update);
+        i += 1;
+    }
+}
+
+// Removing unknown schema 7 logs an empty removal; its replay logs none.
+pub fn p10(output: &mut Output, end: &mut usize) {
+    let answer = ask(three(), only(remove_schema(7)));
+    let changes = answer.changes;
+    let replayed = ask(three(), changes);
+    say(output, end, b"changes: ");
+    say_changes(output, end, changes);
+    say(output, end, b"; changes of the replay: ");
+    say_changes(output, end, replayed.changes);
+}

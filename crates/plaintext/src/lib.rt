@@ -1,0 +1,14 @@
+// Records in plain words for people to read, one to a line: texts, names and numbers first, then each record of the register.
+// Nothing is refused: a count above a table's slots is said, with as many elements as there are slots for.
+// Document 01 decides what the words of a refusal are.
+pub mod metadata;
+pub mod name;
+pub mod number;
+pub mod reference;
+pub mod reply;
+pub mod schema;
+pub mod snapshot;
+pub mod sort_order;
+pub mod table;
+pub mod text;
+pub mod update;

@@ -1,0 +1,121 @@
+// Updates in words, and lists of them.
+use crate::name::say_location;
+use crate::name::say_ref_name;
+use crate::name::say_uuid;
+use crate::number::say_count;
+use crate::number::say_i32;
+use crate::number::say_i64;
+use crate::number::say_u8;
+use crate::reference::say_reference;
+use crate::schema::say_schema;
+use crate::schema::say_schema_ids;
+use crate::snapshot::say_snapshot;
+use crate::snapshot::say_snapshot_ids;
+use crate::sort_order::say_sort_order;
+use crate::table::say_heading;
+use crate::table::say_left_out_line;
+use crate::text::say;
+use casefile::slots::with_slots;
+use numbers::output::Output;
+use records::capacities::UPDATES;
+use records::counters::SchemaId;
+use records::counters::SortOrderId;
+use records::update::ADD_SCHEMA;
+use records::update::ADD_SNAPSHOT;
+use records::update::ADD_SORT_ORDER;
+use records::update::ASSIGN_UUID;
+use records::update::REMOVE_REF;
+use records::update::REMOVE_SCHEMAS;
+use records::update::REMOVE_SNAPSHOTS;
+use records::update::SET_BRANCH_SNAPSHOT;
+use records::update::SET_CURRENT_SCHEMA;
+use records::update::SET_DEFAULT_SORT_ORDER;
+use records::update::SET_LOCATION;
+use records::update::SET_REF;
+use records::update::TableUpdate;
+use records::update::UPGRADE_FORMAT_VERSION;
+use records::update::UpdateList;
+
+fn say_kind(output: &mut Output, end: &mut usize, kind: u8) {
+    match kind {
+        ASSIGN_UUID => say(output, end, b"assign uuid "),
+        UPGRADE_FORMAT_VERSION => say(output, end, b"upgrade to format version "),
+        SET_LOCATION => say(output, end, b"set location "),
+        ADD_SNAPSHOT => say(output, end, b"add snapshot "),
+        SET_BRANCH_SNAPSHOT => say(output, end, b"commit to branch "),
+        REMOVE_SNAPSHOTS => say(output, end, b"remove snapshots "),
+        SET_REF => say(output, end, b"set "),
+        REMOVE_REF => say(output, end, b"remove ref "),
+        ADD_SCHEMA => say(output, end, b"add schema "),
+        SET_CURRENT_SCHEMA => say(output, end, b"set current schema to "),
+        REMOVE_SCHEMAS => say(output, end, b"remove schemas "),
+        ADD_SORT_ORDER => say(output, end, b"add sort order "),
+        SET_DEFAULT_SORT_ORDER => say(output, end, b"set default sort order to "),
+        _ => say(output, end, b"update of unknown kind "),
+    }
+}
+
+fn say_commit(output: &mut Output, end: &mut usize, u: TableUpdate) {
+    say_ref_name(output, end, u.ref_name);
+    say(output, end, b": snapshot ");
+    say_snapshot(output, end, u.snapshot);
+}
+
+// -1 stands for the last added.
+fn say_last_added(output: &mut Output, end: &mut usize, is_last_added: bool) {
+    if is_last_added {
+        say(output, end, b" (the last added)");
+    }
+}
+
+fn say_schema_id(output: &mut Output, end: &mut usize, id: SchemaId) {
+    say_i32(output, end, id.0);
+    say_last_added(output, end, id.0 == -1);
+}
+
+fn say_sort_order_id(output: &mut Output, end: &mut usize, id: SortOrderId) {
+    say_i64(output, end, id.0);
+    say_last_added(output, end, id.0 == -1);
+}
+
+pub fn say_update(output: &mut Output, end: &mut usize, u: TableUpdate) {
+    let kind = u.kind;
+    say_kind(output, end, kind);
+    match kind {
+        ASSIGN_UUID => {
+            let uuid = u.uuid;
+            say_uuid(output, end, uuid);
+        }
+        UPGRADE_FORMAT_VERSION => say_u8(output, end, u.format_version),
+        SET_LOCATION => say_location(output, end, u.location),
+        ADD_SNAPSHOT => say_snapshot(output, end, u.snapshot),
+        SET_BRANCH_SNAPSHOT => say_commit(output, end, u),
+        REMOVE_SNAPSHOTS => say_snapshot_ids(output, end, u.snapshot_ids),
+        SET_REF => say_reference(output, end, u.ref_name, u.reference),
+        REMOVE_REF => say_ref_name(output, end, u.ref_name),
+        ADD_SCHEMA => say_schema(output, end, u.schema),
+        SET_CURRENT_SCHEMA => say_schema_id(output, end, u.schema_id),
+        REMOVE_SCHEMAS => say_schema_ids(output, end, u.schema_ids),
+        ADD_SORT_ORDER => say_sort_order(output, end, u.sort_order),
+        SET_DEFAULT_SORT_ORDER => say_sort_order_id(output, end, u.sort_order_id),
+        _ => say_u8(output, end, kind),
+    }
+}
+
+// A line each, with its place from 0.
+pub fn say_updates(output: &mut Output, end: &mut usize, heading: &[u8], list: UpdateList) {
+    let count = list.count;
+    say_heading(output, end, heading, count);
+    let n = with_slots(count, UPDATES);
+    let mut i = 0;
+    while i < n {
+        let update = list.items[i];
+        say(output, end, b"    ");
+        say_count(output, end, i);
+        say(output, end, b": ");
+        say_update(output, end, update);
+        say(output, end, b"\n");
+        i += 1;
+    }
+    say_left_out_line(output, end, count, UPDATES);
+}
