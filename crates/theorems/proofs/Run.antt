@@ -1,5 +1,5 @@
 -- The entry point `run`: what its contract, as it stands in the source, says of its answers. A call is any arguments and any answer that the contract allows for them.
-use mathlib.Core.Path.{_≡_, sym, _∙_}
+use mathlib.Core.Path.{_≡_, sym, ap, subst, _∙_}
 use mathlib.Core.List.{List}
 use Prim.Native.Nat.{ℕ}
 use borrow.Fn.Kinds.{Dens, endedOf}
@@ -50,9 +50,13 @@ pub record Alike (c d : Call) : Type 0 where
   pub terms : terms d ≡ terms c
   pub text : text d ≡ text c
 
+-- equal arguments have equal answers
+alike : {m m′ : TableMetadata} {us us′ : UpdateList} {t t′ : RunTerms} {l l′ : List ℕ} → m′ ≡ m → us′ ≡ us → t′ ≡ t → l′ ≡ l → answer m′ us′ t′ l′ ≡ answer m us t l
+alike p q r s = rw (p, q, r, s)
+
 -- any two answers that the contract allows for equal arguments are equal
 pub run-unique : (c d : Call) → Alike c d → updates d ≡ updates c → d .answered ≡ c .answered
-run-unique c d a u = says d ∙ rw (a .start, a .terms, a .text, u) (sym (says c))
+run-unique c d a u = says d ∙ alike (a .start) u (a .terms) (a .text) ∙ sym (says c)
 
 module _ (c : Call) (e : c .answered .number ≡ 0) where
   -- an accepted run's metadata can start the next run
@@ -65,7 +69,7 @@ module _ (c : Call) (e : c .answered .number ≡ 0) where
 
 -- a refused run gives back its start, no changes and no expired entries
 pub run-refused : (c : Call) → (c .answered .number ≡ 0 → ⊥) → Unchanged (start c) (c .answered)
-run-refused c n = rw (says c) (answer-refused (start c) (updates c) (terms c) (text c) (rw (says c) at n))
+run-refused c n = subst (Unchanged (start c)) (sym (says c)) (answer-refused (start c) (updates c) (terms c) (text c) (λ z. n (ap (λ (x : Answer). x .number) (says c) ∙ z)))
 
 -- where the second call runs the changes of the first, and the third those of the second
 pub record Leads (first second third : Call) : Type 0 where
@@ -82,13 +86,13 @@ pub run-replays : (first second third : Call) → first .answered .number ≡ 0
     → Alike first third → updates third ≡ second .answered .changes
     → Leads first second third
 run-replays c d f e a u b v =
-    let R : Replays (start c) (updates c) (terms c) (text c) = answer-replays (start c) (updates c) (terms c) (text c) (rw (says c) at e) in
-    let D : d .answered ≡ answer (start c) (answer (start c) (updates c) (terms c) (text c) .changes) (terms c) (text c) = says d ∙ rw (a .start, a .terms, a .text, u, says c) in
-    let F : f .answered ≡ answer (start c) (d .answered .changes) (terms c) (text c) = says f ∙ rw (b .start, b .terms, b .text, v) in
+    let R : Replays (start c) (updates c) (terms c) (text c) = answer-replays (start c) (updates c) (terms c) (text c) (sym (ap (λ (x : Answer). x .number) (says c)) ∙ e) in
+    let D : d .answered ≡ answer (start c) (answer (start c) (updates c) (terms c) (text c) .changes) (terms c) (text c) = says d ∙ alike (a .start) (u ∙ ap (λ (x : Answer). x .changes) (says c)) (a .terms) (a .text) in
+    let F : f .answered ≡ answer (start c) (d .answered .changes) (terms c) (text c) = says f ∙ alike (b .start) v (b .terms) (b .text) in
     record {
-      accepted = rw D (R .accepted);
-      metadata = rw (D, says c) (R .metadata);
-      expired = rw (D, says c) (R .expired);
-      changes = rw (D, says c) (R .changes);
-      settles = F ∙ rw D (R .settles);
+      accepted = ap (λ (x : Answer). x .number) D ∙ R .accepted;
+      metadata = ap (λ (x : Answer). x .metadata) D ∙ R .metadata ∙ sym (ap (λ (x : Answer). x .metadata) (says c));
+      expired = ap (λ (x : Answer). x .expired) D ∙ R .expired ∙ sym (ap (λ (x : Answer). x .expired) (says c));
+      changes = ap (λ (x : Answer). x .changes) D ∙ R .changes ∙ sym (ap (λ (x : Answer). laidUpdates (strip (readUpdates (x .changes)))) (says c));
+      settles = F ∙ ap (λ (x : Answer). answer (start c) (x .changes) (terms c) (text c)) D ∙ R .settles ∙ sym D;
     }
