@@ -1,0 +1,36 @@
+-- Each comparison is given what the later ones found.
+use borrow.Author.Needs.{needs}
+use Rattle.compare.specs.Parts.{parts, firstDifference}
+use Rattle.compare.proofs.first_difference.Statement.{statement}
+use Rattle.compare.proofs.first_difference.Tie as tie
+
+pub first-difference-spec : {M : Type 1} → statement M
+unfolding parts firstDifference
+first-difference-spec =
+    tie.close
+    (tie.spec
+    (λ c κs. search needs)
+    (λ c κs. search needs)
+    (λ c κs. search needs)
+    (λ c κs. search needs)
+    (λ c κs. search needs)
+    (λ c κs. search needs)
+    (λ c κs. search needs)
+    (λ c κs. search needs)
+    (λ c κs. search needs)
+    (λ c κs. search needs)
+    (λ c κs. search needs)
+    (λ c. let l = c .before .before .before .before .before in let o = l .before .before in
+    rw (
+      c .compare-fields .ensures,
+      c .before .compare-snapshots .ensures,
+      c .before .before .compare-refs .ensures,
+      c .before .before .before .compare-snapshot-log .ensures,
+      c .before .before .before .before .compare-metadata-log .ensures,
+      l .compare-schemas .ensures,
+      l .before .unless2 .ensures,
+      o .compare-sort-orders .ensures,
+      o .before .unless .ensures,
+      o .before .before .same-schema .ensures,
+      o .before .before .before .same-order .ensures,
+    )))

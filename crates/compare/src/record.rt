@@ -1,0 +1,114 @@
+// Records compared, field by field: also what stands behind a flag that is not set, and in slots past a count.
+ghost use mathlib.Core.Path.{_≡_};
+ghost use Rattle.compare.specs.Same.{sameSnapshot, sameLogEntry, sameReference, sameRef, sameFileEntry, sameSchema, sameSortField, sameSortOrder};
+use crate::number::same_age;
+use crate::number::same_min;
+use crate::number::same_sequence;
+use crate::number::same_time;
+use crate::text::same_file_name;
+use crate::text::same_ref_name;
+use records::capacities::SCHEMA_FIELDS;
+use records::capacities::SORT_FIELDS;
+use records::metadata::MetadataLogEntry;
+use records::reference::NamedRef;
+use records::reference::SnapshotReference;
+use records::schema::Schema;
+use records::snapshot::Snapshot;
+use records::snapshot::SnapshotLogEntry;
+use records::sort_order::SortField;
+use records::sort_order::SortOrder;
+
+pub fn same_snapshot(a: Snapshot, b: Snapshot) -> bool
+    ensures { λ r. ⌜ r ≡ sameSnapshot a b ⌝ }
+{
+    let x = a.first_row_id;
+    let y = b.first_row_id;
+    tables::ids::same_snapshot(a.snapshot_id, b.snapshot_id)
+        & (a.has_parent == b.has_parent)
+        & tables::ids::same_snapshot(a.parent_snapshot_id, b.parent_snapshot_id)
+        & same_sequence(a.sequence_number, b.sequence_number)
+        & same_time(a.timestamp_ms, b.timestamp_ms)
+        & (a.has_rows == b.has_rows)
+        & (x.0 == y.0)
+        & (a.added_rows == b.added_rows)
+}
+
+pub fn same_log_entry(a: SnapshotLogEntry, b: SnapshotLogEntry) -> bool
+    ensures { λ r. ⌜ r ≡ sameLogEntry a b ⌝ }
+{
+    tables::ids::same_snapshot(a.snapshot_id, b.snapshot_id)
+        & same_time(a.timestamp_ms, b.timestamp_ms)
+}
+
+fn same_reference(a: SnapshotReference, b: SnapshotReference) -> bool
+    ensures { λ r. ⌜ r ≡ sameReference a b ⌝ }
+{
+    tables::ids::same_snapshot(a.snapshot_id, b.snapshot_id)
+        & (a.kind == b.kind)
+        & (a.has_min == b.has_min)
+        & same_min(a.min_snapshots_to_keep, b.min_snapshots_to_keep)
+        & (a.has_age == b.has_age)
+        & same_age(a.max_snapshot_age_ms, b.max_snapshot_age_ms)
+        & (a.has_ref_age == b.has_ref_age)
+        & same_age(a.max_ref_age_ms, b.max_ref_age_ms)
+}
+
+pub fn same_ref(a: NamedRef, b: NamedRef) -> bool
+    ensures { λ r. ⌜ r ≡ sameRef a b ⌝ }
+{
+    same_ref_name(a.name, b.name) & same_reference(a.reference, b.reference)
+}
+
+pub fn same_file_entry(a: MetadataLogEntry, b: MetadataLogEntry) -> bool
+    ensures { λ r. ⌜ r ≡ sameFileEntry a b ⌝ }
+{
+    same_file_name(a.metadata_file, b.metadata_file) & same_time(a.timestamp_ms, b.timestamp_ms)
+}
+
+pub fn same_schema(a: Schema, b: Schema) -> bool
+    ensures { λ r. ⌜ r ≡ sameSchema a b ⌝ }
+{
+    let m = a.count;
+    let n = b.count;
+    if !tables::ids::same_schema(a.schema_id, b.schema_id) {
+        return false;
+    }
+    let mut i = 0;
+    while i < SCHEMA_FIELDS {
+        let x = a.items[i];
+        let y = b.items[i];
+        if !tables::ids::same_field(x.id, y.id) {
+            return false;
+        }
+        i += 1;
+    }
+    m == n
+}
+
+fn same_sort_field(a: SortField, b: SortField) -> bool
+    ensures { λ r. ⌜ r ≡ sameSortField a b ⌝ }
+{
+    tables::ids::same_field(a.source_id, b.source_id)
+        & (a.direction == b.direction)
+        & (a.null_order == b.null_order)
+}
+
+pub fn same_sort_order(a: SortOrder, b: SortOrder) -> bool
+    ensures { λ r. ⌜ r ≡ sameSortOrder a b ⌝ }
+{
+    let m = a.count;
+    let n = b.count;
+    if !tables::ids::same_order(a.order_id, b.order_id) {
+        return false;
+    }
+    let mut i = 0;
+    while i < SORT_FIELDS {
+        let x = a.items[i];
+        let y = b.items[i];
+        if !same_sort_field(x, y) {
+            return false;
+        }
+        i += 1;
+    }
+    m == n
+}
