@@ -1,5 +1,4 @@
 -- What the proofs of several functions cite, and what is true of the comparison.
-mod Bits
 mod Abreast
 pub mod Told
 pub mod Places

@@ -56,6 +56,7 @@ use Rattle.records.proofs.snapshot.Snapshots.Laws as T′
 use Rattle.rules.specs.Layout.{given, readSnapshot, readSnapshots}
 use Rattle.rules.proofs.Relaid.{counted-take}
 use Rattle.rules.specs.Walk.{Walk, recordAncestors, walkBuffer}
+use Rattle.walk.specs.Answers.{walked as answered}
 use Rattle.walk.specs.declared.Walked.{Walked}
 use Rattle.catalogue.proofs.Items.{array-told}
 use Rattle.catalogue.proofs.Lent.{lends-front, front-back}
@@ -63,8 +64,10 @@ use Rattle.catalogue.proofs.Walks.{RS, RW, local, held, held-field, Pla
 use Rattle.catalogue.proofs.record_ancestors as record-ancestors
 use Rattle.catalogue.proofs.record_ancestors.Met as record-met
 use Rattle.catalogue.proofs.record_ancestors.Symbol as record-symbol
+use Rattle.catalogue.proofs.record_ancestors.Symbol.{name as #record}
 use Rattle.catalogue.proofs.counted_ancestors as counted-ancestors
 use Rattle.catalogue.proofs.counted_ancestors.Code as code
+use Rattle.catalogue.proofs.counted_ancestors.Key.{name as #counted}
 use Rattle.catalogue.proofs.counted_ancestors.Statement as stated
 
 abbrev RT : RattleType

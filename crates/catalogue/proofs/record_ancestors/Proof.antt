@@ -42,6 +42,7 @@ use types.Run.{look, init, forget, stop, hop, fld, from, addr, and-then, no-more
 use Rattle.records.specs.declared.snapshot.Snapshot.{Snapshot}
 use Rattle.rules.specs.Layout.{given, readSnapshot}
 use Rattle.rules.specs.Walk.{Walk, recordAncestors, walkBuffer}
+use Rattle.walk.specs.Answers.{walked as answered}
 use Rattle.walk.specs.declared.Walked.{Walked}
 use Rattle.catalogue.specs.Links.{gathered, linkAncestors}
 use Rattle.catalogue.specs.declared.links.Links.{Links}
@@ -50,11 +51,14 @@ use Rattle.catalogue.proofs.Walks.{RS, RL, RW, local, held, held-field,
 use Rattle.catalogue.proofs.links.gather as gather
 use Rattle.catalogue.proofs.links.gather.Met as gather-met
 use Rattle.catalogue.proofs.links.gather.Symbol as gather-symbol
+use Rattle.catalogue.proofs.links.gather.Symbol.{name as #gather}
 use Rattle.catalogue.proofs.links.link_ancestors as link-ancestors
 use Rattle.catalogue.proofs.links.link_ancestors.Met as link-met
 use Rattle.catalogue.proofs.links.link_ancestors.Symbol as link-symbol
+use Rattle.catalogue.proofs.links.link_ancestors.Symbol.{name as #link}
 use Rattle.catalogue.proofs.record_ancestors as record-ancestors
 use Rattle.catalogue.proofs.record_ancestors.Code as code
+use Rattle.catalogue.proofs.record_ancestors.Key.{name as #record}
 use Rattle.catalogue.proofs.record_ancestors.Statement as stated
 
 abbrev stayed : Stays (record-ancestors.ended .signature .params) (record-ancestors.ended .kept)

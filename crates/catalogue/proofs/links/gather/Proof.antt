@@ -56,12 +56,15 @@ use Rattle.catalogue.proofs.Walks.{RS, RL, local, held, held-field, lin
 use Rattle.catalogue.proofs.links.none as none
 use Rattle.catalogue.proofs.links.none.Met as none-met
 use Rattle.catalogue.proofs.links.none.Symbol as none-symbol
+use Rattle.catalogue.proofs.links.none.Symbol.{name as #none}
 use Rattle.catalogue.proofs.links.add as add
 use Rattle.catalogue.proofs.links.add.Met as add-met
 use Rattle.catalogue.proofs.links.add.Symbol as add-symbol
+use Rattle.catalogue.proofs.links.add.Symbol.{name as #add}
 use Rattle.catalogue.proofs.links.gather as gather
 use Rattle.catalogue.proofs.links.gather.Code as code
 use Rattle.catalogue.proofs.links.gather.Code.Mir as Mir
+use Rattle.catalogue.proofs.links.gather.Key.{name as #gather}
 use Rattle.catalogue.proofs.links.gather.Statement as stated
 
 -- the types of the locals, as the code's table spells them

@@ -1,6 +1,6 @@
 -- The bits are equal exactly if the numbers are.
 use borrow.Author.Needs.{sfits-of}
-use Rattle.compare.proofs.Bits.{same-bits}
+use Rattle.tables.proofs.Bits.{eq-bits}
 use Rattle.compare.proofs.number.same_time.Statement.{statement}
 use Rattle.compare.proofs.number.same_time.Tie as tie
 
@@ -9,4 +9,4 @@ same-time-spec =
     tie.close
     (tie.spec
     (λ c. let a = c .before .before .args in
-    same-bits (a .a .0) (a .b .0) (sfits-of (c .before .struct-told .given .0 .1)) (sfits-of (c .struct-told2 .given .0 .1))))
+    eq-bits (a .a .0) (a .b .0) (sfits-of (c .before .struct-told .given .0 .1)) (sfits-of (c .struct-told2 .given .0 .1))))
