@@ -17,6 +17,7 @@ mod uuid;
 
 use std::fs::File;
 use std::io::{self, BufRead, BufReader, BufWriter, stdin, stdout};
+use std::path::Path;
 use std::process::ExitCode;
 
 // The published files name these at the crate's root.
@@ -27,7 +28,10 @@ const USAGE: &str = "oracle answer < CASES > ANSWERS
 oracle generate --seed S --count N [--kind run|walk|limit|mixed]
 oracle compare CASES ACTUAL        (ACTUAL may be - for standard input)
 oracle pick --count K < CASES
-oracle bench";
+oracle bench [--kinds] [--program REPEAT]";
+
+/// The program `repeat`, where `rt check repeat` puts it.
+const REPEAT: &str = concat!(env!("CARGO_MANIFEST_DIR"), "/../../target/bin/repeat");
 
 fn main() -> ExitCode {
     published::number::quiet_attempts();
@@ -65,7 +69,14 @@ fn command(arguments: &[&str]) -> Option<io::Result<bool>> {
             let count = number(options, "--count")?;
             done(pick::pick(count as usize, stdin().lock(), out))
         }
-        ["bench"] => done(bench::bench(out)),
+        ["bench", options @ ..] => {
+            let repeat = Path::new(value(options, "--program").unwrap_or(REPEAT));
+            if options.contains(&"--kinds") {
+                done(bench::bench_kinds(repeat, out))
+            } else {
+                done(bench::bench(repeat, out))
+            }
+        }
         _ => return None,
     })
 }

@@ -1,10 +1,11 @@
-//! The published code as an engine. Its arguments are made before the clock starts, since the crate too is handed them by value.
+//! The published code as an engine. Its arguments are made before the clock starts, since the crate too is handed them by value; what it
+//! gives back is freed after the clock has stopped.
 
 use std::hint::black_box;
-use std::time::{Duration, Instant};
+use std::time::Instant;
 
-use super::Engine;
 use super::workload::Workload;
+use super::{Engine, Timed};
 use crate::case::{Run, capacity};
 use crate::chrono;
 use crate::error::Result;
@@ -18,11 +19,11 @@ use crate::util::snapshot::ancestors_of;
 pub struct Published;
 
 impl Engine for Published {
-    fn name(&self) -> &'static str {
-        "published"
+    fn samples(&self) -> usize {
+        3000
     }
 
-    fn ready(&self, workload: &Workload) -> Box<dyn FnMut() -> Duration> {
+    fn ready(&self, workload: &Workload) -> Timed {
         match workload {
             Workload::Run(run) => ready_run(run),
             Workload::Close(run) => ready_close(run),
@@ -46,20 +47,20 @@ fn begin(run: &Run) -> TableMetadataBuilder {
     TableMetadataBuilder::new_from_metadata(previous, run.file.as_deref().map(to::text))
 }
 
-fn ready_run(run: &Run) -> Box<dyn FnMut() -> Duration> {
+fn ready_run(run: &Run) -> Timed {
     let start = begin(run);
     let calls: Vec<Call> = run.updates.iter().map(call).collect();
     Box::new(move || {
         let (builder, calls) = (start.clone(), calls.clone());
         let clock = Instant::now();
         let built = black_box(whole_run(builder, calls));
-        let time = clock.elapsed();
+        let time = clock.elapsed().as_nanos() as f64;
         built.expect("the run is accepted");
         time
     })
 }
 
-fn ready_close(run: &Run) -> Box<dyn FnMut() -> Duration> {
+fn ready_close(run: &Run) -> Timed {
     let calls: Vec<Call> = run.updates.iter().map(call).collect();
     let updated = calls.into_iter().try_fold(begin(run), apply);
     let updated = updated.expect("the updates are accepted");
@@ -67,13 +68,13 @@ fn ready_close(run: &Run) -> Box<dyn FnMut() -> Duration> {
         let builder = updated.clone();
         let clock = Instant::now();
         let built = black_box(builder.build());
-        let time = clock.elapsed();
+        let time = clock.elapsed().as_nanos() as f64;
         built.expect("the close is accepted");
         time
     })
 }
 
-fn ready_walk(table: TableMetadataRef, start: i64) -> Box<dyn FnMut() -> Duration> {
+fn ready_walk(table: TableMetadataRef, start: i64) -> Timed {
     let mut buffer = [0; capacity::WALK];
     Box::new(move || {
         let clock = Instant::now();
@@ -82,6 +83,6 @@ fn ready_walk(table: TableMetadataRef, start: i64) -> Box<dyn FnMut() -> Duratio
             *slot = snapshot.snapshot_id();
         }
         black_box(&buffer);
-        clock.elapsed()
+        clock.elapsed().as_nanos() as f64
     })
 }

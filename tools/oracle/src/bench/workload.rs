@@ -1,4 +1,4 @@
-//! The three workloads, as records, so that every engine is given the same.
+//! The workloads, as records, so that every engine is given the same.
 
 use crate::case::{
     BRANCH, Flagged, Metadata, MetadataLogEntry, Order, Ref, Run, Schema, Snapshot,
@@ -23,13 +23,10 @@ pub fn all() -> [(&'static str, Workload); 4] {
     [
         ("run of 64 updates", Workload::Run(run_of_64())),
         (
-            "close, 64 snapshots, 128 entries, after a removal",
-            Workload::Close(removal()),
-        ),
-        (
-            "the same with its removal and addition",
+            "run of 2, 64 snapshots, 128 entries, one removal",
             Workload::Run(removal()),
         ),
+        ("its close alone", Workload::Close(removal())),
         (
             "walk of 64",
             Workload::Walk {
@@ -45,7 +42,7 @@ fn time(id: i64) -> i64 {
     1_700_000_000_000 + 1000 * id
 }
 
-fn snapshot(id: i64) -> Snapshot {
+pub fn snapshot(id: i64) -> Snapshot {
     Snapshot {
         id,
         parent: Flagged::of(Some(id - 1).filter(|parent| *parent >= 0)),
@@ -55,7 +52,7 @@ fn snapshot(id: i64) -> Snapshot {
     }
 }
 
-fn reference(name: &str, kind: u8, snapshot_id: i64) -> Ref {
+pub fn reference(name: &str, kind: u8, snapshot_id: i64) -> Ref {
     Ref {
         name: name.into(),
         snapshot_id,
@@ -66,12 +63,12 @@ fn reference(name: &str, kind: u8, snapshot_id: i64) -> Ref {
     }
 }
 
-fn schema(id: i32) -> Schema {
+pub fn schema(id: i32) -> Schema {
     let fields = (1..=8 + id).collect();
     Schema { id, fields }
 }
 
-fn order(id: i64) -> Order {
+pub fn order(id: i64) -> Order {
     let field = SortField {
         source_id: id as i32,
         direction: 0,
@@ -84,7 +81,7 @@ fn order(id: i64) -> Order {
 }
 
 /// Version 3 with so many snapshots in one line, `main` at the last of them, and a history of so many entries that ends there.
-fn start(snapshots: i64, entries: i64) -> Metadata {
+pub fn start(snapshots: i64, entries: i64) -> Metadata {
     let last = snapshots - 1;
     let entry = |i: i64| SnapshotLogEntry {
         snapshot_id: (i - entries).rem_euclid(snapshots),
@@ -118,7 +115,7 @@ fn start(snapshots: i64, entries: i64) -> Metadata {
     }
 }
 
-fn run(metadata: Metadata, updates: Vec<Update>) -> Run {
+pub fn run(metadata: Metadata, updates: Vec<Update>) -> Run {
     Run {
         metadata,
         clock: time(100),

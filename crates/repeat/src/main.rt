@@ -1,0 +1,59 @@
+// Reads how often, then one case (a run or a walk over ids, in the case format), answers it that many times, and prints the number and the
+// count of the last answer: the logged updates of a run, the ids of a walk. Reading is done once; only the calls are repeated, so that two
+// counts tell the time of a call.
+use casefile::case::put_bad_case;
+use casefile::case::read_case;
+use numbers::field::read_u64;
+use numbers::input::Input;
+use numbers::input::Place;
+use numbers::input::empty_input;
+use numbers::input::is_good;
+use numbers::input::spoil;
+use numbers::input::start;
+use numbers::number::put_count;
+use numbers::number::put_u8;
+use numbers::output::empty_output;
+use numbers::output::flush;
+use numbers::output::put_line_end;
+
+mod runs;
+mod walks;
+
+// What is kept of an answer; zeros if there was none.
+pub struct Kept {
+    pub number: u8,
+    pub count: usize,
+}
+
+// Reads the rest of a case of this kind, and answers it so many times if it is good.
+fn answer(kind: u64, times: u64, input: &mut Input, place: &mut Place) -> Kept {
+    match kind {
+        1 => runs::run(times, input, place),
+        2 => walks::ids(times, input, place),
+        _ => {
+            spoil(place);
+            Kept {
+                number: 0,
+                count: 0,
+            }
+        }
+    }
+}
+
+fn main() {
+    let mut input = empty_input();
+    let mut place = start();
+    let mut output = empty_output();
+    let mut end: usize = 0;
+    let times = read_u64(&mut input, &mut place);
+    let kind = read_case(&mut input, &mut place);
+    let kept = answer(kind, times, &mut input, &mut place);
+    if is_good(&place) {
+        put_u8(&mut output, &mut end, kept.number);
+        put_count(&mut output, &mut end, kept.count);
+        put_line_end(&mut output, end);
+    } else {
+        put_bad_case(&mut output, &mut end);
+    }
+    flush(&output, end);
+}

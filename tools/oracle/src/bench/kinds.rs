@@ -1,0 +1,147 @@
+//! For each kind of update a run with updates of this kind that take effect, as many as there is room for.
+
+use super::workload::{Workload, order, reference, run, schema, snapshot, start};
+use crate::case::{BRANCH, Metadata, Order, SortField, TAG, Update};
+
+pub struct Work {
+    pub title: &'static str,
+    metadata: Metadata,
+    /// Updates of both runs.
+    both: Vec<Update>,
+    timed: Vec<Update>,
+}
+
+impl Work {
+    pub fn counted(&self) -> usize {
+        self.timed.len()
+    }
+
+    /// The run with the timed updates, and the run without them.
+    pub fn runs(&self) -> [Workload; 2] {
+        let all = self.both.iter().chain(&self.timed).cloned().collect();
+        [all, self.both.clone()].map(|updates| Workload::Run(run(self.metadata.clone(), updates)))
+    }
+}
+
+pub fn all() -> Vec<Work> {
+    [fields(), snapshots(), references(), schemas(), orders()]
+        .into_iter()
+        .flatten()
+        .collect()
+}
+
+/// So many updates of the half-full start.
+fn work(title: &'static str, count: i64, update: impl Fn(i64) -> Update) -> Work {
+    Work {
+        title,
+        metadata: start(32, 32),
+        both: vec![],
+        timed: (0..count).map(update).collect(),
+    }
+}
+
+fn fields() -> Vec<Work> {
+    let location = |i| format!("s3://archive/table-{i}").into_bytes();
+    vec![
+        work("1 assign uuid", 64, |i| Update::AssignUuid([i as u8; 16])),
+        Work {
+            metadata: Metadata {
+                version: 1,
+                ..start(32, 32)
+            },
+            // From version 1 there are but two steps.
+            ..work("2 upgrade version, two take effect", 64, |i| {
+                Update::UpgradeFormatVersion(3.min(2 + i) as u8)
+            })
+        },
+        work("3 set location", 64, |i| Update::SetLocation(location(i))),
+    ]
+}
+
+fn snapshots() -> Vec<Work> {
+    let commit = |i| Update::SetBranchSnapshot(b"main".to_vec(), snapshot(32 + i));
+    let removal = |i| Update::RemoveSnapshots(vec![i]);
+    vec![
+        work("4 add snapshot", 32, |i| {
+            Update::AddSnapshot(snapshot(32 + i))
+        }),
+        work("5 branch commit on main", 32, commit),
+        Work {
+            metadata: start(64, 128),
+            // Both closes rebuild the log.
+            both: vec![removal(0)],
+            ..work("6 remove snapshots, one at a time", 62, |i| removal(i + 1))
+        },
+    ]
+}
+
+fn references() -> Vec<Work> {
+    let tag = |i| format!("tag-{i:02}");
+    let tags = (0..13).map(|i| reference(&tag(i), TAG, i));
+    let mut full = start(32, 32);
+    full.refs.extend(tags);
+    full.refs.sort_by(|a, b| a.name.cmp(&b.name));
+    vec![
+        work("7 set ref, a held tag", 64, |i| {
+            Update::SetRef(reference("v1", TAG, i % 32))
+        }),
+        work("7 set ref, main", 64, |i| {
+            Update::SetRef(reference("main", BRANCH, i % 32))
+        }),
+        work("7 set ref, a new tag", 13, |i| {
+            Update::SetRef(reference(&tag(i), TAG, i))
+        }),
+        Work {
+            metadata: full,
+            ..work("8 remove ref", 13, |i| {
+                Update::RemoveRef(tag(i).into_bytes())
+            })
+        },
+    ]
+}
+
+fn schemas() -> Vec<Work> {
+    let full = Metadata {
+        schemas: (0..16).map(schema).collect(),
+        ..start(32, 32)
+    };
+    vec![
+        work("9 add schema, a new one", 12, |i| {
+            Update::AddSchema(schema(4 + i as i32))
+        }),
+        work("9 add schema, a held one", 64, |i| {
+            Update::AddSchema(schema(i as i32 % 4))
+        }),
+        work("10 set current schema", 64, |i| {
+            Update::SetCurrentSchema(i as i32 % 4)
+        }),
+        Work {
+            metadata: full,
+            ..work("11 remove schemas, one at a time", 12, |i| {
+                Update::RemoveSchemas(vec![4 + i as i32])
+            })
+        },
+    ]
+}
+
+fn orders() -> Vec<Work> {
+    let new = |i: i64| Order {
+        id: 4 + i,
+        fields: vec![SortField {
+            source_id: 1 + i as i32 % 8,
+            direction: 1,
+            nulls: i as u8 / 8,
+        }],
+    };
+    vec![
+        work("12 add sort order, a new one", 12, |i| {
+            Update::AddSortOrder(new(i))
+        }),
+        work("12 add sort order, a held one", 64, |i| {
+            Update::AddSortOrder(order(i % 4))
+        }),
+        work("13 set default sort order", 64, |i| {
+            Update::SetDefaultSortOrder(i % 4)
+        }),
+    ]
+}
