@@ -2,7 +2,7 @@
 use Prim.Native.Nat.{ℕ, _≤_}
 use native.Mathlib.Omega.{arith}
 use mathlib.Core.Path.{_≡_, refl, sym, ap, _∙_}
-use mathlib.Core.Bool.{Bool, true, false, cond, not, _&&_}
+use mathlib.Core.Bool.{Bool, true, false, cond, not}
 use mathlib.Core.List.{List, [], _∷_}
 use lib.Dec.{ltb}
 use lib.IntN.{ℤ, pos}
@@ -19,33 +19,33 @@ use Rattle.records.specs.declared.«sort_order».SortOrders.{SortOrders}
 use Rattle.records.specs.declared.update.TableUpdate.{TableUpdate}
 use Rattle.records.specs.declared.run.RunTerms.{RunTerms}
 use Rattle.records.specs.declared.run.Answer.{Answer}
-use Rattle.rules.specs.Words.{firstOf, orElse, afterLast, Check}
+use Rattle.rules.specs.Words.{firstOf, orElse, Check}
 use Rattle.rules.specs.Capacities.{metadataLogRoom}
 use Rattle.rules.specs.Replies.{defaultOrderUnfit, logEndsElsewhere, mainDisagrees}
 use Rattle.rules.specs.Register.{State}
 use Rattle.rules.specs.Register.Outcome.{Refused, Accepted}
 use Rattle.rules.specs.WellFormed.{mainAgrees, metadataLogFormed, fileNameFormed}
-use Rattle.rules.specs.ChangeLog.{logsMain, logsRemoval, mainTarget}
+use Rattle.rules.specs.ChangeLog.{logsMain, mainTarget}
 use Rattle.rules.specs.Limit.{limitOf, isNumber, afterPlus}
 use Rattle.rules.proofs.Checks.{by-test}
-use Rattle.rules.specs.Close.{isRebuilt, isMissing, isIntermediate, rebuilt, isDefaultUnfit, endsElsewhere, history, staying, expired, closeChecks, closed}
+use Rattle.rules.specs.Close.{isDefaultUnfit, endsElsewhere, history, staying, expired, closeChecks, closed}
 use Rattle.rules.specs.Run.{close}
-use Rattle.rules.specs.Layout.{laidSnapshots, laidFields, readSnapshotLog, laidMetadata}
+use Rattle.rules.specs.Layout.{laidSnapshots, laidFields, laidMetadata}
 use Rattle.rules.specs.Kinds.{laidUpdates}
 use Rattle.rules.specs.Answer.{readTerms, laidOutcome}
-use Rattle.rules.proofs.Reread.{reread-fields, reread-snapshot-log}
-use Rattle.rules.proofs.Tables.{log-fits, keep-length, afterLast-length}
+use Rattle.rules.proofs.Reread.{reread-fields}
+use Rattle.rules.proofs.Tables.{log-fits}
 use Rattle.rules.specs.Register as plain
 use Rattle.builder.specs.declared.builder.TableMetadataBuilder.{TableMetadataBuilder}
 use Rattle.builder.specs.Pieces.{laidBuilder, idsOf}
-use Rattle.tables.specs.Laid.{LaidMetadataLog, LaidSnapshotLog}
+use Rattle.tables.specs.Laid.{LaidMetadataLog}
 use Rattle.close.specs.declared.history.History.{History}
 use Rattle.close.specs.declared.files.FileLogs.{FileLogs}
 use Rattle.close.specs.Facts.{addition, additions, Told}
 use Rattle.close.specs.Answers.{HistoryOf, Handed, Filed, FilesOf}
 use Rattle.standing.specs.Standing.{Ended}
 use Rattle.standing.proofs.Slots.{pad-length, pad-front, collect-length}
-use Rattle.standing.proofs.Beginning.{read-fields, read-refs, read-log, read-schemas, read-orders, snapshots-fit, log-fit}
+use Rattle.standing.proofs.Beginning.{read-fields, read-refs, read-log, read-schemas, read-orders, snapshots-fit}
 
 module _ {m : TableMetadata} {terms : RunTerms} {st : State} {b : TableMetadataBuilder} {t : Snapshots} {is : List ℤ} {r : Refs} {h : SnapshotLog} {s : Schemas} {o : SortOrders} {es : List TableUpdate} {c : ℕ} {ns : List ℤ} {a : ℕ} {ms : List ℤ} {k : ℕ} {f : Bool}
     (E : Ended m terms st b t is r h s o es c ns a ms k f) where
@@ -171,23 +171,6 @@ module _ {m : TableMetadata} {terms : RunTerms} {st : State} {b : TableMetadataB
 
   pub main-slice : k ≡ length (take k ms)
   main-slice = E .logs .mains ∙ sym (ap length main-ids)
-
-  -- a rebuilt log is no longer than the old one
-  history-fits : length (history (st .log) (st .metadata)) ≤ length (st .metadata .snapshotLog)
-  unfolding rebuilt
-  history-fits =
-      let P : List plain.LogEntry → Type 0 = λ l. length l ≤ length (st .metadata .snapshotLog) in
-      let gone = isMissing (st .metadata) in
-      by-test P (isRebuilt (st .log) (st .metadata))
-      (λ e. by-test P (logsRemoval (st .log))
-      (λ q. omega (arith, keep-length (λ x. not (isIntermediate (st .log) (st .metadata) x)) (afterLast gone (st .metadata .snapshotLog)), afterLast-length gone (st .metadata .snapshotLog)))
-      (λ q. keep-length (λ x. not (isMissing (st .metadata) x) && not (isIntermediate (st .log) (st .metadata) x)) (st .metadata .snapshotLog)))
-      (λ e. omega arith)
-
-  pub laid-history : {y : History} → HistoryOf (st .log) (st .metadata) y → LaidSnapshotLog (y .log)
-  laid-history {y} Y =
-      let q : readSnapshotLog (y .log) ≡ history (st .log) (st .metadata) = rw (Y .log) (reread-snapshot-log (history (st .log) (st .metadata))) in
-      record { back = rw q (sym (Y .log)); fits = rw q (omega (arith, history-fits, log-fit E)) }
 
 pub limit-least : (text : List ℕ) → 1 ≤ limitOf text
 unfolding limitOf
