@@ -1,8 +1,7 @@
-// The keyed tables and the two logs: find, put, remove by key, each on a table by value.
+// The keyed tables: find, put, remove by key, each on a table by value.
 // Nothing is refused here; the callers check that there is room.
 // Document 01, "Tables are ascending by key", as the crate `rules` writes it in Words (`put`, `keep`, `first`).
 pub mod ids;
-pub mod logs;
 pub mod names;
 pub mod refs;
 pub mod schemas;

@@ -308,8 +308,8 @@ unheld c =
     (c .if25 .came)
 
 -- the snapshot's id, from its bits
-key-back-2 : (c : tie.After-struct-told2 Inv-loop μ-loop) → toZ w64 (ofZ w64 (at-wanted (c .before .before) .wanted .result .«snapshot_id» .0)) ≡ asked (at-set (c .before .before) .before) .snapshot
-key-back-2 c = toZ-ofZ (sfits-of (c .struct-told2 .given .0 .1)) ∙ ap (λ (x : plain.Reference). x .snapshot) (target (at-wanted (c .before .before)))
+target-key : (c : tie.After-struct-told2 Inv-loop μ-loop) → toZ w64 (ofZ w64 (at-wanted (c .before .before) .wanted .result .«snapshot_id» .0)) ≡ asked (at-set (c .before .before) .before) .snapshot
+target-key c = toZ-ofZ (sfits-of (c .struct-told2 .given .0 .1)) ∙ ap (λ (x : plain.Reference). x .snapshot) (target (at-wanted (c .before .before)))
 
 abbrev aim : tie.After-position Inv-loop μ-loop → tie.Joined25 Inv-loop μ-loop
 aim c = c .before .before .before .before
@@ -320,7 +320,7 @@ aimed c =
     record {
       sought = sought (at-wanted (aim c) .before);
       other = unheld (aim c);
-      spot = c .position .ensures ∙ ap (λ (y : ℤ). indexOf (λ x. eqZ x y) (take (j .if17 .t .count) (j .if17 .ids))) (key-back-2 (c .before .before));
+      spot = c .position .ensures ∙ ap (λ (y : ℤ). indexOf (λ x. eqZ x y) (take (j .if17 .t .count) (j .if17 .ids))) (target-key (c .before .before));
     }
 
 set-ref-is : (c : tie.After-set-ref-number Inv-loop μ-loop) → c .set-ref-number .result ≡ firstOf (setRefChecks (readRefName (N (at-set (aim (c .before .before)) .before))) (asked (at-set (aim (c .before .before)) .before)) (midway (at-set (aim (c .before .before))) .state))
@@ -344,7 +344,7 @@ own-after c =
     let e = c .before .before .before in
     let j = to-set e in
     let E = midway j .ended in
-    let Q = c .before .position2 .ensures ∙ ap (λ (y : ℤ). indexOf (λ x. eqZ x y) (take (j .if17 .adds) (j .if17 .added))) (key-back-2 (at-place e .before .before)) in
+    let Q = c .before .position2 .ensures ∙ ap (λ (y : ℤ). indexOf (λ x. eqZ x y) (take (j .if17 .adds) (j .if17 .added))) (target-key (at-place e .before .before)) in
     ⊎-elim (λ w. w .3 ∙ own-added E (aimed (at-place e)) (set-zero e) Q (w .0 .taken) _ refl) (λ w. w .1 ∙ own-kept E (aimed (at-place e)) (set-zero e) Q (w .0 .left)) (c .if28 .came)
 
 abbrev settling : tie.Joined28 Inv-loop μ-loop → tie.Else27 Inv-loop μ-loop
@@ -928,7 +928,7 @@ loop-again-13 c =
       ⊎-elim
           (λ w.
           let m : tie.Then29 Inv-loop μ-loop = record { before = g .before; if29 = w .0 } in
-          set-main W Y (set-zero e) (own-after (g .before)) R D (is-main m) (o .wanted .result .«snapshot_id») (ap (λ (x : plain.Reference). x .snapshot) (target o)) (w .1 .ensures (withOwn (ownAfter (asked (j .before) .snapshot) (W .state)) (W .state)) (own-after (g .before))) (history-room m) (w .4) (g .if29 .log) (ap (λ (x : SnapshotLog). x .items) (w .5)) (ap (λ (x : SnapshotLog). x .count) (w .5)) (w .6 ∙ ap (set (in-pair (j .before) .before .loop .mained) (in-pair (j .before) .before .loop .mains)) (key-back-2 (at-place e .before .before))) (w .7))
+          set-main W Y (set-zero e) (own-after (g .before)) R D (is-main m) (o .wanted .result .«snapshot_id») (ap (λ (x : plain.Reference). x .snapshot) (target o)) (w .1 .ensures (withOwn (ownAfter (asked (j .before) .snapshot) (W .state)) (W .state)) (own-after (g .before))) (history-room m) (w .4) (g .if29 .log) (ap (λ (x : SnapshotLog). x .items) (w .5)) (ap (λ (x : SnapshotLog). x .count) (w .5)) (w .6 ∙ ap (set (in-pair (j .before) .before .loop .mained) (in-pair (j .before) .before .loop .mains)) (target-key (at-place e .before .before))) (w .7))
           (λ w. rw (w .2, w .3, w .4) (set-other W Y (set-zero e) (w .1 ∙ own-after (g .before)) R D (sym (e .before .before .is-main-name .ensures) ∙ w .0 .left)))
           (g .if29 .came),
     )
