@@ -30,4 +30,5 @@ pub mod Laid
 pub mod Reread
 pub mod AnswerLaws
 pub mod AnswerReplays
+pub mod AnswerInstances
 pub mod AnswerFits
