@@ -6,6 +6,7 @@ mod case;
 mod catalog;
 mod chrono;
 mod compare;
+mod differences;
 mod error;
 mod generate;
 mod pick;
@@ -28,6 +29,7 @@ const USAGE: &str = "oracle answer < CASES > ANSWERS
 oracle generate --seed S --count N [--kind run|walk|limit|mixed]
 oracle compare CASES ACTUAL        (ACTUAL may be - for standard input)
 oracle pick --count K < CASES
+oracle differences [--cases]
 oracle bench [--kinds] [--program REPEAT]";
 
 /// The program `repeat`, where `rt check repeat` puts it.
@@ -71,6 +73,8 @@ fn command(arguments: &[&str]) -> Option<io::Result<bool>> {
             let count = number(options, "--count").filter(|count| *count > 0)?;
             done(pick::pick(count as usize, stdin().lock(), out))
         }
+        ["differences"] => done(differences::differences(out)),
+        ["differences", "--cases"] => done(differences::cases(out)),
         ["bench", "--kinds", options @ ..] => done(bench::bench_kinds(repeat(options)?, out)),
         ["bench", options @ ..] => done(bench::bench(repeat(options)?, out)),
         _ => return None,

@@ -33,7 +33,9 @@ impl Ours {
             .map_err(said("`rt check repeat` makes it"))?;
         let mut trial = Command::new(&found);
         trial.stdin(Stdio::null()).stdout(Stdio::null());
-        trial.status().map_err(said("it can not be started; it is a program for x86-64"))?;
+        trial
+            .status()
+            .map_err(said("it can not be started; it is a program for x86-64"))?;
         Ok(Self { program: found })
     }
 }

@@ -2,7 +2,7 @@
 //! `compare [SEED]`; the status is 1 where a difference was found, 2 where SEED is no number from 1 to 2^64 - 1: random numbers from 0 would
 //! all be 0.
 
-use register::{limit, row_check, too_early, RowCheck};
+use register::{limit, limit_of_no_text, row_check, too_early, RowCheck};
 
 /// Document 01: "optional `+`, at least one digit, nothing else, at most 2^64 - 1; otherwise 100; never below 1".
 fn limit_rule(text: &[u8]) -> u64 {
@@ -159,6 +159,7 @@ fn limits(random: &mut Random, tally: &mut Tally) {
     for _ in 0..1_200_000 {
         one(&random.text());
     }
+    tally.same(&"no text", limit_of_no_text(), limit_rule(b""));
     println!(
         "{} limit texts, {} with another limit than 100",
         tally.compared, numbers
