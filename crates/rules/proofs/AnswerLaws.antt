@@ -1,11 +1,11 @@
 -- What the answer of a run is like: its number is 0 exactly where the rules accept, and then it is fit to start the next run; otherwise nothing has changed. Each number has its place.
 use Prim.Native.Nat.{ℕ, _≤_}
 use native.Mathlib.Omega.{arith}
-use mathlib.Core.Path.{_≡_, refl, ap}
+use mathlib.Core.Path.{_≡_, refl, ap, _∙_}
 use mathlib.Core.Bool.{Bool, true, false, cond}
 use mathlib.Core.List.{List}
-use lib.ListN.{length, length-append, length-map, length-replicate, length-take}
-use Rattle.records.specs.Blanks.{noMetadataLog, noUpdates}
+use lib.ListN.{length, length-map}
+use Rattle.records.specs.Blanks.{noMetadataLog, noUpdate, noUpdates}
 use Rattle.records.specs.declared.metadata.TableMetadata.{TableMetadata}
 use Rattle.records.specs.declared.update.UpdateList.{UpdateList}
 use Rattle.records.specs.declared.run.RunTerms.{RunTerms}
@@ -18,10 +18,11 @@ use Rattle.rules.specs.Register.Outcome.{Refused, Accepted}
 use Rattle.rules.specs.WellFormed.{metadataFormed, updateFormed}
 use Rattle.rules.specs.Run.{listSum, run}
 use Rattle.rules.specs.Blanks.{isTidyMetadata}
-use Rattle.rules.specs.Layout.{readMetadata, laidMetadata, readMetadataLog}
-use Rattle.rules.specs.Kinds.{readUpdates, laidUpdates}
+use Rattle.rules.specs.Layout.{counted, readMetadata, laidMetadata, readMetadataLog}
+use Rattle.rules.specs.Kinds.{readUpdate, readUpdates, laidUpdates}
 use Rattle.rules.specs.Answer.{readTerms, laidOutcome, answer}
 use Rattle.rules.proofs.Checks.{by-test}
+use Rattle.rules.proofs.Relaid.{length-counted}
 use Rattle.rules.proofs.Places.{Reply, Replies, reply-at-start, run-replies}
 use Rattle.rules.proofs.SoundRun.{accepted-formed}
 use Rattle.rules.proofs.Replay.{log-fits}
@@ -144,7 +145,7 @@ answer-refused m us terms limit h = refused-unchanged m (cond (isTidyMetadata m)
 -- as many updates are read as the count says
 read-count : (us : UpdateList) → length (readUpdates us) ≡ us .count
 unfolding readUpdates
-read-count us = simp (length-map, length-append, length-take, length-replicate) (omega arith)
+read-count us = length-map (counted noUpdate (us .items) (us .count)) readUpdate ∙ length-counted noUpdate (us .items) (us .count)
 
 laid-reply : (m : TableMetadata) (count : ℕ) (o : Outcome) → Replies count o → Reply count (laidOutcome m o .number) (laidOutcome m o .place)
 unfolding laidOutcome
