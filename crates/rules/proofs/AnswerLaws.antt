@@ -78,6 +78,14 @@ module _ (m : TableMetadata) (us : UpdateList) (terms : RunTerms) (limit : List 
           by-run t (run terms′ (readMetadata m) (readUpdates us)) (run-numbered terms′ (readMetadata m) (readUpdates us)) refl e
       by-tidy false t e = absurd (let z : _≡_ {A = ℕ} startNotFormed 0 = e in omega arith)
 
+-- ---- what is laid out
+
+-- well-formed metadata and updates, laid out, are answered by the outcome of the rules, laid out
+pub laid-answer : (p : Metadata) (us : List Update) (terms : RunTerms) (limit : List ℕ) → metadataFormed p ≡ true → all updateFormed us ≡ true
+    → answer (laidMetadata p) (laidUpdates us) terms limit ≡ laidOutcome (laidMetadata p) (run (readTerms terms limit) p us)
+unfolding answer
+laid-answer p us terms limit f g = rw (tidy-metadata p f, reread-metadata p, reread-updates us g)
+
 -- ---- an accepted run
 
 -- what a run may start from: unused places are blank, and what is read is well formed

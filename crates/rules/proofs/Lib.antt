@@ -31,4 +31,5 @@ pub mod Reread
 pub mod Places
 pub mod AnswerLaws
 pub mod AnswerReplays
+pub mod AnswerInstances
 pub mod AnswerFits

@@ -38,12 +38,17 @@ stripped (Refused number place) = Refused number place
 stripped (Accepted m log expired) = Accepted m (strip log) expired
 
 -- P3, P5 and P10
+abbrev pub p3 : List Update
+p3 = RemoveSnapshots (pos 2 ∷ []) ∷ []
+
+abbrev pub p5 : List Update
+p5 = AddSnapshot (snap 4 (some (pos 3)) 6 (pos 400000)) ∷ AddSnapshot (snap 5 (some (pos 4)) 7 (pos 410000)) ∷ toMain 4 ∷ toMain 5 ∷ []
+
+abbrev pub p10 : List Update
+p10 = RemoveSchemas (pos 7 ∷ []) ∷ []
+
 abbrev pub instances : List (List Update)
-instances =
-    (RemoveSnapshots (pos 2 ∷ []) ∷ [])
-    ∷ (AddSnapshot (snap 4 (some (pos 3)) 6 (pos 400000)) ∷ AddSnapshot (snap 5 (some (pos 4)) 7 (pos 410000)) ∷ toMain 4 ∷ toMain 5 ∷ [])
-    ∷ (RemoveSchemas (pos 7 ∷ []) ∷ [])
-    ∷ []
+instances = p3 ∷ p5 ∷ p10 ∷ []
 
 pub instances-accepted : all (λ (us : List Update). isAccepted (run terms three us)) instances ≡ true
 unfolding computed
@@ -84,12 +89,12 @@ abbrev entries : Outcome → ℕ
 entries (Refused number place) = 0
 entries (Accepted m log expired) = length (m .snapshotLog)
 
-p3-leaves-one : entries (run terms three (RemoveSnapshots (pos 2 ∷ []) ∷ [])) ≡ 1
+p3-leaves-one : entries (run terms three p3) ≡ 1
 unfolding computed
 p3-leaves-one = refl
 
 pub idle-is-not-right : ((us : List Update) → idle terms three us ≡ run terms three us) → ⊥
-idle-is-not-right same = let z : _≡_ {A = ℕ} 3 1 = ap entries (same (RemoveSnapshots (pos 2 ∷ []) ∷ [])) ∙ p3-leaves-one in omega arith
+idle-is-not-right same = let z : _≡_ {A = ℕ} 3 1 = ap entries (same p3) ∙ p3-leaves-one in omega arith
 
 pub refusing-is-not-right : ((us : List Update) → refusing terms three us ≡ run terms three us) → ⊥
-refusing-is-not-right same = let z : _≡_ {A = ℕ} 0 1 = ap entries (same (RemoveSnapshots (pos 2 ∷ []) ∷ [])) ∙ p3-leaves-one in omega arith
+refusing-is-not-right same = let z : _≡_ {A = ℕ} 0 1 = ap entries (same p3) ∙ p3-leaves-one in omega arith

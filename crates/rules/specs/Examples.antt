@@ -1,32 +1,33 @@
 -- P1 to P12 of document 01, "Examples on both sides", every clause a question and the reply that it must get; then its "Easy wrong turns",
--- and sentences that no P shows.
+-- and, each with a name, examples of clauses that no P shows; docs/RULES.md cites them by these names.
 -- That the rules give these replies is one statement over the list (`examples-hold`, in proofs/Examples).
 use Prim.Native.Nat.{ℕ}
 use mathlib.Core.List.{List, [], _∷_}
 use mathlib.Core.Option.{Option, none, some}
 use lib.IntN.{ℤ, pos, negsuc}
+use lib.ListN.{replicate}
 use Rattle.records.specs.declared.counters.SequenceNumber.{SequenceNumber}
 use Rattle.records.specs.declared.counters.RowId.{RowId}
 use Rattle.rules.specs.Names.{mainName}
-use Rattle.rules.specs.Register.{Snapshot, Reference, NamedRef, LogEntry, FileEntry, Schema, Metadata, Update, Terms, Outcome}
+use Rattle.rules.specs.Register.{Snapshot, Reference, NamedRef, LogEntry, FileEntry, Schema, SortOrder, Metadata, Update, Terms, Outcome}
 use Rattle.rules.specs.Register.Outcome.{Refused, Accepted}
-use Rattle.rules.specs.Register.Update.{AddSnapshot, RemoveSnapshots, SetRef, AddSchema, SetCurrentSchema, RemoveSchemas}
-use Rattle.rules.specs.Limit.{limitOf}
-use Rattle.rules.specs.Walk.{Walk, Listed, ancestors, recordAncestors}
+use Rattle.rules.specs.Register.Update.{AssignUuid, UpgradeFormatVersion, SetLocation, AddSnapshot, SetBranchSnapshot, RemoveSnapshots, SetRef, RemoveRef, AddSchema, SetCurrentSchema, RemoveSchemas, AddSortOrder, SetDefaultSortOrder}
+use Rattle.rules.specs.Limit.{limitGiven}
+use Rattle.rules.specs.Walk.{Walk, Listed, Twice, Bad, ancestors, recordAncestors}
 use Rattle.rules.specs.Run.{run}
 
 -- ---- questions and replies
 
 -- what of an accepted run an example looks at
 pub data Look : Type 0 where
-  AtHistory AtSequence AtNextRow AtUpdated AtLog AtFiles : Look
+  AtHistory AtSnapshots AtSequence AtNextRow AtColumn AtUpdated AtLog AtFiles : Look
 
 pub data Question : Type 0 where
   -- a run
   OfRun : Look → Terms → Metadata → List Update → Question
   -- a run of the log of a run
   OfReplay : Look → Terms → Metadata → List Update → Question
-  OfLimit : List ℕ → Question
+  OfLimit : Option (List ℕ) → Question
   -- ids, parents, start, excluded id
   OfWalk : List ℤ → List ℤ → ℤ → Option ℤ → Question
   -- snapshots, start, excluded id
@@ -36,8 +37,10 @@ pub data Reply : Type 0 where
   -- number and place
   Refusal : ℕ → ℕ → Reply
   History : List LogEntry → Reply
+  Snapshots : List Snapshot → Reply
   Sequence : SequenceNumber → Reply
   NextRow : RowId → Reply
+  Column : ℤ → Reply
   Updated : ℤ → Reply
   Log : List Update → Reply
   -- the entries that expire, and those that stay
@@ -48,8 +51,10 @@ pub data Reply : Type 0 where
 abbrev pub look : Look → Outcome → Reply
 look at (Refused number place) = Refusal number place
 look AtHistory (Accepted m log expired) = History (m .snapshotLog)
+look AtSnapshots (Accepted m log expired) = Snapshots (m .snapshots)
 look AtSequence (Accepted m log expired) = Sequence (m .fields .lastSequence)
 look AtNextRow (Accepted m log expired) = NextRow (m .fields .nextRow)
+look AtColumn (Accepted m log expired) = Column (m .fields .lastColumn)
 look AtUpdated (Accepted m log expired) = Updated (m .fields .lastUpdated)
 look AtLog (Accepted m log expired) = Log log
 look AtFiles (Accepted m log expired) = Files expired (m .metadataLog)
@@ -61,7 +66,7 @@ rerun terms m (Accepted m′ log expired) = run terms m log
 abbrev pub replyTo : Question → Reply
 replyTo (OfRun at terms m us) = look at (run terms m us)
 replyTo (OfReplay at terms m us) = look at (rerun terms m (run terms m us))
-replyTo (OfLimit text) = Limit (limitOf text)
+replyTo (OfLimit text) = Limit (limitGiven text)
 replyTo (OfWalk ids parents start excluded) = Walked (ancestors ids parents start excluded)
 replyTo (OfRecords snapshots start excluded) = Walked (recordAncestors snapshots start excluded)
 
@@ -75,6 +80,10 @@ snap id parent sequence time = record { id = pos id; parent = parent; sequence =
 abbrev pub snapRows : ℕ → ℕ → ℕ → Snapshot
 snapRows id first added = record { id = pos id; parent = none; sequence = record { 0 = pos id }; time = pos 400000; rows = some (record { first = record { 0 = first }; added = added }) }
 
+-- a snapshot with no parent, whose sequence number is its id, is added
+abbrev pub adding : ℕ → ℕ → Update
+adding id time = AddSnapshot (snap id none id (pos time))
+
 abbrev pub entry : ℕ → ℕ → LogEntry
 entry id time = record { snapshot = pos id; time = pos time }
 
@@ -82,23 +91,37 @@ entry id time = record { snapshot = pos id; time = pos time }
 abbrev pub branchTo : ℕ → Reference
 branchTo id = record { snapshot = pos id; kind = 1; minSnapshots = none; maxSnapshotAge = none; maxRefAge = none }
 
+-- a branch that keeps five snapshots
+abbrev pub keepingTo : ℕ → Reference
+keepingTo id = record { snapshot = pos id; kind = 1; minSnapshots = some (pos 5); maxSnapshotAge = none; maxRefAge = none }
+
+abbrev pub tagTo : ℕ → Reference
+tagTo id = record { snapshot = pos id; kind = 2; minSnapshots = none; maxSnapshotAge = none; maxRefAge = none }
+
 abbrev pub toMain : ℕ → Update
 toMain id = SetRef mainName (branchTo id)
+
+-- the name `d`
+abbrev pub draft : List ℕ
+draft = 100 ∷ []
+
+abbrev pub toDraft : ℕ → Update
+toDraft id = SetRef draft (branchTo id)
 
 -- an entry of the metadata log whose file has a name of one byte
 abbrev pub file : ℕ → ℕ → FileEntry
 file name time = record { file = name ∷ []; time = pos time }
 
+-- a clock reading, no file name, an empty limit text. A call always has a limit text (`Answer.readTerms`)
+abbrev pub clockAt : ℤ → Terms
+clockAt clock = record { clock = clock; file = none; limit = some [] }
+
 abbrev pub terms : Terms
-terms = record { clock = pos 500000; file = none; limit = none }
+terms = clockAt (pos 500000)
 
 -- the current file `d`, and the limit `2`
 abbrev pub fileTerms : Terms
 fileTerms = record { clock = pos 500000; file = some (100 ∷ []); limit = some (50 ∷ []) }
-
--- a clock before 1970
-abbrev pub earlyTerms : Terms
-earlyTerms = record { clock = negsuc 199999; file = none; limit = none }
 
 -- one schema with field 1, and the order of no fields
 abbrev pub register : ℕ → ℕ → ℕ → ℤ → List Snapshot → Option ℤ → List NamedRef → List LogEntry → List FileEntry → Metadata
@@ -132,15 +155,17 @@ mainAt id = record { name = mainName; reference = branchTo id } ∷ []
 abbrev pub first : Metadata
 first = register 2 1 0 (pos 100000) (snap 1 none 1 (pos 100000) ∷ []) (some (pos 1)) (mainAt 1) (entry 1 100000 ∷ []) []
 
--- version 2, history 1, 2, 3 at 100000, 200000, 300000, current 3, last sequence number 5
+-- version 2, history 1, 2, 3 at 100000, 200000, 300000, current 3, last sequence number 5; the snapshots that are held
+abbrev pub atThree : List Snapshot → Metadata
+atThree snapshots = register 2 5 0 (pos 300000) snapshots (some (pos 3)) (mainAt 3) (entry 1 100000 ∷ entry 2 200000 ∷ entry 3 300000 ∷ []) []
+
+-- all three are held
 abbrev pub three : Metadata
-three =
-    register 2 5 0 (pos 300000)
-    (snap 1 none 1 (pos 100000) ∷ snap 2 (some (pos 1)) 2 (pos 200000) ∷ snap 3 (some (pos 2)) 5 (pos 300000) ∷ [])
-    (some (pos 3))
-    (mainAt 3)
-    (entry 1 100000 ∷ entry 2 200000 ∷ entry 3 300000 ∷ [])
-    []
+three = atThree (snap 1 none 1 (pos 100000) ∷ snap 2 (some (pos 1)) 2 (pos 200000) ∷ snap 3 (some (pos 2)) 5 (pos 300000) ∷ [])
+
+-- 2 is no longer held
+abbrev pub holed : Metadata
+holed = atThree (snap 1 none 1 (pos 100000) ∷ snap 3 (some (pos 2)) 5 (pos 300000) ∷ [])
 
 -- no snapshots yet: the version, the next row id, the last update, the metadata log
 abbrev pub empty : ℕ → ℕ → ℤ → List FileEntry → Metadata
@@ -153,6 +178,14 @@ gapped = register 2 1 0 (pos 100000) (snap 1 none 1 (pos 100000) ∷ []) (some (
 abbrev pub astray : Metadata
 astray = register 2 1 0 (pos 100000) (snap 1 none 1 (pos 100000) ∷ []) (some (pos 1)) (mainAt 1) (entry 1 100000 ∷ entry 2 50000 ∷ []) []
 
+-- a snapshot that holds rows 0 to 3: the version, the next row id
+abbrev pub ranged : ℕ → ℕ → Metadata
+ranged version next = register version 1 next (pos 0) (snapRows 1 0 4 ∷ []) none [] [] []
+
+-- snapshots 1 and 2: the current one, the refs
+abbrev pub twoHeld : Option ℤ → List NamedRef → Metadata
+twoHeld current refs = register 2 2 0 (pos 0) (snap 1 none 1 (pos 0) ∷ snap 2 none 2 (pos 0) ∷ []) current refs [] []
+
 -- a snapshot that no ref names, before 1970
 abbrev pub unnamed : Metadata
 unnamed = register 2 1 0 (negsuc 99999) (snap 1 none 1 (negsuc 299999) ∷ []) none [] [] []
@@ -161,9 +194,13 @@ unnamed = register 2 1 0 (negsuc 99999) (snap 1 none 1 (negsuc 299999) ∷ []) n
 abbrev pub schemaOf : ℕ → ℕ → Schema
 schemaOf field id = record { id = pos id; fields = record { id = pos field } ∷ [] }
 
--- the branch `d` to a snapshot
-abbrev pub toDraft : ℕ → Update
-toDraft id = SetRef (100 ∷ []) (branchTo id)
+-- a sort order by one field, ascending, nulls first, with an id
+abbrev pub orderOf : ℕ → ℕ → SortOrder
+orderOf field id = record { id = pos id; fields = record { source = pos field; direction = 0; nulls = 0 } ∷ [] }
+
+-- the order of no fields, with an id
+abbrev pub unordered : ℕ → SortOrder
+unordered id = record { id = pos id; fields = [] }
 
 -- ---- the examples
 
@@ -196,11 +233,11 @@ examples =
     ∷ (OfRun AtNextRow terms (empty 3 10 (pos 0) []) (AddSnapshot (snapRows 1 10 18446744073709551606) ∷ []) gives Refusal 11 0)
     ∷ (OfRun AtNextRow terms (empty 3 10 (pos 0) []) (AddSnapshot (snapRows 1 9 1) ∷ []) gives Refusal 9 0)
     -- P7: limits `0`, `+5`, empty, ` 5`, `18446744073709551616`: 1, 5, 100, 100, 100
-    ∷ (OfLimit (48 ∷ []) gives Limit 1)
-    ∷ (OfLimit (43 ∷ 53 ∷ []) gives Limit 5)
-    ∷ (OfLimit [] gives Limit 100)
-    ∷ (OfLimit (32 ∷ 53 ∷ []) gives Limit 100)
-    ∷ (OfLimit (49 ∷ 56 ∷ 52 ∷ 52 ∷ 54 ∷ 55 ∷ 52 ∷ 52 ∷ 48 ∷ 55 ∷ 51 ∷ 55 ∷ 48 ∷ 57 ∷ 53 ∷ 53 ∷ 49 ∷ 54 ∷ 49 ∷ 54 ∷ []) gives Limit 100)
+    ∷ (OfLimit (some (48 ∷ [])) gives Limit 1)
+    ∷ (OfLimit (some (43 ∷ 53 ∷ [])) gives Limit 5)
+    ∷ (OfLimit (some []) gives Limit 100)
+    ∷ (OfLimit (some (32 ∷ 53 ∷ [])) gives Limit 100)
+    ∷ (OfLimit (some (49 ∷ 56 ∷ 52 ∷ 52 ∷ 54 ∷ 55 ∷ 52 ∷ 52 ∷ 48 ∷ 55 ∷ 51 ∷ 55 ∷ 48 ∷ 57 ∷ 53 ∷ 53 ∷ 49 ∷ 54 ∷ 49 ∷ 54 ∷ [])) gives Limit 100)
     -- P8: three metadata entries, limit 2, one joins: two oldest expire
     ∷ (OfRun AtFiles fileTerms (empty 2 0 (pos 9000) (file 97 1 ∷ file 98 2 ∷ file 99 3 ∷ [])) []
     gives Files (file 97 1 ∷ file 98 2 ∷ []) (file 99 3 ∷ file 100 9000 ∷ []))
@@ -217,24 +254,161 @@ examples =
     -- P12: metadata last update -100000, empty log: time -60000 accepted, -60001 gives 8
     ∷ (OfRun AtUpdated terms (empty 2 0 (negsuc 99999) []) (AddSnapshot (snap 1 none 1 (negsuc 59999)) ∷ []) gives Updated (negsuc 59999))
     ∷ (OfRun AtUpdated terms (empty 2 0 (negsuc 99999) []) (AddSnapshot (snap 1 none 1 (negsuc 60000)) ∷ []) gives Refusal 8 0)
-    -- Easy wrong turns. A removal that was asked but not logged: the log stays, also before a missing snapshot
+    -- Easy wrong turns, by name.
+    -- removal asked: it is not logged, so the snapshot log stays, also before a missing snapshot
     ∷ (OfRun AtHistory terms gapped (RemoveSnapshots (pos 9 ∷ []) ∷ []) gives History (entry 2 50000 ∷ entry 1 100000 ∷ []))
     ∷ (OfRun AtLog terms gapped (RemoveSnapshots (pos 9 ∷ []) ∷ []) gives Log [])
-    -- nothing was rebuilt, so the log's end is not checked
+    -- log's end: nothing was rebuilt, so it is not checked
     ∷ (OfRun AtHistory terms astray [] gives History (entry 1 100000 ∷ entry 2 50000 ∷ []))
-    -- the id of the last added schema is logged as -1
+    -- -1: it is logged for the id of the last added schema
     ∷ (OfRun AtLog terms three (AddSchema (schemaOf 2 0) ∷ SetCurrentSchema (pos 1) ∷ []) gives Log (AddSchema (schemaOf 2 1) ∷ SetCurrentSchema (negsuc 0) ∷ []))
-    -- an equal ref does not raise the last update
+    -- equal ref: it does not raise the last update
     ∷ (OfRun AtUpdated terms three
     (AddSnapshot (snap 4 (some (pos 3)) 6 (pos 420000)) ∷ toDraft 4 ∷ AddSnapshot (snap 5 (some (pos 4)) 7 (pos 410000)) ∷ toDraft 4 ∷ [])
     gives Updated (pos 410000))
-    -- Sentences that no P shows. Logged as given, a removal with the held ids; refs to missing snapshots go unlogged
+    -- Clauses that no P shows, by name, in the order of document 01.
+    -- two currents: `main` names another snapshot than the current one
+    ∷ (OfRun AtHistory terms (twoHeld (some (pos 1)) (mainAt 2)) [] gives Refusal 1 0)
+    -- main alone: `main` is there, and no current snapshot. 1 comes before 2
+    ∷ (OfRun AtHistory terms (twoHeld none (mainAt 1)) (replicate 65 (RemoveSnapshots [])) gives Refusal 1 0)
+    -- sum: 64 updates pass; 33 branch commits count 66, which is asked before any of them
+    ∷ (OfRun AtLog terms three (replicate 64 (RemoveSnapshots [])) gives Log [])
+    ∷ (OfRun AtLog terms three (replicate 33 (SetBranchSnapshot draft (snap 3 none 3 (pos 400000)))) gives Refusal 2 0)
+    -- first refusal: it ends the run, and the place is its own
+    ∷ (OfRun AtLog terms three (adding 4 400000 ∷ adding 4 400000 ∷ toMain 9 ∷ []) gives Refusal 5 1)
+    -- not formed: a parent below 0 is 3, before the 5 of a held id
+    ∷ (OfRun AtLog terms three (AddSnapshot (snap 3 (some (negsuc 0)) 6 (pos 400000)) ∷ []) gives Refusal 3 0)
+    -- place of a close: the number of updates, not their sum
+    ∷ (OfRun AtHistory terms three (SetBranchSnapshot draft (snap 4 none 4 (pos 400000)) ∷ RemoveSnapshots (pos 3 ∷ []) ∷ []) gives Refusal 21 2)
+    -- exact: neither a difference nor a sum of times wraps around
+    ∷ (OfRun AtUpdated terms (empty 2 0 (pos 9223372036854775807) []) (AddSnapshot (snap 1 none 1 (negsuc 1)) ∷ []) gives Refusal 8 0)
+    ∷ (OfRun AtUpdated terms (empty 2 0 (pos 100000) []) (adding 1 9223372036854775807 ∷ []) gives Updated (pos 9223372036854775807))
+    -- as given: logged as given, a removal with the held ids; refs to missing snapshots go unlogged
     ∷ (OfRun AtLog terms three (AddSnapshot (snap 4 none 6 (pos 400000)) ∷ toDraft 4 ∷ RemoveSnapshots (pos 9 ∷ pos 4 ∷ []) ∷ [])
     gives Log (AddSnapshot (snap 4 none 6 (pos 400000)) ∷ toDraft 4 ∷ RemoveSnapshots (pos 4 ∷ []) ∷ []))
-    -- last update becomes the clock, even if that goes back
-    ∷ (OfRun AtUpdated terms (empty 2 0 (pos 900000) []) [] gives Updated (pos 500000))
-    -- `main` makes the clock the run's last update, against which 8 is checked
-    ∷ (OfRun AtUpdated earlyTerms unnamed (toMain 1 ∷ AddSnapshot (snap 2 none 2 (negsuc 149999)) ∷ []) gives Updated (negsuc 149999))
-    -- next row id grows by added rows alone, so a range may start at 50 though rows 100 to 149 are given out
+    -- equal fields: the uuid, the location once it is trimmed, and the version are those that are held
+    ∷ (OfRun AtLog terms three (AssignUuid (three .fields .uuid) ∷ SetLocation (116 ∷ 47 ∷ 47 ∷ []) ∷ UpgradeFormatVersion 2 ∷ []) gives Log [])
+    -- trimmed: slashes come off at the end alone
+    ∷ (OfRun AtLog terms three (SetLocation (47 ∷ 117 ∷ 47 ∷ 47 ∷ []) ∷ []) gives Log (SetLocation (47 ∷ 117 ∷ []) ∷ []))
+    -- version lowered: it is refused
+    ∷ (OfRun AtLog terms three (UpgradeFormatVersion 1 ∷ []) gives Refusal 4 0)
+    -- reaching 2: next row id stays
+    ∷ (OfRun AtNextRow terms (empty 1 10 (pos 0) []) (UpgradeFormatVersion 2 ∷ []) gives NextRow (record { 0 = 10 }))
+    -- reaching 3: next row id becomes 0, so that rows 0 to 3 are given out again
+    ∷ (OfRun AtSnapshots terms (ranged 2 4) (UpgradeFormatVersion 3 ∷ AddSnapshot (snapRows 2 0 4) ∷ []) gives Snapshots (snapRows 1 0 4 ∷ snapRows 2 0 4 ∷ []))
+    -- order of checks: each of these snapshots fails at the number that it gets and at all that come later in 5, 6, 7, 8, 10; the last at 9 and 11
+    ∷ (OfRun AtLog terms three (UpgradeFormatVersion 3 ∷ AddSnapshot (snap 3 (some (pos 2)) 5 (pos 0)) ∷ []) gives Refusal 5 1)
+    ∷ (OfRun AtLog terms three (UpgradeFormatVersion 3 ∷ AddSnapshot (snap 4 (some (pos 2)) 5 (pos 0)) ∷ []) gives Refusal 6 1)
+    ∷ (OfRun AtLog terms three (UpgradeFormatVersion 3 ∷ AddSnapshot (snap 4 none 5 (pos 0)) ∷ []) gives Refusal 7 1)
+    ∷ (OfRun AtLog terms (empty 3 0 (pos 100000) []) (adding 1 0 ∷ []) gives Refusal 8 0)
+    ∷ (OfRun AtLog terms (empty 3 0 (pos 100000) []) (adding 1 100000 ∷ []) gives Refusal 10 0)
+    ∷ (OfRun AtLog terms (empty 3 10 (pos 0) []) (AddSnapshot (snapRows 1 9 18446744073709551615) ∷ []) gives Refusal 9 0)
+    -- version 1: the sequence number is not checked
+    ∷ (OfRun AtSequence terms (register 1 5 0 (pos 0) [] none [] [] []) (AddSnapshot (snap 1 (some (pos 0)) 5 (pos 0)) ∷ []) gives Sequence (record { 0 = pos 5 }))
+    -- last entry: a time is held against the log's last entry, not its first
+    ∷ (OfRun AtUpdated terms three (adding 4 239999 ∷ []) gives Refusal 7 0)
+    -- last update: metadata's, also where the run's own is lower; and the run's own, where that is larger
+    ∷ (OfRun AtUpdated terms (empty 2 0 (pos 100000) []) (adding 1 39999 ∷ []) gives Refusal 8 0)
+    ∷ (OfRun AtUpdated terms (empty 2 0 (pos 100000) []) (adding 1 40000 ∷ adding 2 39999 ∷ []) gives Refusal 8 1)
+    ∷ (OfRun AtUpdated terms (empty 2 0 (pos 0) []) (adding 1 100000 ∷ adding 2 39999 ∷ []) gives Refusal 8 1)
+    -- gap: next row id grows by added rows alone, so a range may start at 50 though rows 100 to 149 are given out
     ∷ (OfRun AtNextRow terms (empty 3 0 (pos 0) []) (AddSnapshot (snapRows 1 100 50) ∷ AddSnapshot (snapRows 2 50 100) ∷ []) gives NextRow (record { 0 = 150 }))
+    -- held rows: next row id stands in no relation to the ranges that are held, so rows 0 to 3 are given out again
+    ∷ (OfRun AtSnapshots terms (ranged 3 0) (AddSnapshot (snapRows 2 0 4) ∷ []) gives Snapshots (snapRows 1 0 4 ∷ snapRows 2 0 4 ∷ []))
+    -- range's end: it is not bounded, only next row id is
+    ∷ (OfRun AtNextRow terms (empty 3 0 (pos 0) []) (AddSnapshot (snapRows 1 18446744073709551615 10) ∷ []) gives NextRow (record { 0 = 10 }))
+    -- rows below 3: neither 9 nor 11 is asked, and next row id stays
+    ∷ (OfRun AtNextRow terms (empty 2 10 (pos 0) []) (AddSnapshot (snapRows 1 9 18446744073709551615) ∷ []) gives NextRow (record { 0 = 10 }))
+    -- equal main: nothing at all
+    ∷ (OfRun AtLog terms three (toMain 3 ∷ []) gives Log [])
+    -- other retention: the ref is not equal, so `main` gets an entry
+    ∷ (OfRun AtHistory terms three (SetRef mainName (keepingTo 3) ∷ []) gives History (entry 1 100000 ∷ entry 2 200000 ∷ entry 3 300000 ∷ entry 3 500000 ∷ []))
+    -- ref not held: a ref to a snapshot that is not held is refused
+    ∷ (OfRun AtLog terms three (toMain 9 ∷ []) gives Refusal 12 0)
+    -- no addition: a ref to a snapshot that this run did not add leaves the last update
+    ∷ (OfRun AtUpdated terms three (adding 4 400000 ∷ toDraft 3 ∷ []) gives Updated (pos 400000))
+    -- ref's time: a ref to one that it did add makes its time the last update, also where another was added since
+    ∷ (OfRun AtUpdated terms three (adding 4 420000 ∷ adding 5 410000 ∷ toMain 4 ∷ []) gives Updated (pos 420000))
+    -- clock kept: `main` makes the clock the run's last update, against which 8 is checked
+    ∷ (OfRun AtUpdated (clockAt (negsuc 199999)) unnamed (toMain 1 ∷ AddSnapshot (snap 2 none 2 (negsuc 149999)) ∷ []) gives Updated (negsuc 149999))
+    -- clock not taken: the run has a last update already
+    ∷ (OfRun AtUpdated terms three (adding 4 400000 ∷ toMain 4 ∷ []) gives Updated (pos 400000))
+    -- far back: the clock is checked against nothing, so the history's times step back by any amount
+    ∷ (OfRun AtHistory (clockAt (pos 0)) three (toMain 1 ∷ []) gives History (entry 1 100000 ∷ entry 2 200000 ∷ entry 3 300000 ∷ entry 1 0 ∷ []))
+    -- commit: two log entries, and a new ref is a branch that keeps nothing
+    ∷ (OfRun AtLog terms three (SetBranchSnapshot draft (snap 4 none 4 (pos 400000)) ∷ []) gives Log (adding 4 400000 ∷ toDraft 4 ∷ []))
+    -- commit keeps: a ref that is there keeps its retention
+    ∷ (OfRun AtLog terms three (SetRef draft (keepingTo 3) ∷ SetBranchSnapshot draft (snap 4 none 4 (pos 400000)) ∷ [])
+    gives Log (SetRef draft (keepingTo 3) ∷ adding 4 400000 ∷ SetRef draft (keepingTo 4) ∷ []))
+    -- commit on a tag: 13, before the addition's 5
+    ∷ (OfRun AtLog terms three (SetRef draft (tagTo 3) ∷ SetBranchSnapshot draft (snap 3 none 3 (pos 400000)) ∷ []) gives Refusal 13 1)
+    -- table order: of the ids that a removal logs, whatever the order asked for
+    ∷ (OfRun AtLog terms three (RemoveSnapshots (pos 2 ∷ pos 1 ∷ []) ∷ []) gives Log (RemoveSnapshots (pos 1 ∷ pos 2 ∷ []) ∷ []))
+    -- absent refs: of the removals of `mai`, `mains` and `main` the last is logged
+    ∷ (OfRun AtLog terms (empty 2 0 (pos 0) []) (RemoveRef (109 ∷ 97 ∷ 105 ∷ []) ∷ RemoveRef (109 ∷ 97 ∷ 105 ∷ 110 ∷ 115 ∷ []) ∷ RemoveRef mainName ∷ []) gives Log (RemoveRef mainName ∷ []))
+    -- schema ids: highest + 1, whatever was offered; removed in table order
+    ∷ (OfRun AtLog terms three (AddSchema (schemaOf 2 7) ∷ AddSchema (schemaOf 3 7) ∷ RemoveSchemas (pos 1 ∷ []) ∷ AddSchema (schemaOf 4 7) ∷ RemoveSchemas (pos 3 ∷ pos 2 ∷ []) ∷ [])
+    gives Log (AddSchema (schemaOf 2 1) ∷ AddSchema (schemaOf 3 2) ∷ RemoveSchemas (pos 1 ∷ []) ∷ AddSchema (schemaOf 4 3) ∷ RemoveSchemas (pos 2 ∷ pos 3 ∷ []) ∷ []))
+    -- schema reused: logged as offered, not again while it is the last added, and -1 stands for it
+    ∷ (OfRun AtLog terms three (AddSchema (schemaOf 1 9) ∷ AddSchema (schemaOf 1 8) ∷ SetCurrentSchema (negsuc 0) ∷ []) gives Log (AddSchema (schemaOf 1 9) ∷ []))
+    -- last column: raised to a new schema's highest field id, and not lowered
+    ∷ (OfRun AtColumn terms three (AddSchema (schemaOf 9 0) ∷ AddSchema (schemaOf 4 0) ∷ []) gives Column (pos 9))
+    -- schema by id: one that is not the last added
+    ∷ (OfRun AtLog terms three (AddSchema (schemaOf 2 0) ∷ AddSchema (schemaOf 3 0) ∷ SetCurrentSchema (pos 1) ∷ [])
+    gives Log (AddSchema (schemaOf 2 1) ∷ AddSchema (schemaOf 3 2) ∷ SetCurrentSchema (pos 1) ∷ []))
+    -- nothing added: -1 stands for nothing
+    ∷ (OfRun AtLog terms three (SetCurrentSchema (negsuc 0) ∷ []) gives Refusal 14 0)
+    ∷ (OfRun AtLog terms three (SetDefaultSortOrder (negsuc 0) ∷ []) gives Refusal 14 0)
+    -- unknown id: also that of -1, where the last added is gone again
+    ∷ (OfRun AtLog terms three (SetDefaultSortOrder (pos 7) ∷ []) gives Refusal 15 0)
+    ∷ (OfRun AtLog terms three (AddSchema (schemaOf 2 0) ∷ RemoveSchemas (pos 1 ∷ []) ∷ SetCurrentSchema (negsuc 0) ∷ []) gives Refusal 15 2)
+    -- current schema: a removal list that names it is refused
+    ∷ (OfRun AtLog terms three (RemoveSchemas (pos 7 ∷ pos 0 ∷ []) ∷ []) gives Refusal 16 0)
+    -- order ids: a new order and a reused one are logged with their final ids; the reused one again, and the same default again, are not logged
+    ∷ (OfRun AtLog terms three (AddSortOrder (orderOf 1 7) ∷ SetDefaultSortOrder (pos 1) ∷ AddSortOrder (unordered 7) ∷ AddSortOrder (unordered 8) ∷ SetDefaultSortOrder (pos 1) ∷ [])
+    gives Log (AddSortOrder (orderOf 1 1) ∷ SetDefaultSortOrder (negsuc 0) ∷ AddSortOrder (unordered 0) ∷ []))
+    -- field not there: a new order names a field that the current schema has not
+    ∷ (OfRun AtLog terms three (AddSortOrder (orderOf 2 0) ∷ []) gives Refusal 17 0)
+    -- order unfit: the default order names such a field at the close; 20 comes before 21
+    ∷ (OfRun AtLog terms three (AddSortOrder (orderOf 1 0) ∷ SetDefaultSortOrder (negsuc 0) ∷ AddSchema (schemaOf 2 0) ∷ SetCurrentSchema (negsuc 0) ∷ RemoveSnapshots (pos 3 ∷ []) ∷ [])
+    gives Refusal 20 5)
+    -- clock back: last update becomes the clock, even if that goes back
+    ∷ (OfRun AtUpdated terms (empty 2 0 (pos 900000) []) [] gives Updated (pos 500000))
+    -- not added: 2 was current in the middle of the run, but the run did not add it, so its entry stays
+    ∷ (OfRun AtHistory terms three (toMain 2 ∷ toMain 3 ∷ []) gives History (entry 1 100000 ∷ entry 2 200000 ∷ entry 3 300000 ∷ entry 2 500000 ∷ entry 3 500000 ∷ []))
+    -- never main: the run added 2 and set another ref to it, so 2 is not intermediate and the log stays
+    ∷ (OfRun AtHistory terms gapped (adding 2 400000 ∷ toDraft 2 ∷ []) gives History (entry 2 50000 ∷ entry 1 100000 ∷ []))
+    -- removal too: intermediate entries go also where a removal is logged
+    ∷ (OfRun AtHistory terms three (RemoveSnapshots (pos 1 ∷ []) ∷ adding 4 400000 ∷ adding 5 410000 ∷ toMain 4 ∷ toMain 5 ∷ [])
+    gives History (entry 2 200000 ∷ entry 3 300000 ∷ entry 5 410000 ∷ []))
+    -- missing entry: with an intermediate snapshot and no removal the missing entry alone goes. At 250000 it was 2, and is now 1
+    ∷ (OfRun AtHistory terms holed (adding 4 400000 ∷ adding 5 410000 ∷ toMain 4 ∷ toMain 5 ∷ []) gives History (entry 1 100000 ∷ entry 3 300000 ∷ entry 5 410000 ∷ []))
+    -- added again: 2 is held at the close and intermediate, so its old entry goes too. At 250000 it was 2, and is now 1
+    ∷ (OfRun AtHistory terms three (RemoveSnapshots (pos 2 ∷ []) ∷ adding 2 400000 ∷ toMain 2 ∷ adding 5 410000 ∷ toMain 5 ∷ [])
+    gives History (entry 1 100000 ∷ entry 3 300000 ∷ entry 5 410000 ∷ []))
+    -- none current: the end of the history is not checked
+    ∷ (OfRun AtHistory terms three (RemoveSnapshots (pos 3 ∷ []) ∷ RemoveRef mainName ∷ []) gives History [])
+    -- no file: none joins the metadata log
+    ∷ (OfRun AtFiles terms (empty 2 0 (pos 9000) (file 97 1 ∷ [])) [] gives Files [] (file 97 1 ∷ []))
+    -- limits: no text, `++5`, `+`, `/`, `:`, 18446744073709551615: 100, 100, 100, 100, 100, 18446744073709551615
+    ∷ (OfLimit none gives Limit 100)
+    ∷ (OfLimit (some (43 ∷ 43 ∷ 53 ∷ [])) gives Limit 100)
+    ∷ (OfLimit (some (43 ∷ [])) gives Limit 100)
+    ∷ (OfLimit (some (47 ∷ [])) gives Limit 100)
+    ∷ (OfLimit (some (58 ∷ [])) gives Limit 100)
+    ∷ (OfLimit (some (49 ∷ 56 ∷ 52 ∷ 52 ∷ 54 ∷ 55 ∷ 52 ∷ 52 ∷ 48 ∷ 55 ∷ 51 ∷ 55 ∷ 48 ∷ 57 ∷ 53 ∷ 53 ∷ 49 ∷ 54 ∷ 49 ∷ 53 ∷ [])) gives Limit 18446744073709551615)
+    -- whole walk: a parent of -1 ends it
+    ∷ (OfWalk (pos 1 ∷ pos 2 ∷ pos 3 ∷ []) (negsuc 0 ∷ pos 1 ∷ pos 2 ∷ []) (pos 3) none gives Walked (Listed (pos 3 ∷ pos 2 ∷ pos 1 ∷ [])))
+    -- unheld parent: it ends the walk, and is not listed
+    ∷ (OfWalk (pos 2 ∷ pos 3 ∷ []) (pos 1 ∷ pos 2 ∷ []) (pos 3) none gives Walked (Listed (pos 3 ∷ pos 2 ∷ [])))
+    -- unknown start: nothing is listed
+    ∷ (OfWalk (pos 1 ∷ []) (negsuc 0 ∷ []) (pos 3) none gives Walked (Listed []))
+    -- met twice: the walk comes back to its start
+    ∷ (OfWalk (pos 1 ∷ pos 2 ∷ []) (pos 2 ∷ pos 1 ∷ []) (pos 1) none gives Walked Twice)
+    -- bad lists: unequal lengths, equal ids, an id below 0
+    ∷ (OfWalk (pos 1 ∷ []) [] (pos 1) none gives Walked Bad)
+    ∷ (OfWalk (pos 1 ∷ pos 1 ∷ []) (negsuc 0 ∷ negsuc 0 ∷ []) (pos 1) none gives Walked Bad)
+    ∷ (OfWalk (negsuc 0 ∷ []) (negsuc 0 ∷ []) (pos 1) none gives Walked Bad)
+    -- no parent: a record without one ends the walk, though snapshot 0 is held
+    ∷ (OfRecords (snap 0 none 0 (pos 0) ∷ snap 1 none 1 (pos 0) ∷ []) (pos 1) none gives Walked (Listed (pos 1 ∷ [])))
     ∷ []

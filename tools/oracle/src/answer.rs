@@ -95,13 +95,13 @@ fn walk_answer(terms: &WalkTerms, outcome: WalkOutcome) -> Answer {
     finished(line, Some(number), outcome.owns)
 }
 
-/// Answers every case of the input; at a bad one it says so and stops.
-pub fn answer_all(input: impl BufRead, mut output: impl Write) -> std::io::Result<()> {
+/// Answers every case of the input; at a bad one it says so and stops. Says whether all were answered.
+pub fn answer_all(input: impl BufRead, mut output: impl Write) -> std::io::Result<bool> {
     for case in CaseReader::new(input) {
         match case {
             Ok(case) => writeln!(output, "{}", answer(&case).line)?,
-            Err(_) => return writeln!(output, "bad case"),
+            Err(_) => return writeln!(output, "bad case").map(|()| false),
         }
     }
-    Ok(())
+    Ok(true)
 }

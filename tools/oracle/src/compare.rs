@@ -49,6 +49,9 @@ pub fn compare(
             }
         }
     }
+    if tally.cases == 0 {
+        return Err(io::Error::other("there is no case to compare"));
+    }
     let surplus = actual.count() as u64;
     if surplus > 0 {
         writeln!(report, "{surplus} lines more than cases")?;

@@ -6,6 +6,7 @@ mod case;
 mod catalog;
 mod chrono;
 mod compare;
+mod differences;
 mod error;
 mod generate;
 mod pick;
@@ -28,6 +29,7 @@ const USAGE: &str = "oracle answer < CASES > ANSWERS
 oracle generate --seed S --count N [--kind run|walk|limit|mixed]
 oracle compare CASES ACTUAL        (ACTUAL may be - for standard input)
 oracle pick --count K < CASES
+oracle differences [--cases]
 oracle bench [--kinds] [--program REPEAT]";
 
 /// The program `repeat`, where `rt check repeat` puts it.
@@ -56,29 +58,39 @@ fn command(arguments: &[&str]) -> Option<io::Result<bool>> {
     let out = BufWriter::new(stdout().lock());
     let done = |result: io::Result<()>| result.map(|()| true);
     Some(match arguments {
-        ["answer"] => done(answer::answer_all(stdin().lock(), out)),
+        ["answer"] => answer::answer_all(stdin().lock(), out),
         ["generate", options @ ..] => {
+            only(options, &["--seed", "--count", "--kind"])?;
             let seed = number(options, "--seed")?;
-            let count = number(options, "--count")?;
+            let count = number(options, "--count").filter(|count| *count > 0)?;
             done(generate::generate(seed, count, kind(options)?, out))
         }
         ["compare", cases, actual] => {
             file(cases).and_then(|cases| compare::compare(cases, file_or_stdin(actual)?, out))
         }
         ["pick", options @ ..] => {
-            let count = number(options, "--count")?;
+            only(options, &["--count"])?;
+            let count = number(options, "--count").filter(|count| *count > 0)?;
             done(pick::pick(count as usize, stdin().lock(), out))
         }
-        ["bench", options @ ..] => {
-            let repeat = Path::new(value(options, "--program").unwrap_or(REPEAT));
-            if options.contains(&"--kinds") {
-                done(bench::bench_kinds(repeat, out))
-            } else {
-                done(bench::bench(repeat, out))
-            }
-        }
+        ["differences"] => done(differences::differences(out)),
+        ["differences", "--cases"] => done(differences::cases(out)),
+        ["bench", "--kinds", options @ ..] => done(bench::bench_kinds(repeat(options)?, out)),
+        ["bench", options @ ..] => done(bench::bench(repeat(options)?, out)),
         _ => return None,
     })
+}
+
+/// Nothing unless the options are these, each with a value.
+fn only(options: &[&str], names: &[&str]) -> Option<()> {
+    let known = |option: &[&str]| option.len() == 2 && names.contains(&option[0]);
+    options.chunks(2).all(known).then_some(())
+}
+
+/// Where the program `repeat` is.
+fn repeat<'a>(options: &[&'a str]) -> Option<&'a Path> {
+    only(options, &["--program"])?;
+    Some(Path::new(value(options, "--program").unwrap_or(REPEAT)))
 }
 
 fn value<'a>(options: &[&'a str], name: &str) -> Option<&'a str> {

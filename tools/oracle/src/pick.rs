@@ -32,8 +32,12 @@ struct Candidate {
 
 /// Reads all cases and writes up to `count` of them, in their order.
 pub fn pick(count: usize, input: impl BufRead, mut output: impl Write) -> io::Result<()> {
-    let readable = CaseReader::new(input).map_while(Result::ok);
-    let candidates: Vec<Candidate> = readable.map(candidate).collect();
+    let cases: Result<Vec<Case>, _> = CaseReader::new(input).collect();
+    let cases = cases.map_err(|_| io::Error::other("bad case"))?;
+    if cases.is_empty() {
+        return Err(io::Error::other("there is no case to pick"));
+    }
+    let candidates: Vec<Candidate> = cases.into_iter().map(candidate).collect();
     let mut covered: BTreeSet<&Shown> = BTreeSet::new();
     for place in chosen(&candidates, count) {
         writeln!(output, "{}", candidates[place].line)?;

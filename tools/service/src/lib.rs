@@ -25,6 +25,12 @@ pub fn limit(text: &[u8]) -> u64 {
     unsafe { linked::register_limit(text.as_ptr(), text.len()) }
 }
 
+/// The limit where the property is not set.
+pub fn limit_of_no_text() -> u64 {
+    // SAFETY: of a length of 0 nothing is read, so there need be no bytes.
+    unsafe { linked::register_limit(std::ptr::null(), 0) }
+}
+
 /// Whether `time` is over a minute before `last`, both in milliseconds.
 pub fn too_early(time: i64, last: i64) -> bool {
     // SAFETY: any two numbers may be passed.

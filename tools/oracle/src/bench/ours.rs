@@ -22,12 +22,21 @@ pub struct Ours {
 
 impl Ours {
     pub fn of(program: &Path) -> io::Result<Self> {
-        let program = program.canonicalize().map_err(|error| {
+        let said = |help: &'static str| {
             let program = program.display();
-            let help = "`rt check repeat` makes it";
-            io::Error::new(error.kind(), format!("{program}: {error}; {help}"))
-        })?;
-        Ok(Self { program })
+            move |error: io::Error| {
+                io::Error::new(error.kind(), format!("{program}: {error}; {help}"))
+            }
+        };
+        let found = program
+            .canonicalize()
+            .map_err(said("`rt check repeat` makes it"))?;
+        let mut trial = Command::new(&found);
+        trial.stdin(Stdio::null()).stdout(Stdio::null());
+        trial
+            .status()
+            .map_err(said("it can not be started; it is a program for x86-64"))?;
+        Ok(Self { program: found })
     }
 }
 

@@ -13,7 +13,7 @@ use crate::spec::table_metadata_builder::TableMetadataBuilder;
 const LIMIT_SHOWN: usize = 1000;
 
 /// Well-formed metadata of version 3 that holds one schema and one order, neither with fields, and nothing else.
-fn bare() -> Metadata {
+pub fn bare() -> Metadata {
     Metadata {
         version: 3,
         uuid: [0; 16],

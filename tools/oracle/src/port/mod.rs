@@ -11,7 +11,7 @@ mod texts;
 mod walk;
 
 pub use formed::list_sum;
-pub use leaves::{limit, row_ids, time_window, trim};
+pub use leaves::{bare, limit, row_ids, time_window, trim};
 pub use own::{Own, Owns};
 pub use run::{Outcome, begin, close, run, step};
-pub use walk::{WalkOutcome, table, walk, walk_records};
+pub use walk::{WalkOutcome, published_walk, table, walk, walk_records};

@@ -74,14 +74,21 @@ pub fn table(ids: &[i64], parents: &[i64]) -> TableMetadataRef {
     })
 }
 
-/// The published walk's ids, or nothing if one comes twice.
-fn ids_until_repeat(table: &TableMetadataRef, terms: &WalkTerms) -> Option<Vec<i64>> {
-    let steps: Box<dyn Iterator<Item = SnapshotRef>> = match terms.excluded.get() {
+/// The published walk.
+pub fn published_walk<'a>(
+    table: &'a TableMetadataRef,
+    terms: &WalkTerms,
+) -> Box<dyn Iterator<Item = SnapshotRef> + 'a> {
+    match terms.excluded.get() {
         None => Box::new(ancestors_of(table, terms.start)),
         excluded => Box::new(ancestors_between(table, terms.start, excluded)),
-    };
+    }
+}
+
+/// The published walk's ids, or nothing if one comes twice.
+fn ids_until_repeat(table: &TableMetadataRef, terms: &WalkTerms) -> Option<Vec<i64>> {
     let mut ids = Vec::new();
-    for snapshot in steps {
+    for snapshot in published_walk(table, terms) {
         if ids.contains(&snapshot.snapshot_id) {
             return None;
         }

@@ -57,16 +57,21 @@ pub fn quiet_attempts() {
 
 /// Calls the published code and numbers its refusal.
 pub fn attempt<T>(call: impl FnOnce() -> Result<T>) -> std::result::Result<T, Refusal> {
+    in_words(call).map_err(|text| refusal(&text))
+}
+
+/// Calls the published code; where it gives nothing back, what it says.
+pub fn in_words<T>(call: impl FnOnce() -> Result<T>) -> std::result::Result<T, String> {
     ATTEMPTING.set(true);
     let outcome = panic::catch_unwind(AssertUnwindSafe(call));
     ATTEMPTING.set(false);
     match outcome {
         Ok(Ok(value)) => Ok(value),
-        Ok(Err(error)) => Err(refusal(&error.to_string())),
-        Err(stopped) => Err(refusal(match stopped.downcast_ref::<&str>() {
-            Some(text) => text,
+        Ok(Err(error)) => Err(error.to_string()),
+        Err(stopped) => Err(match stopped.downcast_ref::<&str>() {
+            Some(text) => (*text).to_owned(),
             None => panic::resume_unwind(stopped),
-        })),
+        }),
     }
 }
 

@@ -1,7 +1,8 @@
 //! Compares the linked functions with a plain reading of the rules, on boundary and random input.
-//! `compare [SEED]`; the status is 1 where a difference was found.
+//! `compare [SEED]`; the status is 1 where a difference was found, 2 where SEED is no number from 1 to 2^64 - 1: random numbers from 0 would
+//! all be 0.
 
-use register::{limit, row_check, too_early, RowCheck};
+use register::{limit, limit_of_no_text, row_check, too_early, RowCheck};
 
 /// Document 01: "optional `+`, at least one digit, nothing else, at most 2^64 - 1; otherwise 100; never below 1".
 fn limit_rule(text: &[u8]) -> u64 {
@@ -158,6 +159,7 @@ fn limits(random: &mut Random, tally: &mut Tally) {
     for _ in 0..1_200_000 {
         one(&random.text());
     }
+    tally.same(&"no text", limit_of_no_text(), limit_rule(b""));
     println!(
         "{} limit texts, {} with another limit than 100",
         tally.compared, numbers
@@ -240,9 +242,12 @@ fn rows(random: &mut Random, tally: &mut Tally) {
 }
 
 fn main() {
-    let seed = std::env::args()
-        .nth(1)
-        .map_or(20_240_607, |s| s.parse().expect("SEED is a number above 0"));
+    let given = std::env::args().nth(1);
+    let seed = given.as_deref().map_or(Ok(20_240_607), str::parse);
+    let Ok(seed @ 1..) = seed else {
+        eprintln!("compare: SEED is a number from 1 to 2^64 - 1");
+        std::process::exit(2);
+    };
     let mut random = Random(seed);
     let mut all = Tally::default();
     for part in [limits, windows, rows] {

@@ -1,0 +1,88 @@
+//! Shows the rows of docs/DIFFERENCES.md: for each input what the published code says by itself, without the wrapper, and what
+//! document 01 says.
+
+mod rows;
+
+use std::collections::BTreeSet;
+use std::io::{self, Write};
+
+use crate::answer::answer;
+use crate::case::{Case, Line, Run, WalkTerms};
+use crate::chrono;
+use crate::port;
+use crate::published::apply::{apply, call};
+use crate::published::number::in_words;
+use crate::published::to_published as to;
+use crate::spec::table_metadata_builder::TableMetadataBuilder;
+
+/// The map's order is another each time; so often both picks of two have come up.
+const TRIES: usize = 64;
+
+/// A walk that lists more ids than there are snapshots goes round.
+const ENDLESS: usize = 1000;
+
+pub fn differences(mut output: impl Write) -> io::Result<()> {
+    for (title, case) in rows::all() {
+        let published: BTreeSet<String> = (0..TRIES).map(|_| alone(&case)).collect();
+        let published: Vec<String> = published.into_iter().collect();
+        writeln!(output, "{title}")?;
+        writeln!(output, "  published: {}", published.join("; or: "))?;
+        writeln!(output, "  here:      {}", here(&case))?;
+    }
+    Ok(())
+}
+
+/// The same inputs in the case format, for the program `cases`.
+pub fn cases(mut output: impl Write) -> io::Result<()> {
+    for (_, case) in rows::all() {
+        writeln!(output, "{}", Line::of_case(&case))?;
+    }
+    Ok(())
+}
+
+/// The number, and behind a refused run's its place.
+fn here(case: &Case) -> String {
+    let answer = answer(case);
+    match (answer.number, answer.line.split(' ').nth(1)) {
+        (Some(0), _) | (None, _) => "accepted".to_owned(),
+        (Some(number), Some(place)) => format!("{number} at {place}"),
+        (Some(number), None) => number.to_string(),
+    }
+}
+
+fn alone(case: &Case) -> String {
+    match case {
+        Case::Run(run) => run_alone(run),
+        Case::Walk {
+            ids,
+            parents,
+            terms,
+        } => walk_alone(ids, parents, terms),
+        _ => unreachable!("the rows are runs and walks"),
+    }
+}
+
+fn run_alone(run: &Run) -> String {
+    chrono::set_clock(run.clock);
+    let previous = to::metadata(&run.metadata, run.limit.as_deref());
+    let file = run.file.as_deref().map(to::text);
+    let mut builder = TableMetadataBuilder::new_from_metadata(previous, file);
+    for (place, update) in run.updates.iter().enumerate() {
+        builder = match in_words(|| apply(builder, call(update))) {
+            Ok(builder) => builder,
+            Err(words) => return format!("update {place}: {words}"),
+        };
+    }
+    match in_words(|| builder.build()) {
+        Ok(_) => "accepted".to_owned(),
+        Err(words) => format!("close: {words}"),
+    }
+}
+
+fn walk_alone(ids: &[i64], parents: &[i64], terms: &WalkTerms) -> String {
+    let table = port::table(ids, parents);
+    match port::published_walk(&table, terms).take(ENDLESS).count() {
+        ENDLESS => format!("{ENDLESS} ids and no end"),
+        count => format!("lists {count}"),
+    }
+}
