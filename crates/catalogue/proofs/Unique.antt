@@ -1,8 +1,7 @@
--- The contracts leave no freedom: any two outcomes that a contract allows for the same arguments have equal answers and equal buffers.
+-- The contracts leave no freedom and ask nothing: any two outcomes that a contract allows for the same arguments have equal answers and equal buffers, and any arguments are allowed.
 use mathlib.Core.Path.{_≡_, sym, _∙_}
 use mathlib.Core.List.{map}
-use base.Logic.{SProp, ent, sep, via, fst∗, snd∗}
-use borrow.Fn.Kinds.{Dens, resT, endedOf}
+use base.Logic.{SProp, ent, sep, emp, id⊢, via, fst∗, snd∗}
 use contract.Lifetimes.{Lfts}
 use contract.Monad.{Fun, fact, factI, fact-use}
 use denote.Ref.{now}
@@ -15,11 +14,11 @@ use prog.Memory.{Memory}
 use prog.Routine.{Routine}
 use prog.Wp.{Heap}
 use Rattle.rules.specs.Layout.{given, readSnapshot}
+use Rattle.rules.specs.Promises.{OfTwo, AsksNothing}
 use Rattle.rules.specs.Walk.{Walk, recordAncestors, walkBuffer}
 use Rattle.walk.specs.Answers.{walked}
 use Rattle.catalogue.proofs.record_ancestors as entry
-use Rattle.catalogue.proofs.table_ancestors.Kinds.{ps, r}
-use Rattle.catalogue.proofs.table_ancestors.Reads.{Post}
+use Rattle.catalogue.proofs.table_ancestors as table
 
 -- ---- the entry over a lent slice: its contract is an assertion, which a caller holds once the call has returned
 
@@ -49,7 +48,13 @@ module _ {M : Type 1} (𝓤 : URA M) (H : Heap 𝓤) (A : Atoms 𝓤) (mem : Mem
       said both x s (fst∗ 𝓤 (Ensures x s) (Ensures y t)) (λ e f. said both y t (snd∗ 𝓤 (Ensures x s) (Ensures y t)) (λ e′ f′.
       factI 𝓤 ((x ≡ y) × (now (s .1 .1 .1 .1 .0) ≡ now (t .1 .1 .1 .1 .0))) both (e ∙ sym e′, f ∙ sym f′)))
 
+pub record-asks-nothing : AsksNothing entry.signature (λ M. entry.spec)
+record-asks-nothing M 𝓤 H A mem run κs a = (tt, id⊢ 𝓤 (emp 𝓤))
+
 -- ---- the entry over a table
 
-pub table-unique : (κs : Lfts 1) (a : Dens κs ps) (x y : resT r κs .Denot) (s t : AtExit (endedOf 1 ps r) κs) → Post κs a x s → Post κs a y t → (x ≡ y) × (now (s .1 .1 .1 .1 .0) ≡ now (t .1 .1 .1 .1 .0))
+pub table-unique : OfTwo table.Kinds.ps table.Kinds.r table.Reads.Post (λ κs x y s t. (x ≡ y) × (now (s .1 .1 .1 .1 .0) ≡ now (t .1 .1 .1 .1 .0)))
 table-unique κs a x y s t p q = (p .0 ∙ sym (q .0), p .1 ∙ sym (q .1))
+
+pub table-asks-nothing : AsksNothing table.signature (λ M. table.spec)
+table-asks-nothing M 𝓤 H A mem run κs a = (tt, id⊢ 𝓤 (emp 𝓤))

@@ -3,3 +3,4 @@ mod Abreast
 pub mod Told
 pub mod Places
 pub mod Exactly
+pub mod Unique

@@ -1,52 +1,55 @@
--- The contracts leave no freedom: any two results that one of them allows for the same arguments are equal.
-use Prim.Native.Nat.{ℕ}
+-- The contracts leave no freedom and ask nothing: any two results that one of them allows for the same arguments are equal, and any arguments are allowed.
 use mathlib.Core.Path.{_≡_, sym, _∙_}
-use mathlib.Core.List.{List}
-use borrow.Fn.Kinds.{PK, RK, Dens, Out, resT, endedOf}
-use contract.Lifetimes.{Lfts}
+use base.Logic.{emp, id⊢}
 use denote.Ref.{ptr, now}
-use denote.Triple.Clauses.{AtExit}
-use Rattle.leaves.proofs.limit.limit.Kinds as limit
-use Rattle.leaves.proofs.limit.limit.Reads as limit-says
-use Rattle.leaves.proofs.location.trim.Kinds as trim
-use Rattle.leaves.proofs.location.trim.Reads as trim-says
-use Rattle.leaves.proofs.names.is_main.Kinds as is-main
-use Rattle.leaves.proofs.names.is_main.Reads as is-main-says
-use Rattle.leaves.proofs.names.name_below.Kinds as name-below
-use Rattle.leaves.proofs.names.name_below.Reads as name-below-says
-use Rattle.leaves.proofs.names.same_bytes.Kinds as same-bytes
-use Rattle.leaves.proofs.names.same_bytes.Reads as same-bytes-says
-use Rattle.leaves.proofs.row_ids.check_rows.Kinds as check-rows
-use Rattle.leaves.proofs.row_ids.check_rows.Reads as check-rows-says
-use Rattle.leaves.proofs.window.is_before.Kinds as is-before
-use Rattle.leaves.proofs.window.is_before.Reads as is-before-says
+use Rattle.rules.specs.Promises.{OfTwo, Unique, AsksNothing}
+use Rattle.leaves.proofs.limit.limit as limit
+use Rattle.leaves.proofs.location.trim as trim
+use Rattle.leaves.proofs.names.is_main as is-main
+use Rattle.leaves.proofs.names.name_below as name-below
+use Rattle.leaves.proofs.names.same_bytes as same-bytes
+use Rattle.leaves.proofs.row_ids.check_rows as check-rows
+use Rattle.leaves.proofs.window.is_before as is-before
 
-module _ {n : ℕ} (ps : List (PK n)) (r : RK n) (says : Out n ps r) where
-  -- what holds of any two results that the contract allows for the same arguments
-  abbrev pub OfTwo : ((κs : Lfts n) → resT r κs .Denot → resT r κs .Denot → Type 0) → Type 0
-  OfTwo P = (κs : Lfts n) (a : Dens κs ps) (x y : resT r κs .Denot) (s t : AtExit (endedOf n ps r) κs) → says κs a x s → says κs a y t → P κs x y
-
-  abbrev pub Unique : Type 0
-  Unique = OfTwo (λ κs x y. x ≡ y)
-
-pub limit-unique : Unique limit.ps limit.r limit-says.Post
+pub limit-unique : Unique limit.Kinds.ps limit.Kinds.r limit.Reads.Post
 limit-unique κs a x y s t p q = p ∙ sym q
 
-pub is-before-unique : Unique is-before.ps is-before.r is-before-says.Post
+pub limit-asks-nothing : AsksNothing limit.signature (λ M. limit.spec)
+limit-asks-nothing M 𝓤 H A mem run κs a = (tt, id⊢ 𝓤 (emp 𝓤))
+
+pub is-before-unique : Unique is-before.Kinds.ps is-before.Kinds.r is-before.Reads.Post
 is-before-unique κs a x y s t p q = p ∙ sym q
 
-pub check-rows-unique : Unique check-rows.ps check-rows.r check-rows-says.Post
+pub is-before-asks-nothing : AsksNothing is-before.signature (λ M. is-before.spec)
+is-before-asks-nothing M 𝓤 H A mem run κs a = (tt, id⊢ 𝓤 (emp 𝓤))
+
+pub check-rows-unique : Unique check-rows.Kinds.ps check-rows.Kinds.r check-rows.Reads.Post
 check-rows-unique κs a x y s t p q = p ∙ sym q
 
+pub check-rows-asks-nothing : AsksNothing check-rows.signature (λ M. check-rows.spec)
+check-rows-asks-nothing M 𝓤 H A mem run κs a = (tt, id⊢ 𝓤 (emp 𝓤))
+
 -- the part of the caller's bytes: where it starts, and what it holds
-pub trim-unique : OfTwo trim.ps trim.r trim-says.Post (λ κs x y. (ptr x ≡ ptr y) × (now x ≡ now y))
+pub trim-unique : OfTwo trim.Kinds.ps trim.Kinds.r trim.Reads.Post (λ κs x y s t. (ptr x ≡ ptr y) × (now x ≡ now y))
 trim-unique κs a x y s t p q = (p .1 ∙ sym (q .1), p .0 ∙ sym (q .0))
 
-pub same-bytes-unique : Unique same-bytes.ps same-bytes.r same-bytes-says.Post
+pub trim-asks-nothing : AsksNothing trim.signature (λ M. trim.spec)
+trim-asks-nothing M 𝓤 H A mem run κs a = (tt, id⊢ 𝓤 (emp 𝓤))
+
+pub same-bytes-unique : Unique same-bytes.Kinds.ps same-bytes.Kinds.r same-bytes.Reads.Post
 same-bytes-unique κs a x y s t p q = p ∙ sym q
 
-pub name-below-unique : Unique name-below.ps name-below.r name-below-says.Post
+pub same-bytes-asks-nothing : AsksNothing same-bytes.signature (λ M. same-bytes.spec)
+same-bytes-asks-nothing M 𝓤 H A mem run κs a = (tt, id⊢ 𝓤 (emp 𝓤))
+
+pub name-below-unique : Unique name-below.Kinds.ps name-below.Kinds.r name-below.Reads.Post
 name-below-unique κs a x y s t p q = p ∙ sym q
 
-pub is-main-unique : Unique is-main.ps is-main.r is-main-says.Post
+pub name-below-asks-nothing : AsksNothing name-below.signature (λ M. name-below.spec)
+name-below-asks-nothing M 𝓤 H A mem run κs a = (tt, id⊢ 𝓤 (emp 𝓤))
+
+pub is-main-unique : Unique is-main.Kinds.ps is-main.Kinds.r is-main.Reads.Post
 is-main-unique κs a x y s t p q = p ∙ sym q
+
+pub is-main-asks-nothing : AsksNothing is-main.signature (λ M. is-main.spec)
+is-main-asks-nothing M 𝓤 H A mem run κs a = (tt, id⊢ 𝓤 (emp 𝓤))

@@ -1,31 +1,29 @@
--- What the answer of a run is like: its number is 0 exactly where the rules accept, and then it is fit to start the next run; otherwise nothing has changed.
-use Prim.Native.Nat.{ℕ, suc, _≤_}
+-- What the answer of a run is like: its number is 0 exactly where the rules accept, and then it is fit to start the next run; otherwise nothing has changed. Each number has its place.
+use Prim.Native.Nat.{ℕ, _≤_}
 use native.Mathlib.Omega.{arith}
-use mathlib.Core.Path.{_≡_, refl, ap}
+use mathlib.Core.Path.{_≡_, refl, ap, _∙_}
 use mathlib.Core.Bool.{Bool, true, false, cond}
-use mathlib.Core.List.{List, [], _∷_}
-use lib.Dec.{eqb, leb}
-use borrow.Author.Tests.{eqb-false}
-use Rattle.records.specs.Blanks.{noMetadataLog, noUpdates}
+use mathlib.Core.List.{List}
+use lib.ListN.{length, length-map}
+use Rattle.records.specs.Blanks.{noMetadataLog, noUpdate, noUpdates}
 use Rattle.records.specs.declared.metadata.TableMetadata.{TableMetadata}
 use Rattle.records.specs.declared.update.UpdateList.{UpdateList}
 use Rattle.records.specs.declared.run.RunTerms.{RunTerms}
 use Rattle.records.specs.declared.run.Answer.{Answer}
-use Rattle.rules.specs.Words.{all, firstOf}
-use Rattle.rules.specs.Replies.{accepted, startNotFormed, listTooLong}
+use Rattle.rules.specs.Words.{all}
+use Rattle.rules.specs.Replies.{accepted, startNotFormed}
 use Rattle.rules.specs.Capacities.{listRoom}
-use Rattle.rules.specs.Register.{FileEntry, Metadata, Update, Terms, State, Outcome}
+use Rattle.rules.specs.Register.{FileEntry, Metadata, Update, Terms, Outcome}
 use Rattle.rules.specs.Register.Outcome.{Refused, Accepted}
 use Rattle.rules.specs.WellFormed.{metadataFormed, updateFormed}
-use Rattle.rules.specs.Updates.{updateNumber, effect}
-use Rattle.rules.specs.Close.{closeChecks}
-use Rattle.rules.specs.Run.{listSum, Ran, runFrom, started, close, closeRan, startFormed, run}
-use Rattle.rules.specs.Run.Ran.{Stopped, Reached}
+use Rattle.rules.specs.Run.{listSum, run}
 use Rattle.rules.specs.Blanks.{isTidyMetadata}
-use Rattle.rules.specs.Layout.{readMetadata, laidMetadata, readMetadataLog}
-use Rattle.rules.specs.Kinds.{readUpdates, laidUpdates}
+use Rattle.rules.specs.Layout.{counted, readMetadata, laidMetadata, readMetadataLog}
+use Rattle.rules.specs.Kinds.{readUpdate, readUpdates, laidUpdates}
 use Rattle.rules.specs.Answer.{readTerms, laidOutcome, answer}
 use Rattle.rules.proofs.Checks.{by-test}
+use Rattle.rules.proofs.Relaid.{length-counted}
+use Rattle.rules.proofs.Places.{Reply, Replies, reply-at-start, run-replies}
 use Rattle.rules.proofs.SoundRun.{accepted-formed}
 use Rattle.rules.proofs.Replay.{log-fits}
 use Rattle.rules.proofs.Laid.{tidy-metadata}
@@ -33,37 +31,16 @@ use Rattle.rules.proofs.Reread.{reread-metadata, reread-metadata-log, r
 
 -- ---- no refusal has the number 0
 
--- where the updates stop, it is with a number
-abbrev StopsNumbered : Ran → Type 0
-StopsNumbered (Stopped number at) = number ≡ accepted → ⊥
-StopsNumbered (Reached st) = Unit {0}
-
 abbrev pub RefusesNumbered : Outcome → Type 0
 RefusesNumbered (Refused number place) = number ≡ accepted → ⊥
 RefusesNumbered (Accepted m log expired) = Unit {0}
 
-updates-numbered : (terms : Terms) (us : List Update) (place : ℕ) (st : State) → StopsNumbered (runFrom terms us place st)
-unfolding runFrom
-updates-numbered terms [] place st = tt
-updates-numbered terms (u ∷ us) place st =
-    let n : ℕ = updateNumber u st in
-    by-test StopsNumbered (eqb n accepted) (λ e. updates-numbered terms us (suc place) (effect terms u st)) (eqb-false n accepted)
-
-close-numbered : (terms : Terms) (us : List Update) (r : Ran) → StopsNumbered r → RefusesNumbered (closeRan terms us r)
-unfolding close
-close-numbered terms us (Stopped number at) h = h
-close-numbered terms us (Reached st) h =
-    let n : ℕ = firstOf (closeChecks terms (st .log) (st .metadata)) in
-    by-test RefusesNumbered (eqb n accepted) (λ e. tt) (eqb-false n accepted)
-
 pub run-numbered : (terms : Terms) (m : Metadata) (us : List Update) → RefusesNumbered (run terms m us)
-unfolding run
-run-numbered terms m us =
-    by-test RefusesNumbered (startFormed terms m)
-    (λ e. by-test RefusesNumbered (leb (listSum us) listRoom)
-    (λ f. close-numbered terms us (runFrom terms us 0 (started m)) (updates-numbered terms us 0 (started m)))
-    (λ f. λ (z : listTooLong ≡ accepted). omega arith))
-    (λ e. λ (z : startNotFormed ≡ accepted). omega arith)
+run-numbered terms m us = numbered (run terms m us) (run-replies terms m us)
+  where
+    numbered : (o : Outcome) → Replies (length us) o → RefusesNumbered o
+    numbered (Refused number place) h = λ z. omega arith
+    numbered (Accepted m′ log expired) h = tt
 
 -- ---- what an answer's number says
 
@@ -170,3 +147,23 @@ refused-unchanged m (Accepted m′ log expired) h = absurd (h refl)
 pub answer-refused : (m : TableMetadata) (us : UpdateList) (terms : RunTerms) (limit : List ℕ) → (answer m us terms limit .number ≡ 0 → ⊥) → Unchanged m (answer m us terms limit)
 unfolding answer
 answer-refused m us terms limit h = refused-unchanged m (cond (isTidyMetadata m) (run (readTerms terms limit) (readMetadata m) (readUpdates us)) (Refused startNotFormed 0)) h
+
+-- ---- number and place
+
+-- as many updates are read as the count says
+read-count : (us : UpdateList) → length (readUpdates us) ≡ us .count
+unfolding readUpdates
+read-count us = length-map (counted noUpdate (us .items) (us .count)) readUpdate ∙ length-counted noUpdate (us .items) (us .count)
+
+laid-reply : (m : TableMetadata) (count : ℕ) (o : Outcome) → Replies count o → Reply count (laidOutcome m o .number) (laidOutcome m o .place)
+unfolding laidOutcome
+laid-reply m count (Refused number place) h = h .1
+laid-reply m count (Accepted m′ log expired) h = reply-at-start count accepted (omega arith)
+
+pub answer-reply : (m : TableMetadata) (us : UpdateList) (terms : RunTerms) (limit : List ℕ) → Reply (us .count) (answer m us terms limit .number) (answer m us terms limit .place)
+unfolding answer
+answer-reply m us terms limit =
+    laid-reply m (us .count) (cond (isTidyMetadata m) (run (readTerms terms limit) (readMetadata m) (readUpdates us)) (Refused startNotFormed 0))
+    (by-test (Replies (us .count)) (isTidyMetadata m)
+    (λ t. rw (read-count us) at (run-replies (readTerms terms limit) (readMetadata m) (readUpdates us)))
+    (λ f. (omega arith, reply-at-start (us .count) startNotFormed (omega arith))))

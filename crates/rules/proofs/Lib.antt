@@ -28,6 +28,7 @@ pub mod Replay
 pub mod Suffices
 pub mod Laid
 pub mod Reread
+pub mod Places
 pub mod AnswerLaws
 pub mod AnswerReplays
 pub mod AnswerInstances

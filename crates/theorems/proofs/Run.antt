@@ -2,6 +2,7 @@
 use mathlib.Core.Path.{_≡_, sym, ap, subst, _∙_}
 use mathlib.Core.List.{List}
 use Prim.Native.Nat.{ℕ}
+use base.Logic.{emp, id⊢}
 use borrow.Fn.Kinds.{Dens, endedOf}
 use contract.Lifetimes.{Lfts}
 use denote.Ref.{now}
@@ -13,8 +14,11 @@ use Rattle.records.specs.declared.run.Answer.{Answer}
 use Rattle.rules.specs.Replay.{strip}
 use Rattle.rules.specs.Kinds.{readUpdates, laidUpdates}
 use Rattle.rules.specs.Answer.{answer}
-use Rattle.rules.proofs.AnswerLaws.{Formed, Fits, Unchanged, answer-formed, answer-log-fits, answer-refused}
+use Rattle.rules.specs.Promises.{AsksNothing}
+use Rattle.rules.proofs.Places.{Reply}
+use Rattle.rules.proofs.AnswerLaws.{Formed, Fits, Unchanged, answer-formed, answer-log-fits, answer-refused, answer-reply}
 use Rattle.rules.proofs.AnswerReplays.{Replays, answer-replays}
+use Rattle.register.proofs.run.{signature, spec}
 use Rattle.register.proofs.run.Kinds.{ps, r}
 use Rattle.register.proofs.run.Reads.{Post}
 
@@ -54,9 +58,17 @@ pub record Alike (c d : Call) : Type 0 where
 alike : {m m′ : TableMetadata} {us us′ : UpdateList} {t t′ : RunTerms} {l l′ : List ℕ} → m′ ≡ m → us′ ≡ us → t′ ≡ t → l′ ≡ l → answer m′ us′ t′ l′ ≡ answer m us t l
 alike p q r s = rw (p, q, r, s)
 
+-- `run` asks nothing: any arguments are allowed
+pub run-asks-nothing : AsksNothing signature (λ M. spec)
+run-asks-nothing M 𝓤 H A mem run κs a = (tt, id⊢ 𝓤 (emp 𝓤))
+
 -- any two answers that the contract allows for equal arguments are equal
 pub run-unique : (c d : Call) → Alike c d → updates d ≡ updates c → d .answered ≡ c .answered
 run-unique c d a u = says d ∙ alike (a .start) u (a .terms) (a .text) ∙ sym (says c)
+
+-- the number is at most 23; 0, 1 and 2 come with the place 0, 3 to 19 with that of an update, 20 to 23 with the count of the list
+pub run-reply : (c : Call) → Reply (updates c .count) (c .answered .number) (c .answered .place)
+run-reply c = subst (λ (x : Answer). Reply (updates c .count) (x .number) (x .place)) (sym (says c)) (answer-reply (start c) (updates c) (terms c) (text c))
 
 module _ (c : Call) (e : c .answered .number ≡ 0) where
   -- an accepted run's metadata can start the next run

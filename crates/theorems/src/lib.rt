@@ -1,2 +1,3 @@
-// What is true of the entry point `run`, by its contract alone: its answers are fixed, they can start the next run, and the log suffices.
+// What is true of the entry point `run`, by its contract alone: it asks nothing, its answers are fixed, each number has its place,
+// what is accepted can start the next run, and the log suffices.
 // This crate has no code; its theorems stand in proofs/.

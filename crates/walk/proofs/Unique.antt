@@ -1,11 +1,12 @@
--- The contract leaves no freedom: any two outcomes that it allows for the same arguments have equal answers and equal buffers.
+-- The contract leaves no freedom and asks nothing: any two outcomes that it allows for the same arguments have equal answers and equal buffers, and any arguments are allowed.
 use mathlib.Core.Path.{_≡_, sym, _∙_}
-use borrow.Fn.Kinds.{Dens, resT, endedOf}
-use contract.Lifetimes.{Lfts}
+use base.Logic.{emp, id⊢}
 use denote.Ref.{now}
-use denote.Triple.Clauses.{AtExit}
-use Rattle.walk.proofs.ancestors.Kinds.{ps, r}
-use Rattle.walk.proofs.ancestors.Reads.{Post}
+use Rattle.rules.specs.Promises.{OfTwo, AsksNothing}
+use Rattle.walk.proofs.ancestors as walk
 
-pub ancestors-unique : (κs : Lfts 3) (a : Dens κs ps) (x y : resT r κs .Denot) (s t : AtExit (endedOf 3 ps r) κs) → Post κs a x s → Post κs a y t → (x ≡ y) × (now (s .1 .1 .1 .1 .1 .0) ≡ now (t .1 .1 .1 .1 .1 .0))
+pub ancestors-unique : OfTwo walk.Kinds.ps walk.Kinds.r walk.Reads.Post (λ κs x y s t. (x ≡ y) × (now (s .1 .1 .1 .1 .1 .0) ≡ now (t .1 .1 .1 .1 .1 .0)))
 ancestors-unique κs a x y s t p q = (p .0 ∙ sym (q .0), p .1 ∙ sym (q .1))
+
+pub ancestors-asks-nothing : AsksNothing walk.signature (λ M. walk.spec)
+ancestors-asks-nothing M 𝓤 H A mem run κs a = (tt, id⊢ 𝓤 (emp 𝓤))
