@@ -1,10 +1,12 @@
-// The number in front of a case, and what is answered to a bad one.
+// What stands in front of a case or a question, and what follows its answer.
 use numbers::field::is_unsigned;
 use numbers::input::Input;
 use numbers::input::Place;
+use numbers::input::is_used_up;
 use numbers::input::spoil;
 use numbers::output::Output;
 use numbers::output::append;
+use numbers::output::flush;
 use numbers::output::make_room;
 use numbers::token::read_token;
 
@@ -23,6 +25,39 @@ pub fn read_case(input: &mut Input, place: &mut Place) -> u64 {
     }
     spoil(place);
     0
+}
+
+// The format version that a question without a number of its own starts with; none at the end of the input, between questions.
+pub struct First {
+    pub is_there: bool,
+    pub version: u8,
+}
+
+pub fn read_first(input: &mut Input, place: &mut Place) -> First {
+    let token = read_token(input, place);
+    let is_there = token.is_begun;
+    if is_unsigned(token, u64::MAX) {
+        let magnitude = token.magnitude;
+        if magnitude <= 255 {
+            let version = magnitude as u8;
+            return First { is_there, version };
+        }
+    }
+    if is_there {
+        spoil(place);
+    }
+    First {
+        is_there,
+        version: 0,
+    }
+}
+
+// An answer is written out as soon as what comes next may have to be waited for.
+pub fn end_answer(place: &Place, output: &Output, end: &mut usize) {
+    if is_used_up(place) {
+        flush(output, *end);
+        *end = 0;
+    }
 }
 
 pub fn put_bad_case(output: &mut Output, end: &mut usize) {

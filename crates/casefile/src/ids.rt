@@ -1,16 +1,14 @@
-// The lists of a walk over ids, and the buffer of any walk.
+// The lists of a walk over ids, and how long the buffer of any walk is.
 ghost use Prim.Native.Nat.{_≤_};
-ghost use Rattle.casefile.specs.Counted.{Counted};
-use crate::slots::store_id;
-use crate::slots::with_slots;
+ghost use Rattle.fitting.specs.Counted.{Counted};
+use fitting::store_id;
+use fitting::with_slots;
 use numbers::field::read_count;
 use numbers::field::read_i64;
 use numbers::field::read_up_to;
 use numbers::input::Input;
 use numbers::input::Place;
 use numbers::input::is_good;
-use numbers::number::put_i64;
-use numbers::output::Output;
 
 // A list above 64 is refused for its length, whatever stands in it, so one slot more than that is enough.
 pub const IDS: usize = 65;
@@ -35,13 +33,4 @@ pub fn read_buffer_length(input: &mut Input, place: &mut Place) -> usize
     ensures { λ r. ⌜ r ≤ 80 ⌝ }
 {
     read_up_to(input, place, BUFFER as u64) as usize
-}
-
-pub fn put_ids(output: &mut Output, end: &mut usize, ids: &[i64]) {
-    let mut i = 0;
-    while i < ids.len() {
-        let id = ids[i];
-        put_i64(output, end, id);
-        i += 1;
-    }
 }

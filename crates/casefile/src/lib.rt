@@ -1,4 +1,4 @@
-// The case format: for each piece, the function that reads it and the one that writes it, side by side.
+// The case format, read: for each piece the function that reads it.
 // Nothing is refused but what is no number of its field: a count above a table's capacity is kept, and what has no slot is skipped.
 // The page of the case format decides.
 pub mod case;
@@ -8,7 +8,6 @@ pub mod metadata;
 pub mod reference;
 pub mod run;
 pub mod schema;
-pub mod slots;
 pub mod snapshot;
 pub mod sort_order;
 pub mod text;

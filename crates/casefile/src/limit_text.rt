@@ -1,5 +1,5 @@
 // The text of a limit, which has any length. What is kept of it has the same limit (the crate `longtext`).
-ghost use Rattle.casefile.specs.Counted.{Counted};
+ghost use Rattle.fitting.specs.Counted.{Counted};
 use longtext::limit::keep_byte;
 use numbers::field::read_count;
 use numbers::field::read_flag;
@@ -9,6 +9,12 @@ use numbers::input::Place;
 use numbers::input::is_good;
 
 pub const LIMIT_TEXT: usize = 40;
+
+// The bytes that are kept, and how many.
+pub struct LimitText {
+    pub bytes: [u8; LIMIT_TEXT],
+    pub len: usize,
+}
 
 fn read_bytes(input: &mut Input, place: &mut Place, text: &mut [u8]) -> usize
     ensures { λ r. ⌜ Counted r (now (text .exit)) ⌝ }
@@ -25,11 +31,11 @@ fn read_bytes(input: &mut Input, place: &mut Place, text: &mut [u8]) -> usize
 }
 
 // A flag, and the text if it is set. A text that is not given has the limit of an empty one.
-pub fn read_limit_text(input: &mut Input, place: &mut Place, text: &mut [u8]) -> usize
-    ensures { λ r. ⌜ Counted r (now (text .exit)) ⌝ }
-{
+pub fn read_limit_text(input: &mut Input, place: &mut Place) -> LimitText {
+    let mut bytes = [0u8; LIMIT_TEXT];
+    let mut len: usize = 0;
     if read_flag(input, place) {
-        return read_bytes(input, place, text);
+        len = read_bytes(input, place, &mut bytes);
     }
-    0
+    LimitText { bytes, len }
 }

@@ -1,18 +1,9 @@
 // Metadata and its log.
-use crate::reference::put_refs;
 use crate::reference::read_refs;
-use crate::schema::put_schemas;
 use crate::schema::read_schemas;
-use crate::slots::with_slots;
-use crate::snapshot::put_snapshot_log;
-use crate::snapshot::put_snapshots;
 use crate::snapshot::read_snapshot_log;
 use crate::snapshot::read_snapshots;
-use crate::sort_order::put_sort_orders;
 use crate::sort_order::read_sort_orders;
-use crate::text::put_file_name;
-use crate::text::put_location;
-use crate::text::put_uuid;
 use crate::text::read_file_name;
 use crate::text::read_location;
 use crate::text::read_uuid;
@@ -25,13 +16,6 @@ use numbers::field::read_u64;
 use numbers::input::Input;
 use numbers::input::Place;
 use numbers::input::is_good;
-use numbers::number::put_count;
-use numbers::number::put_flag;
-use numbers::number::put_i32;
-use numbers::number::put_i64;
-use numbers::number::put_u8;
-use numbers::number::put_u64;
-use numbers::output::Output;
 use records::capacities::METADATA_LOG;
 use records::counters::FieldId;
 use records::counters::RowId;
@@ -54,12 +38,6 @@ fn read_log_entry(input: &mut Input, place: &mut Place) -> MetadataLogEntry {
     }
 }
 
-fn put_log_entry(output: &mut Output, end: &mut usize, entry: MetadataLogEntry) {
-    let metadata_file = entry.metadata_file;
-    put_file_name(output, end, metadata_file);
-    put_i64(output, end, entry.timestamp_ms.0);
-}
-
 fn read_metadata_log(input: &mut Input, place: &mut Place) -> MetadataLog {
     let mut log = MetadataLog::blank();
     let count = read_count(input, place);
@@ -76,21 +54,9 @@ fn read_metadata_log(input: &mut Input, place: &mut Place) -> MetadataLog {
     log
 }
 
-pub fn put_metadata_log(output: &mut Output, end: &mut usize, log: MetadataLog) {
-    let count = log.count;
-    put_count(output, end, count);
-    let n = with_slots(count, METADATA_LOG);
-    let mut i = 0;
-    while i < n {
-        let entry = log.items[i];
-        put_log_entry(output, end, entry);
-        i += 1;
-    }
-}
-
-// The single fields in front of the tables. The ids of the current schema and the default order come after their tables, and are 0 here.
-fn read_fields(input: &mut Input, place: &mut Place) -> SingleFields {
-    let format_version = read_u8(input, place);
+// The single fields between the version and the tables. The ids of the current schema and the default order come after their tables, and
+// are 0 here.
+fn read_fields(format_version: u8, input: &mut Input, place: &mut Place) -> SingleFields {
     let table_uuid = read_uuid(input, place);
     let location = read_location(input, place);
     let last_updated_ms = read_i64(input, place);
@@ -114,22 +80,9 @@ fn read_fields(input: &mut Input, place: &mut Place) -> SingleFields {
     }
 }
 
-fn put_fields(output: &mut Output, end: &mut usize, fields: SingleFields) {
-    let table_uuid = fields.table_uuid;
-    let location = fields.location;
-    put_u8(output, end, fields.format_version);
-    put_uuid(output, end, table_uuid);
-    put_location(output, end, location);
-    put_i64(output, end, fields.last_updated_ms.0);
-    put_i64(output, end, fields.last_sequence_number.0);
-    put_u64(output, end, fields.next_row_id.0);
-    put_i32(output, end, fields.last_column_id.0);
-    put_flag(output, end, fields.has_current);
-    put_i64(output, end, fields.current_snapshot_id.0);
-}
-
-pub fn read_metadata(input: &mut Input, place: &mut Place) -> TableMetadata {
-    let mut fields = read_fields(input, place);
+// Metadata of this format version, which is read already.
+pub fn read_metadata_of(version: u8, input: &mut Input, place: &mut Place) -> TableMetadata {
+    let mut fields = read_fields(version, input, place);
     let snapshots = read_snapshots(input, place);
     let refs = read_refs(input, place);
     let snapshot_log = read_snapshot_log(input, place);
@@ -151,21 +104,7 @@ pub fn read_metadata(input: &mut Input, place: &mut Place) -> TableMetadata {
     }
 }
 
-pub fn put_metadata(output: &mut Output, end: &mut usize, metadata: TableMetadata) {
-    let fields = metadata.fields;
-    let snapshots = metadata.snapshots;
-    let refs = metadata.refs;
-    let snapshot_log = metadata.snapshot_log;
-    let metadata_log = metadata.metadata_log;
-    let schemas = metadata.schemas;
-    let sort_orders = metadata.sort_orders;
-    put_fields(output, end, fields);
-    put_snapshots(output, end, snapshots);
-    put_refs(output, end, refs);
-    put_snapshot_log(output, end, snapshot_log);
-    put_metadata_log(output, end, metadata_log);
-    put_schemas(output, end, schemas);
-    put_i32(output, end, fields.current_schema_id.0);
-    put_sort_orders(output, end, sort_orders);
-    put_i64(output, end, fields.default_sort_order_id.0);
+pub fn read_metadata(input: &mut Input, place: &mut Place) -> TableMetadata {
+    let version = read_u8(input, place);
+    read_metadata_of(version, input, place)
 }

@@ -1,6 +1,4 @@
 // Refs: a name, and what it refers to.
-use crate::slots::with_slots;
-use crate::text::put_ref_name;
 use crate::text::read_ref_name;
 use numbers::field::read_count;
 use numbers::field::read_flag;
@@ -10,12 +8,6 @@ use numbers::field::read_u8;
 use numbers::input::Input;
 use numbers::input::Place;
 use numbers::input::is_good;
-use numbers::number::put_count;
-use numbers::number::put_flag;
-use numbers::number::put_i32;
-use numbers::number::put_i64;
-use numbers::number::put_u8;
-use numbers::output::Output;
 use records::capacities::REFS;
 use records::counters::Age;
 use records::counters::MinSnapshots;
@@ -46,28 +38,10 @@ pub fn read_reference(input: &mut Input, place: &mut Place) -> SnapshotReference
     }
 }
 
-pub fn put_reference(output: &mut Output, end: &mut usize, reference: SnapshotReference) {
-    put_i64(output, end, reference.snapshot_id.0);
-    put_u8(output, end, reference.kind);
-    put_flag(output, end, reference.has_min);
-    put_i32(output, end, reference.min_snapshots_to_keep.0);
-    put_flag(output, end, reference.has_age);
-    put_i64(output, end, reference.max_snapshot_age_ms.0);
-    put_flag(output, end, reference.has_ref_age);
-    put_i64(output, end, reference.max_ref_age_ms.0);
-}
-
 fn read_ref(input: &mut Input, place: &mut Place) -> NamedRef {
     let name = read_ref_name(input, place);
     let reference = read_reference(input, place);
     NamedRef { name, reference }
-}
-
-fn put_ref(output: &mut Output, end: &mut usize, named: NamedRef) {
-    let name = named.name;
-    let reference = named.reference;
-    put_ref_name(output, end, name);
-    put_reference(output, end, reference);
 }
 
 pub fn read_refs(input: &mut Input, place: &mut Place) -> Refs {
@@ -84,16 +58,4 @@ pub fn read_refs(input: &mut Input, place: &mut Place) -> Refs {
     }
     table.count = count;
     table
-}
-
-pub fn put_refs(output: &mut Output, end: &mut usize, table: Refs) {
-    let count = table.count;
-    put_count(output, end, count);
-    let n = with_slots(count, REFS);
-    let mut i = 0;
-    while i < n {
-        let named = table.items[i];
-        put_ref(output, end, named);
-        i += 1;
-    }
 }

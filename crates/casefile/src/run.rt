@@ -1,22 +1,29 @@
-// What a run is given beside metadata, updates and the limit text, and what it answers.
-use crate::metadata::put_metadata;
-use crate::metadata::put_metadata_log;
+// What a run is given.
+use crate::limit_text::LimitText;
+use crate::limit_text::read_limit_text;
+use crate::metadata::read_metadata_of;
 use crate::text::read_file_name;
-use crate::update::put_updates;
+use crate::update::read_updates;
 use numbers::field::read_flag;
 use numbers::field::read_i64;
+use numbers::field::read_u8;
 use numbers::input::Input;
 use numbers::input::Place;
-use numbers::number::put_count;
-use numbers::number::put_u8;
-use numbers::output::Output;
 use records::counters::Time;
-use records::run::Answer;
+use records::metadata::TableMetadata;
 use records::run::RunTerms;
 use records::text::FileName;
+use records::update::UpdateList;
+
+pub struct Run {
+    pub metadata: TableMetadata,
+    pub terms: RunTerms,
+    pub limit: LimitText,
+    pub updates: UpdateList,
+}
 
 // The clock, a flag, and the file's name if it is set.
-pub fn read_terms(input: &mut Input, place: &mut Place) -> RunTerms {
+fn read_terms(input: &mut Input, place: &mut Place) -> RunTerms {
     let clock_ms = Time(read_i64(input, place));
     let has_file = read_flag(input, place);
     let mut file = FileName::blank();
@@ -30,10 +37,21 @@ pub fn read_terms(input: &mut Input, place: &mut Place) -> RunTerms {
     }
 }
 
-pub fn put_answer(output: &mut Output, end: &mut usize, answer: Answer) {
-    put_u8(output, end, answer.number);
-    put_count(output, end, answer.place);
-    put_metadata(output, end, answer.metadata);
-    put_updates(output, end, answer.changes);
-    put_metadata_log(output, end, answer.expired);
+// A run whose metadata has this format version: the first of its numbers, which is read already.
+pub fn read_run_of(version: u8, input: &mut Input, place: &mut Place) -> Run {
+    let metadata = read_metadata_of(version, input, place);
+    let terms = read_terms(input, place);
+    let limit = read_limit_text(input, place);
+    let updates = read_updates(input, place);
+    Run {
+        metadata,
+        terms,
+        limit,
+        updates,
+    }
+}
+
+pub fn read_run(input: &mut Input, place: &mut Place) -> Run {
+    let version = read_u8(input, place);
+    read_run_of(version, input, place)
 }

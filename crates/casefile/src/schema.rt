@@ -1,13 +1,9 @@
 // Schemas, and the ids of a removal.
-use crate::slots::with_slots;
 use numbers::field::read_count;
 use numbers::field::read_i32;
 use numbers::input::Input;
 use numbers::input::Place;
 use numbers::input::is_good;
-use numbers::number::put_count;
-use numbers::number::put_i32;
-use numbers::output::Output;
 use records::capacities::REMOVALS;
 use records::capacities::SCHEMA_FIELDS;
 use records::capacities::SCHEMAS;
@@ -38,19 +34,6 @@ pub fn read_schema(input: &mut Input, place: &mut Place) -> Schema {
     schema
 }
 
-pub fn put_schema(output: &mut Output, end: &mut usize, schema: Schema) {
-    let count = schema.count;
-    put_i32(output, end, schema.schema_id.0);
-    put_count(output, end, count);
-    let n = with_slots(count, SCHEMA_FIELDS);
-    let mut i = 0;
-    while i < n {
-        let field = schema.items[i];
-        put_i32(output, end, field.id.0);
-        i += 1;
-    }
-}
-
 pub fn read_schemas(input: &mut Input, place: &mut Place) -> Schemas {
     let mut table = Schemas::blank();
     let count = read_count(input, place);
@@ -67,18 +50,6 @@ pub fn read_schemas(input: &mut Input, place: &mut Place) -> Schemas {
     table
 }
 
-pub fn put_schemas(output: &mut Output, end: &mut usize, table: Schemas) {
-    let count = table.count;
-    put_count(output, end, count);
-    let n = with_slots(count, SCHEMAS);
-    let mut i = 0;
-    while i < n {
-        let schema = table.items[i];
-        put_schema(output, end, schema);
-        i += 1;
-    }
-}
-
 pub fn read_schema_ids(input: &mut Input, place: &mut Place) -> SchemaIds {
     let mut ids = SchemaIds::blank();
     let count = read_count(input, place);
@@ -93,16 +64,4 @@ pub fn read_schema_ids(input: &mut Input, place: &mut Place) -> SchemaIds {
     }
     ids.count = count;
     ids
-}
-
-pub fn put_schema_ids(output: &mut Output, end: &mut usize, ids: SchemaIds) {
-    let count = ids.count;
-    put_count(output, end, count);
-    let n = with_slots(count, REMOVALS);
-    let mut i = 0;
-    while i < n {
-        let id = ids.items[i];
-        put_i32(output, end, id.0);
-        i += 1;
-    }
 }

@@ -1,5 +1,4 @@
 // Snapshots, the ids of a removal, and the snapshot log.
-use crate::slots::with_slots;
 use numbers::field::read_count;
 use numbers::field::read_flag;
 use numbers::field::read_i64;
@@ -7,11 +6,6 @@ use numbers::field::read_u64;
 use numbers::input::Input;
 use numbers::input::Place;
 use numbers::input::is_good;
-use numbers::number::put_count;
-use numbers::number::put_flag;
-use numbers::number::put_i64;
-use numbers::number::put_u64;
-use numbers::output::Output;
 use records::capacities::REMOVALS;
 use records::capacities::SNAPSHOT_LOG;
 use records::capacities::SNAPSHOTS;
@@ -46,17 +40,6 @@ pub fn read_snapshot(input: &mut Input, place: &mut Place) -> Snapshot {
     }
 }
 
-pub fn put_snapshot(output: &mut Output, end: &mut usize, snapshot: Snapshot) {
-    put_i64(output, end, snapshot.snapshot_id.0);
-    put_flag(output, end, snapshot.has_parent);
-    put_i64(output, end, snapshot.parent_snapshot_id.0);
-    put_i64(output, end, snapshot.sequence_number.0);
-    put_i64(output, end, snapshot.timestamp_ms.0);
-    put_flag(output, end, snapshot.has_rows);
-    put_u64(output, end, snapshot.first_row_id.0);
-    put_u64(output, end, snapshot.added_rows);
-}
-
 pub fn read_snapshots(input: &mut Input, place: &mut Place) -> Snapshots {
     let mut table = Snapshots::blank();
     let count = read_count(input, place);
@@ -71,18 +54,6 @@ pub fn read_snapshots(input: &mut Input, place: &mut Place) -> Snapshots {
     }
     table.count = count;
     table
-}
-
-pub fn put_snapshots(output: &mut Output, end: &mut usize, table: Snapshots) {
-    let count = table.count;
-    put_count(output, end, count);
-    let n = with_slots(count, SNAPSHOTS);
-    let mut i = 0;
-    while i < n {
-        let snapshot = table.items[i];
-        put_snapshot(output, end, snapshot);
-        i += 1;
-    }
 }
 
 pub fn read_snapshot_ids(input: &mut Input, place: &mut Place) -> SnapshotIds {
@@ -101,18 +72,6 @@ pub fn read_snapshot_ids(input: &mut Input, place: &mut Place) -> SnapshotIds {
     ids
 }
 
-pub fn put_snapshot_ids(output: &mut Output, end: &mut usize, ids: SnapshotIds) {
-    let count = ids.count;
-    put_count(output, end, count);
-    let n = with_slots(count, REMOVALS);
-    let mut i = 0;
-    while i < n {
-        let id = ids.items[i];
-        put_i64(output, end, id.0);
-        i += 1;
-    }
-}
-
 fn read_log_entry(input: &mut Input, place: &mut Place) -> SnapshotLogEntry {
     let snapshot_id = read_i64(input, place);
     let timestamp_ms = read_i64(input, place);
@@ -120,11 +79,6 @@ fn read_log_entry(input: &mut Input, place: &mut Place) -> SnapshotLogEntry {
         snapshot_id: SnapshotId(snapshot_id),
         timestamp_ms: Time(timestamp_ms),
     }
-}
-
-fn put_log_entry(output: &mut Output, end: &mut usize, entry: SnapshotLogEntry) {
-    put_i64(output, end, entry.snapshot_id.0);
-    put_i64(output, end, entry.timestamp_ms.0);
 }
 
 pub fn read_snapshot_log(input: &mut Input, place: &mut Place) -> SnapshotLog {
@@ -141,16 +95,4 @@ pub fn read_snapshot_log(input: &mut Input, place: &mut Place) -> SnapshotLog {
     }
     log.count = count;
     log
-}
-
-pub fn put_snapshot_log(output: &mut Output, end: &mut usize, log: SnapshotLog) {
-    let count = log.count;
-    put_count(output, end, count);
-    let n = with_slots(count, SNAPSHOT_LOG);
-    let mut i = 0;
-    while i < n {
-        let entry = log.items[i];
-        put_log_entry(output, end, entry);
-        i += 1;
-    }
 }

@@ -1,5 +1,4 @@
 // Sort orders.
-use crate::slots::with_slots;
 use numbers::field::read_count;
 use numbers::field::read_i32;
 use numbers::field::read_i64;
@@ -7,11 +6,6 @@ use numbers::field::read_u8;
 use numbers::input::Input;
 use numbers::input::Place;
 use numbers::input::is_good;
-use numbers::number::put_count;
-use numbers::number::put_i32;
-use numbers::number::put_i64;
-use numbers::number::put_u8;
-use numbers::output::Output;
 use records::capacities::SORT_FIELDS;
 use records::capacities::SORT_ORDERS;
 use records::counters::FieldId;
@@ -29,12 +23,6 @@ fn read_sort_field(input: &mut Input, place: &mut Place) -> SortField {
         direction,
         null_order,
     }
-}
-
-fn put_sort_field(output: &mut Output, end: &mut usize, field: SortField) {
-    put_i32(output, end, field.source_id.0);
-    put_u8(output, end, field.direction);
-    put_u8(output, end, field.null_order);
 }
 
 pub fn read_sort_order(input: &mut Input, place: &mut Place) -> SortOrder {
@@ -55,19 +43,6 @@ pub fn read_sort_order(input: &mut Input, place: &mut Place) -> SortOrder {
     order
 }
 
-pub fn put_sort_order(output: &mut Output, end: &mut usize, order: SortOrder) {
-    let count = order.count;
-    put_i64(output, end, order.order_id.0);
-    put_count(output, end, count);
-    let n = with_slots(count, SORT_FIELDS);
-    let mut i = 0;
-    while i < n {
-        let field = order.items[i];
-        put_sort_field(output, end, field);
-        i += 1;
-    }
-}
-
 pub fn read_sort_orders(input: &mut Input, place: &mut Place) -> SortOrders {
     let mut table = SortOrders::blank();
     let count = read_count(input, place);
@@ -82,16 +57,4 @@ pub fn read_sort_orders(input: &mut Input, place: &mut Place) -> SortOrders {
     }
     table.count = count;
     table
-}
-
-pub fn put_sort_orders(output: &mut Output, end: &mut usize, table: SortOrders) {
-    let count = table.count;
-    put_count(output, end, count);
-    let n = with_slots(count, SORT_ORDERS);
-    let mut i = 0;
-    while i < n {
-        let order = table.items[i];
-        put_sort_order(output, end, order);
-        i += 1;
-    }
 }

@@ -1,5 +1,5 @@
 // A location that is to be trimmed, of any length. What is kept of it is trimmed as the whole is (the crate `longtext`).
-use crate::slots::store_byte;
+use fitting::store_byte;
 use longtext::location::length_with;
 use numbers::field::read_count;
 use numbers::field::read_u8;

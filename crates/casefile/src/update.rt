@@ -1,20 +1,10 @@
 // Updates: a kind, then what that kind uses. Nothing follows an unknown kind.
-use crate::reference::put_reference;
 use crate::reference::read_reference;
-use crate::schema::put_schema;
-use crate::schema::put_schema_ids;
 use crate::schema::read_schema;
 use crate::schema::read_schema_ids;
-use crate::slots::with_slots;
-use crate::snapshot::put_snapshot;
-use crate::snapshot::put_snapshot_ids;
 use crate::snapshot::read_snapshot;
 use crate::snapshot::read_snapshot_ids;
-use crate::sort_order::put_sort_order;
 use crate::sort_order::read_sort_order;
-use crate::text::put_location;
-use crate::text::put_ref_name;
-use crate::text::put_uuid;
 use crate::text::read_location;
 use crate::text::read_ref_name;
 use crate::text::read_uuid;
@@ -25,11 +15,6 @@ use numbers::field::read_u8;
 use numbers::input::Input;
 use numbers::input::Place;
 use numbers::input::is_good;
-use numbers::number::put_count;
-use numbers::number::put_i32;
-use numbers::number::put_i64;
-use numbers::number::put_u8;
-use numbers::output::Output;
 use records::capacities::UPDATES;
 use records::counters::SchemaId;
 use records::counters::SortOrderId;
@@ -49,8 +34,8 @@ use records::update::TableUpdate;
 use records::update::UPGRADE_FORMAT_VERSION;
 use records::update::UpdateList;
 
-fn read_update(input: &mut Input, place: &mut Place) -> TableUpdate {
-    let kind = read_u8(input, place);
+// Kinds 1 to 6.
+fn read_early_kind(kind: u8, input: &mut Input, place: &mut Place) -> TableUpdate {
     let mut u = TableUpdate::blank();
     u.kind = kind;
     match kind {
@@ -66,6 +51,16 @@ fn read_update(input: &mut Input, place: &mut Place) -> TableUpdate {
             u.snapshot = read_snapshot(input, place);
         }
         REMOVE_SNAPSHOTS => u.snapshot_ids = read_snapshot_ids(input, place),
+        _ => {}
+    }
+    u
+}
+
+// Kinds 7 to 13.
+fn read_late_kind(kind: u8, input: &mut Input, place: &mut Place) -> TableUpdate {
+    let mut u = TableUpdate::blank();
+    u.kind = kind;
+    match kind {
         SET_REF => {
             u.ref_name = read_ref_name(input, place);
             u.reference = read_reference(input, place);
@@ -87,33 +82,12 @@ fn read_update(input: &mut Input, place: &mut Place) -> TableUpdate {
     u
 }
 
-fn put_update(output: &mut Output, end: &mut usize, u: TableUpdate) {
-    let kind = u.kind;
-    put_u8(output, end, kind);
-    match kind {
-        ASSIGN_UUID => {
-            let uuid = u.uuid;
-            put_uuid(output, end, uuid);
-        }
-        UPGRADE_FORMAT_VERSION => put_u8(output, end, u.format_version),
-        SET_LOCATION => put_location(output, end, u.location),
-        ADD_SNAPSHOT => put_snapshot(output, end, u.snapshot),
-        SET_BRANCH_SNAPSHOT => {
-            put_ref_name(output, end, u.ref_name);
-            put_snapshot(output, end, u.snapshot);
-        }
-        REMOVE_SNAPSHOTS => put_snapshot_ids(output, end, u.snapshot_ids),
-        SET_REF => {
-            put_ref_name(output, end, u.ref_name);
-            put_reference(output, end, u.reference);
-        }
-        REMOVE_REF => put_ref_name(output, end, u.ref_name),
-        ADD_SCHEMA => put_schema(output, end, u.schema),
-        SET_CURRENT_SCHEMA => put_i32(output, end, u.schema_id.0),
-        REMOVE_SCHEMAS => put_schema_ids(output, end, u.schema_ids),
-        ADD_SORT_ORDER => put_sort_order(output, end, u.sort_order),
-        SET_DEFAULT_SORT_ORDER => put_i64(output, end, u.sort_order_id.0),
-        _ => {}
+fn read_update(input: &mut Input, place: &mut Place) -> TableUpdate {
+    let kind = read_u8(input, place);
+    if kind < SET_REF {
+        read_early_kind(kind, input, place)
+    } else {
+        read_late_kind(kind, input, place)
     }
 }
 
@@ -131,16 +105,4 @@ pub fn read_updates(input: &mut Input, place: &mut Place) -> UpdateList {
     }
     list.count = count;
     list
-}
-
-pub fn put_updates(output: &mut Output, end: &mut usize, list: UpdateList) {
-    let count = list.count;
-    put_count(output, end, count);
-    let n = with_slots(count, UPDATES);
-    let mut i = 0;
-    while i < n {
-        let update = list.items[i];
-        put_update(output, end, update);
-        i += 1;
-    }
 }

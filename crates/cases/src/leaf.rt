@@ -1,8 +1,9 @@
 // Cases 4 to 7: the leaves.
-use casefile::limit_text::LIMIT_TEXT;
+use casefile::limit_text::LimitText;
 use casefile::limit_text::read_limit_text;
-use casefile::text::put_bytes;
 use casefile::untrimmed::read_untrimmed;
+use casewrite::text::put_bytes;
+use fitting::lent;
 use numbers::field::read_i64;
 use numbers::field::read_u64;
 use numbers::input::Input;
@@ -20,11 +21,17 @@ use records::counters::Time;
 // In milliseconds.
 const MINUTE: i64 = 60000;
 
+fn limit_of(text: LimitText) -> u64 {
+    let bytes = text.bytes;
+    let slots: &[u8] = &bytes;
+    let len = lent(slots, text.len);
+    leaves::limit::limit(&slots[..len])
+}
+
 pub fn limit(input: &mut Input, place: &mut Place, output: &mut Output, end: &mut usize) {
-    let mut text = [0u8; LIMIT_TEXT];
-    let len = read_limit_text(input, place, &mut text);
+    let text = read_limit_text(input, place);
     if is_good(place) {
-        put_u64(output, end, leaves::limit::limit(&text[..len]));
+        put_u64(output, end, limit_of(text));
     }
 }
 

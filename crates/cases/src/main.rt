@@ -1,11 +1,11 @@
 // Answers cases from standard input, a line each, until the input ends or a case is bad.
+use casefile::case::end_answer;
 use casefile::case::put_bad_case;
 use casefile::case::read_case;
 use numbers::input::Input;
 use numbers::input::Place;
 use numbers::input::empty_input;
 use numbers::input::is_good;
-use numbers::input::is_used_up;
 use numbers::input::start;
 use numbers::output::Output;
 use numbers::output::empty_output;
@@ -30,7 +30,7 @@ fn answer(kind: u64, input: &mut Input, place: &mut Place, output: &mut Output, 
     }
 }
 
-// One case; whether there may be another. An answer is written out as soon as the next case may have to be waited for.
+// One case; whether there may be another.
 fn next(input: &mut Input, place: &mut Place, output: &mut Output, end: &mut usize) -> bool {
     let kind = read_case(input, place);
     answer(kind, input, place, output, end);
@@ -42,10 +42,7 @@ fn next(input: &mut Input, place: &mut Place, output: &mut Output, end: &mut usi
         return false;
     }
     put_line_end(output, *end);
-    if is_used_up(place) {
-        flush(output, *end);
-        *end = 0;
-    }
+    end_answer(place, output, end);
     true
 }
 

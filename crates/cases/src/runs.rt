@@ -1,23 +1,25 @@
 // Case 1: a run.
-use casefile::limit_text::LIMIT_TEXT;
-use casefile::limit_text::read_limit_text;
-use casefile::metadata::read_metadata;
-use casefile::run::put_answer;
-use casefile::run::read_terms;
-use casefile::update::read_updates;
+use casefile::run::Run;
+use casefile::run::read_run;
+use casewrite::run::put_answer;
+use fitting::lent;
 use numbers::input::Input;
 use numbers::input::Place;
 use numbers::input::is_good;
 use numbers::output::Output;
+use records::run::Answer;
+
+fn answer(run: Run) -> Answer {
+    let text = run.limit;
+    let bytes = text.bytes;
+    let slots: &[u8] = &bytes;
+    let len = lent(slots, text.len);
+    register::run(run.metadata, run.updates, run.terms, &slots[..len])
+}
 
 pub fn run(input: &mut Input, place: &mut Place, output: &mut Output, end: &mut usize) {
-    let metadata = read_metadata(input, place);
-    let terms = read_terms(input, place);
-    let mut text = [0u8; LIMIT_TEXT];
-    let len = read_limit_text(input, place, &mut text);
-    let updates = read_updates(input, place);
+    let run = read_run(input, place);
     if is_good(place) {
-        let answer = register::run(metadata, updates, terms, &text[..len]);
-        put_answer(output, end, answer);
+        put_answer(output, end, answer(run));
     }
 }

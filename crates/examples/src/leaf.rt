@@ -1,7 +1,7 @@
 // P7 and P9: the limit of a text, and ancestor walks.
 use crate::start::three;
-use casefile::slots::with_slots;
 use catalogue::table_ancestors;
+use fitting::with_slots;
 use leaves::limit::limit;
 use numbers::output::Output;
 use plaintext::name::say_name;
@@ -10,6 +10,7 @@ use plaintext::number::say_u64;
 use plaintext::table::say_comma;
 use plaintext::table::say_none;
 use plaintext::text::say;
+use records::snapshot::Snapshots;
 use walk::ancestors;
 
 fn say_limit(output: &mut Output, end: &mut usize, text: &[u8]) {
@@ -52,11 +53,15 @@ fn say_between(output: &mut Output, end: &mut usize, excluded: i64) {
     say_ids(output, end, &buffer, walked.count);
 }
 
+fn three_snapshots() -> Snapshots {
+    let start = three();
+    start.snapshots
+}
+
 // The same walk over snapshot records.
 fn say_records_between(output: &mut Output, end: &mut usize, excluded: i64) {
-    let start = three();
     let mut buffer = [0i64; 3];
-    let walked = table_ancestors(start.snapshots, 3, true, excluded, &mut buffer);
+    let walked = table_ancestors(three_snapshots(), 3, true, excluded, &mut buffer);
     say_ids(output, end, &buffer, walked.count);
 }
 

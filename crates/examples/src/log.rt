@@ -6,7 +6,7 @@ use crate::start::filed;
 use crate::start::three;
 use crate::update::only;
 use crate::update::remove_schema;
-use casefile::slots::with_slots;
+use fitting::with_slots;
 use numbers::output::Output;
 use plaintext::metadata::say_file;
 use plaintext::table::say_comma;
@@ -29,14 +29,30 @@ fn say_files(output: &mut Output, end: &mut usize, log: MetadataLog) {
     }
 }
 
+// What is said of a metadata log.
+struct Files {
+    expired: MetadataLog,
+    staying: MetadataLog,
+}
+
+fn with_fourth() -> Files {
+    let answer = ask_with_file(filed(), UpdateList::blank(), file_name(b'd'), b"2");
+    let expired = answer.expired;
+    let metadata = answer.metadata;
+    let staying = metadata.metadata_log;
+    Files { expired, staying }
+}
+
+fn say_ends(output: &mut Output, end: &mut usize, files: Files) {
+    say(output, end, b"expired: ");
+    say_files(output, end, files.expired);
+    say(output, end, b"; staying: ");
+    say_files(output, end, files.staying);
+}
+
 // Three metadata entries, limit 2, one joins: two oldest expire.
 pub fn p8(output: &mut Output, end: &mut usize) {
-    let answer = ask_with_file(filed(), UpdateList::blank(), file_name(b'd'), b"2");
-    let metadata = answer.metadata;
-    say(output, end, b"expired: ");
-    say_files(output, end, answer.expired);
-    say(output, end, b"; staying: ");
-    say_files(output, end, metadata.metadata_log);
+    say_ends(output, end, with_fourth());
 }
 
 fn say_changes(output: &mut Output, end: &mut usize, changes: UpdateList) {
@@ -51,13 +67,19 @@ fn say_changes(output: &mut Output, end: &mut usize, changes: UpdateList) {
     }
 }
 
+fn changes_of(updates: UpdateList) -> UpdateList {
+    let answer = ask(three(), updates);
+    answer.changes
+}
+
+fn removal_of_seven() -> UpdateList {
+    changes_of(only(remove_schema(7)))
+}
+
 // Removing unknown schema 7 logs an empty removal; its replay logs none.
 pub fn p10(output: &mut Output, end: &mut usize) {
-    let answer = ask(three(), only(remove_schema(7)));
-    let changes = answer.changes;
-    let replayed = ask(three(), changes);
     say(output, end, b"changes: ");
-    say_changes(output, end, changes);
+    say_changes(output, end, removal_of_seven());
     say(output, end, b"; changes of the replay: ");
-    say_changes(output, end, replayed.changes);
+    say_changes(output, end, changes_of(removal_of_seven()));
 }

@@ -17,21 +17,34 @@ mod update;
 
 const EXAMPLES: u8 = 12;
 
-// What an example prints, without its name.
-fn say_example(output: &mut Output, end: &mut usize, number: u8) {
+fn say_early_example(output: &mut Output, end: &mut usize, number: u8) {
     match number {
         1 => numbered::p1(output, end),
         2 => numbered::p2(output, end),
         3 => history::p3(output, end),
         4 => history::p4(output, end),
         5 => history::p5(output, end),
-        6 => numbered::p6(output, end),
+        _ => numbered::p6(output, end),
+    }
+}
+
+fn say_late_example(output: &mut Output, end: &mut usize, number: u8) {
+    match number {
         7 => leaf::p7(output, end),
         8 => log::p8(output, end),
         9 => leaf::p9(output, end),
         10 => log::p10(output, end),
         11 => history::p11(output, end),
         _ => numbered::p12(output, end),
+    }
+}
+
+// What an example prints, without its name.
+fn say_example(output: &mut Output, end: &mut usize, number: u8) {
+    if number < 7 {
+        say_early_example(output, end, number);
+    } else {
+        say_late_example(output, end, number);
     }
     say(output, end, b"\n");
 }

@@ -33,10 +33,10 @@ pub fn ask_with_file(m: TableMetadata, us: UpdateList, file: FileName, limit: &[
 }
 
 // `accepted`, or as `refused 21 at 1`.
-pub fn say_verdict(output: &mut Output, end: &mut usize, answer: Answer) {
-    if answer.number == 0 {
+pub fn say_verdict(output: &mut Output, end: &mut usize, number: u8, place: usize) {
+    if number == 0 {
         say(output, end, b"accepted");
     } else {
-        say_refused(output, end, answer.number, answer.place);
+        say_refused(output, end, number, place);
     }
 }

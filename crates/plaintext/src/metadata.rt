@@ -14,7 +14,7 @@ use crate::sort_order::say_sort_orders;
 use crate::table::say_heading;
 use crate::table::say_left_out_line;
 use crate::text::say;
-use casefile::slots::with_slots;
+use fitting::with_slots;
 use numbers::output::Output;
 use records::capacities::METADATA_LOG;
 use records::metadata::MetadataLog;
@@ -24,8 +24,7 @@ use records::metadata::TableMetadata;
 
 // As `"v1.json" from 100000`.
 pub fn say_file(output: &mut Output, end: &mut usize, entry: MetadataLogEntry) {
-    let metadata_file = entry.metadata_file;
-    say_file_name(output, end, metadata_file);
+    say_file_name(output, end, entry.metadata_file);
     say(output, end, b" from ");
     say_i64(output, end, entry.timestamp_ms.0);
 }
@@ -56,13 +55,12 @@ fn say_current(output: &mut Output, end: &mut usize, fields: SingleFields) {
 
 fn say_identity(output: &mut Output, end: &mut usize, fields: SingleFields) {
     let table_uuid = fields.table_uuid;
-    let location = fields.location;
     say(output, end, b"  format version: ");
     say_u8(output, end, fields.format_version);
     say(output, end, b"\n  uuid: ");
     say_uuid(output, end, table_uuid);
     say(output, end, b"\n  location: ");
-    say_location(output, end, location);
+    say_location(output, end, fields.location);
 }
 
 fn say_counters(output: &mut Output, end: &mut usize, fields: SingleFields) {
@@ -86,20 +84,13 @@ fn say_choices(output: &mut Output, end: &mut usize, fields: SingleFields) {
 }
 
 pub fn say_metadata(output: &mut Output, end: &mut usize, metadata: TableMetadata) {
-    let fields = metadata.fields;
-    let snapshots = metadata.snapshots;
-    let refs = metadata.refs;
-    let snapshot_log = metadata.snapshot_log;
-    let metadata_log = metadata.metadata_log;
-    let schemas = metadata.schemas;
-    let sort_orders = metadata.sort_orders;
-    say_identity(output, end, fields);
-    say_counters(output, end, fields);
-    say_choices(output, end, fields);
-    say_refs(output, end, refs);
-    say_snapshots(output, end, snapshots);
-    say_snapshot_log(output, end, snapshot_log);
-    say_files(output, end, b"metadata log", metadata_log);
-    say_schemas(output, end, schemas);
-    say_sort_orders(output, end, sort_orders);
+    say_identity(output, end, metadata.fields);
+    say_counters(output, end, metadata.fields);
+    say_choices(output, end, metadata.fields);
+    say_refs(output, end, metadata.refs);
+    say_snapshots(output, end, metadata.snapshots);
+    say_snapshot_log(output, end, metadata.snapshot_log);
+    say_files(output, end, b"metadata log", metadata.metadata_log);
+    say_schemas(output, end, metadata.schemas);
+    say_sort_orders(output, end, metadata.sort_orders);
 }

@@ -4,7 +4,7 @@ ghost use Prim.Native.Nat.{_<_};
 use crate::table::say_left_out;
 use crate::text::say;
 use crate::text::say_byte;
-use casefile::slots::with_slots;
+use fitting::with_slots;
 use numbers::output::Output;
 use records::text::FileName;
 use records::text::Location;

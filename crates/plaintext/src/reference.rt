@@ -6,7 +6,7 @@ use crate::number::say_u8;
 use crate::table::say_heading;
 use crate::table::say_left_out_line;
 use crate::text::say;
-use casefile::slots::with_slots;
+use fitting::with_slots;
 use numbers::output::Output;
 use records::capacities::REFS;
 use records::reference::NamedRef;
@@ -63,10 +63,8 @@ pub fn say_reference(
 }
 
 fn say_ref(output: &mut Output, end: &mut usize, named: NamedRef) {
-    let name = named.name;
-    let reference = named.reference;
     say(output, end, b"    ");
-    say_reference(output, end, name, reference);
+    say_reference(output, end, named.name, named.reference);
     say(output, end, b"\n");
 }
 

@@ -6,7 +6,7 @@ use crate::table::say_left_out;
 use crate::table::say_left_out_line;
 use crate::table::say_none;
 use crate::text::say;
-use casefile::slots::with_slots;
+use fitting::with_slots;
 use numbers::output::Output;
 use records::capacities::REMOVALS;
 use records::capacities::SCHEMA_FIELDS;

@@ -15,3 +15,18 @@ pub fn say(output: &mut Output, end: &mut usize, text: &[u8]) {
         i += 1;
     }
 }
+
+// One of many lines, counted from 0, without its end. Where words depend on a number, this asks for less proof than a `match` that prints.
+pub fn say_line(output: &mut Output, end: &mut usize, lines: &[u8], line: usize) {
+    let mut at: usize = 0;
+    let mut i = 0;
+    while i < lines.len() {
+        let byte = lines[i];
+        i += 1;
+        if byte == b'\n' {
+            at += 1;
+        } else if at == line {
+            say_byte(output, end, byte);
+        }
+    }
+}

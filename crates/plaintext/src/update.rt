@@ -15,7 +15,8 @@ use crate::sort_order::say_sort_order;
 use crate::table::say_heading;
 use crate::table::say_left_out_line;
 use crate::text::say;
-use casefile::slots::with_slots;
+use crate::text::say_line;
+use fitting::with_slots;
 use numbers::output::Output;
 use records::capacities::UPDATES;
 use records::counters::SchemaId;
@@ -36,23 +37,28 @@ use records::update::TableUpdate;
 use records::update::UPGRADE_FORMAT_VERSION;
 use records::update::UpdateList;
 
+// A line for each kind, in the order of their numbers; the first is for all others.
 fn say_kind(output: &mut Output, end: &mut usize, kind: u8) {
-    match kind {
-        ASSIGN_UUID => say(output, end, b"assign uuid "),
-        UPGRADE_FORMAT_VERSION => say(output, end, b"upgrade to format version "),
-        SET_LOCATION => say(output, end, b"set location "),
-        ADD_SNAPSHOT => say(output, end, b"add snapshot "),
-        SET_BRANCH_SNAPSHOT => say(output, end, b"commit to branch "),
-        REMOVE_SNAPSHOTS => say(output, end, b"remove snapshots "),
-        SET_REF => say(output, end, b"set "),
-        REMOVE_REF => say(output, end, b"remove ref "),
-        ADD_SCHEMA => say(output, end, b"add schema "),
-        SET_CURRENT_SCHEMA => say(output, end, b"set current schema to "),
-        REMOVE_SCHEMAS => say(output, end, b"remove schemas "),
-        ADD_SORT_ORDER => say(output, end, b"add sort order "),
-        SET_DEFAULT_SORT_ORDER => say(output, end, b"set default sort order to "),
-        _ => say(output, end, b"update of unknown kind "),
-    }
+    let kinds = b"update of unknown kind \n\
+        assign uuid \n\
+        upgrade to format version \n\
+        set location \n\
+        add snapshot \n\
+        commit to branch \n\
+        remove snapshots \n\
+        set \n\
+        remove ref \n\
+        add schema \n\
+        set current schema to \n\
+        remove schemas \n\
+        add sort order \n\
+        set default sort order to \n";
+    let line = if kind > SET_DEFAULT_SORT_ORDER {
+        0
+    } else {
+        kind
+    };
+    say_line(output, end, kinds, line as usize);
 }
 
 fn say_commit(output: &mut Output, end: &mut usize, u: TableUpdate) {
@@ -78,9 +84,9 @@ fn say_sort_order_id(output: &mut Output, end: &mut usize, id: SortOrderId) {
     say_last_added(output, end, id.0 == -1);
 }
 
-pub fn say_update(output: &mut Output, end: &mut usize, u: TableUpdate) {
+// Kinds 1 to 6.
+fn say_early_kind(output: &mut Output, end: &mut usize, u: TableUpdate) {
     let kind = u.kind;
-    say_kind(output, end, kind);
     match kind {
         ASSIGN_UUID => {
             let uuid = u.uuid;
@@ -91,6 +97,14 @@ pub fn say_update(output: &mut Output, end: &mut usize, u: TableUpdate) {
         ADD_SNAPSHOT => say_snapshot(output, end, u.snapshot),
         SET_BRANCH_SNAPSHOT => say_commit(output, end, u),
         REMOVE_SNAPSHOTS => say_snapshot_ids(output, end, u.snapshot_ids),
+        _ => say_u8(output, end, kind),
+    }
+}
+
+// Kinds 7 to 13.
+fn say_late_kind(output: &mut Output, end: &mut usize, u: TableUpdate) {
+    let kind = u.kind;
+    match kind {
         SET_REF => say_reference(output, end, u.ref_name, u.reference),
         REMOVE_REF => say_ref_name(output, end, u.ref_name),
         ADD_SCHEMA => say_schema(output, end, u.schema),
@@ -99,6 +113,15 @@ pub fn say_update(output: &mut Output, end: &mut usize, u: TableUpdate) {
         ADD_SORT_ORDER => say_sort_order(output, end, u.sort_order),
         SET_DEFAULT_SORT_ORDER => say_sort_order_id(output, end, u.sort_order_id),
         _ => say_u8(output, end, kind),
+    }
+}
+
+pub fn say_update(output: &mut Output, end: &mut usize, u: TableUpdate) {
+    say_kind(output, end, u.kind);
+    if u.kind < SET_REF {
+        say_early_kind(output, end, u);
+    } else {
+        say_late_kind(output, end, u);
     }
 }
 

@@ -1,10 +1,8 @@
 // A run, answered again and again.
 use crate::Kept;
-use casefile::limit_text::LIMIT_TEXT;
-use casefile::limit_text::read_limit_text;
-use casefile::metadata::read_metadata;
-use casefile::run::read_terms;
-use casefile::update::read_updates;
+use casefile::run::Run;
+use casefile::run::read_run;
+use fitting::lent;
 use numbers::input::Input;
 use numbers::input::Place;
 use numbers::input::is_good;
@@ -12,27 +10,39 @@ use records::metadata::TableMetadata;
 use records::run::RunTerms;
 use records::update::UpdateList;
 
+fn run_once(m: TableMetadata, us: UpdateList, terms: RunTerms, limit: &[u8]) -> Kept {
+    let answer = register::run(m, us, terms, limit);
+    Kept {
+        number: answer.number,
+        count: answer.changes.count,
+    }
+}
+
 fn run_times(times: u64, m: TableMetadata, us: UpdateList, terms: RunTerms, limit: &[u8]) -> Kept {
-    let mut number: u8 = 0;
-    let mut count: usize = 0;
+    let mut kept = Kept {
+        number: 0,
+        count: 0,
+    };
     let mut left = times;
     while left > 0 {
-        let answer = register::run(m, us, terms, limit);
-        number = answer.number;
-        count = answer.changes.count;
+        kept = run_once(m, us, terms, limit);
         left -= 1;
     }
-    Kept { number, count }
+    kept
+}
+
+fn answer(times: u64, run: Run) -> Kept {
+    let text = run.limit;
+    let bytes = text.bytes;
+    let slots: &[u8] = &bytes;
+    let len = lent(slots, text.len);
+    run_times(times, run.metadata, run.updates, run.terms, &slots[..len])
 }
 
 pub fn run(times: u64, input: &mut Input, place: &mut Place) -> Kept {
-    let metadata = read_metadata(input, place);
-    let terms = read_terms(input, place);
-    let mut text = [0u8; LIMIT_TEXT];
-    let len = read_limit_text(input, place, &mut text);
-    let updates = read_updates(input, place);
+    let run = read_run(input, place);
     if is_good(place) {
-        return run_times(times, metadata, updates, terms, &text[..len]);
+        return answer(times, run);
     }
     Kept {
         number: 0,

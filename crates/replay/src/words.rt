@@ -1,22 +1,17 @@
-// Words, and what a part of metadata is called.
-ghost use Prim.Native.Nat.{_≤_};
-ghost use lib.ListN.{length};
+// The line that is answered.
+use compare::difference::Difference;
 use compare::part;
 use numbers::output::Output;
-use numbers::output::append;
-use numbers::output::make_room;
+use plaintext::number::say_count;
+use plaintext::reply::say_refused;
+use plaintext::text::say;
+use plaintext::text::say_line;
 use records::capacities;
-
-// No more bytes than there is room for.
-pub fn put_text(output: &mut Output, end: &mut usize, text: &[u8])
-    requires { ⌜ length (now text) ≤ 24 ⌝ }
-{
-    let at = make_room(output, *end);
-    *end = append(output, at, text);
-}
+use verdict::Verdict;
+use verdict::leads;
 
 // How many records a table has room for; 0 for a single field.
-pub fn slots_of(part: u8) -> usize {
+fn slots_of(part: u8) -> usize {
     match part {
         part::SNAPSHOTS => capacities::SNAPSHOTS,
         part::REFS => capacities::REFS,
@@ -28,23 +23,54 @@ pub fn slots_of(part: u8) -> usize {
     }
 }
 
-pub fn put_part(output: &mut Output, end: &mut usize, part: u8) {
-    match part {
-        part::FORMAT_VERSION => put_text(output, end, b"version"),
-        part::TABLE_UUID => put_text(output, end, b"uuid"),
-        part::LOCATION => put_text(output, end, b"location"),
-        part::LAST_UPDATED => put_text(output, end, b"last update"),
-        part::LAST_SEQUENCE_NUMBER => put_text(output, end, b"last sequence number"),
-        part::NEXT_ROW_ID => put_text(output, end, b"next row id"),
-        part::LAST_COLUMN_ID => put_text(output, end, b"last column id"),
-        part::CURRENT_SNAPSHOT => put_text(output, end, b"current snapshot"),
-        part::SNAPSHOTS => put_text(output, end, b"snapshots"),
-        part::REFS => put_text(output, end, b"refs"),
-        part::SNAPSHOT_LOG => put_text(output, end, b"snapshot log"),
-        part::METADATA_LOG => put_text(output, end, b"metadata log"),
-        part::SCHEMAS => put_text(output, end, b"schemas"),
-        part::CURRENT_SCHEMA => put_text(output, end, b"current schema id"),
-        part::SORT_ORDERS => put_text(output, end, b"sort orders"),
-        _ => put_text(output, end, b"default sort order id"),
+// A line for each part, in the order of their numbers.
+fn say_part(output: &mut Output, end: &mut usize, part: u8) {
+    let parts = b"nothing\n\
+        version\n\
+        uuid\n\
+        location\n\
+        last update\n\
+        last sequence number\n\
+        next row id\n\
+        last column id\n\
+        current snapshot\n\
+        snapshots\n\
+        refs\n\
+        snapshot log\n\
+        metadata log\n\
+        schemas\n\
+        current schema id\n\
+        sort orders\n\
+        default sort order id\n";
+    say_line(output, end, parts, part as usize);
+}
+
+// A table has a record's position, counted from 0 as places are, or the word `count`.
+fn say_place(output: &mut Output, end: &mut usize, place: usize, slots: usize) {
+    if place == slots {
+        say(output, end, b", count");
+    } else {
+        say(output, end, b", record ");
+        say_count(output, end, place);
     }
+}
+
+fn say_difference(output: &mut Output, end: &mut usize, difference: Difference) {
+    let slots = slots_of(difference.part);
+    say(output, end, b"differs: ");
+    say_part(output, end, difference.part);
+    if slots > 0 {
+        say_place(output, end, difference.place, slots);
+    }
+}
+
+pub fn say_verdict(output: &mut Output, end: &mut usize, verdict: Verdict) {
+    if leads(verdict) {
+        say(output, end, b"the log leads there");
+    } else if verdict.number != 0 {
+        say_refused(output, end, verdict.number, verdict.place);
+    } else {
+        say_difference(output, end, verdict.difference);
+    }
+    say(output, end, b"\n");
 }

@@ -1,4 +1,7 @@
 // What a session asks: the terms of its run, and its updates.
+use casefile::limit_text::LimitText;
+use casefile::run::Run;
+use fitting::lent;
 use leaves::limit::limit;
 use numbers::output::Output;
 use plaintext::name::say_file_name;
@@ -6,8 +9,23 @@ use plaintext::number::say_i64;
 use plaintext::number::say_u64;
 use plaintext::text::say;
 use plaintext::update::say_updates;
+use records::run::Answer;
 use records::run::RunTerms;
-use records::update::UpdateList;
+
+pub fn ask(run: Run) -> Answer {
+    let text = run.limit;
+    let bytes = text.bytes;
+    let slots: &[u8] = &bytes;
+    let len = lent(slots, text.len);
+    register::run(run.metadata, run.updates, run.terms, &slots[..len])
+}
+
+fn limit_of(text: LimitText) -> u64 {
+    let bytes = text.bytes;
+    let slots: &[u8] = &bytes;
+    let len = lent(slots, text.len);
+    limit(&slots[..len])
+}
 
 fn say_current_file(output: &mut Output, end: &mut usize, terms: RunTerms) {
     if terms.has_file {
@@ -17,19 +35,13 @@ fn say_current_file(output: &mut Output, end: &mut usize, terms: RunTerms) {
     }
 }
 
-pub fn say_asked(
-    output: &mut Output,
-    end: &mut usize,
-    us: UpdateList,
-    terms: RunTerms,
-    limit_text: &[u8],
-) {
+pub fn say_asked(output: &mut Output, end: &mut usize, run: Run) {
     say(output, end, b"this session asks\n  clock: ");
-    say_i64(output, end, terms.clock_ms.0);
+    say_i64(output, end, run.terms.clock_ms.0);
     say(output, end, b"\n  current metadata file: ");
-    say_current_file(output, end, terms);
+    say_current_file(output, end, run.terms);
     say(output, end, b"\n  limit of the metadata log: ");
-    say_u64(output, end, limit(limit_text));
+    say_u64(output, end, limit_of(run.limit));
     say(output, end, b"\n");
-    say_updates(output, end, b"updates", us);
+    say_updates(output, end, b"updates", run.updates);
 }

@@ -1,12 +1,10 @@
-// Reads one run in the case format from standard input (a case of kind 1, with nothing after it), runs it, and prints last session's
-// metadata, what is asked, and the answer, in plain words. Input that is cut short or holds what is no number of its field gets
-// `bad input` and nothing else.
+// Reads runs in the case format from standard input (cases of kind 1), runs each, and prints for each last session's metadata, what is
+// asked, and the answer, in plain words. A run that is cut short or holds what is no number of its field gets `bad input`, and nothing is
+// read after it.
+use casefile::case::end_answer;
 use casefile::case::read_case;
-use casefile::limit_text::LIMIT_TEXT;
-use casefile::limit_text::read_limit_text;
-use casefile::metadata::read_metadata;
-use casefile::run::read_terms;
-use casefile::update::read_updates;
+use casefile::run::Run;
+use casefile::run::read_run;
 use numbers::input::Input;
 use numbers::input::Place;
 use numbers::input::empty_input;
@@ -17,60 +15,72 @@ use numbers::output::Output;
 use numbers::output::empty_output;
 use numbers::output::flush;
 use plaintext::metadata::say_metadata;
+use plaintext::number::say_u64;
 use plaintext::text::say;
-use records::metadata::TableMetadata;
-use records::run::RunTerms;
-use records::update::UpdateList;
 
 mod answer;
 mod asked;
 
-const RUN: u64 = 1;
-
 // What read_case gives where no case follows.
 const NO_CASE: u64 = 0;
 
-fn expect_case(kind: u64, input: &mut Input, place: &mut Place) {
-    if read_case(input, place) != kind {
-        spoil(place);
-    }
+const RUN: u64 = 1;
+
+// A heading, and under it the run and its answer.
+fn say_run(output: &mut Output, end: &mut usize, number: u64, run: Run) {
+    say(output, end, b"run ");
+    say_u64(output, end, number);
+    say(output, end, b"\nlast session's metadata\n");
+    say_metadata(output, end, run.metadata);
+    asked::say_asked(output, end, run);
+    answer::say_answer(output, end, asked::ask(run));
 }
 
-fn say_run(
+// Nothing is said before the whole run is read, so that no part of its answer stands above `bad input`.
+fn read_and_say(
+    number: u64,
+    input: &mut Input,
+    place: &mut Place,
     output: &mut Output,
     end: &mut usize,
-    m: TableMetadata,
-    us: UpdateList,
-    terms: RunTerms,
-    limit: &[u8],
 ) {
-    say(output, end, b"last session's metadata\n");
-    say_metadata(output, end, m);
-    asked::say_asked(output, end, us, terms, limit);
-    answer::say_answer(output, end, register::run(m, us, terms, limit));
-}
-
-// Nothing is said before all is read, so that no part of an answer stands above `bad input`.
-fn read_and_say(input: &mut Input, place: &mut Place, output: &mut Output, end: &mut usize) {
-    expect_case(RUN, input, place);
-    let metadata = read_metadata(input, place);
-    let terms = read_terms(input, place);
-    let mut text = [0u8; LIMIT_TEXT];
-    let len = read_limit_text(input, place, &mut text);
-    let updates = read_updates(input, place);
-    expect_case(NO_CASE, input, place);
+    let run = read_run(input, place);
     if is_good(place) {
-        say_run(output, end, metadata, updates, terms, &text[..len]);
-    } else {
-        say(output, end, b"bad input\n");
+        say_run(output, end, number, run);
     }
 }
 
+// One run; whether there may be another.
+fn next(
+    number: u64,
+    input: &mut Input,
+    place: &mut Place,
+    output: &mut Output,
+    end: &mut usize,
+) -> bool {
+    let kind = read_case(input, place);
+    if kind == RUN {
+        read_and_say(number, input, place, output, end);
+    } else if kind != NO_CASE {
+        spoil(place);
+    }
+    if !is_good(place) {
+        say(output, end, b"bad input\n");
+        return false;
+    }
+    end_answer(place, output, end);
+    kind == RUN
+}
+
+// The runs are numbered from 1. The turns are counted since nothing says that an input ends; no run uses them up.
 fn main() {
     let mut input = empty_input();
     let mut place = start();
     let mut output = empty_output();
     let mut end: usize = 0;
-    read_and_say(&mut input, &mut place, &mut output, &mut end);
+    let mut number: u64 = 1;
+    while number < u64::MAX && next(number, &mut input, &mut place, &mut output, &mut end) {
+        number += 1;
+    }
     flush(&output, end);
 }

@@ -3,7 +3,7 @@ use Prim.Native.Nat.{_-_, _≤_}
 use mathlib.Core.Path.{_≡_}
 use borrow.Author.Needs.{needs}
 use lib.ListN.{length}
-use Rattle.casefile.proofs.Counted.{counted}
+use Rattle.fitting.proofs.Counted.{counted}
 use Rattle.casefile.proofs.limit_text.read_bytes.Statement.{statement}
 use Rattle.casefile.proofs.limit_text.read_bytes.Tie as tie
 

@@ -4,10 +4,10 @@ use Rattle.repeat.proofs.runs.run_times.Statement.{statement}
 use Rattle.repeat.proofs.runs.run_times.Tie as tie
 
 abbrev Inv-loop : tie.InvT-loop
-Inv-loop times m us terms limit number₀ count₀ left₀ number count left = Unit {0}
+Inv-loop times m us terms limit kept₀ left₀ kept left = Unit {0}
 
 abbrev μ-loop : tie.MeasureT-loop
-μ-loop times m us terms limit number₀ count₀ left₀ number count left = left
+μ-loop times m us terms limit kept₀ left₀ kept left = left
 
 pub run-times-spec : {M : Type 1} → statement M
 run-times-spec =

@@ -1,0 +1,3 @@
+-- What is true of the verdict.
+pub mod Exactly
+pub mod Unique

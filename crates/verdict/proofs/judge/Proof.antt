@@ -1,0 +1,31 @@
+-- The two ways that the run can go; what the run answers is put in place of the rules' answer.
+use mathlib.Core.Path.{_≡_, ap, _∙_}
+use borrow.Author.Needs.{needs}
+use borrow.Author.Tests.{eq-eqb, ne-eqb}
+use Rattle.records.specs.declared.metadata.TableMetadata.{TableMetadata}
+use Rattle.records.specs.declared.run.Answer.{Answer}
+use Rattle.compare.specs.Parts.{firstDifference, noDifference}
+use Rattle.verdict.specs.declared.Verdict.{Verdict}
+use Rattle.verdict.specs.Judged.{judged, verdict}
+use Rattle.verdict.proofs.judge.Statement.{statement}
+use Rattle.verdict.proofs.judge.Tie as tie
+
+module _ (a : Answer) (ending : TableMetadata) where
+  refused : (a .number ≡ 0 → ⊥) → record { number = a .number; place = a .place; difference = noDifference } ≡ judged a ending
+  unfolding judged
+  refused n = rw (ne-eqb (a .number) 0 n)
+
+  compared : a .number ≡ 0 → record { number = a .number; place = a .place; difference = firstDifference (a .metadata) ending } ≡ judged a ending
+  unfolding judged
+  compared z = rw (eq-eqb (a .number) 0 z)
+
+pub judge-spec : {M : Type 1} → statement M
+unfolding verdict
+judge-spec =
+    tie.close
+    (tie.spec
+    (λ c κs. search needs)
+    (λ c. let k = c .before .run in let ending = c .before .before .before .args .ending in refused (k .result) ending (c .if1 .taken) ∙ ap (λ (x : Answer). judged x ending) (k .ensures))
+    (λ c κs. search needs)
+    (λ c. let k = c .before .before .run in let ending = c .before .before .before .before .args .ending in
+    rw (c .first-difference .ensures) (compared (k .result) ending (c .before .if1 .left) ∙ ap (λ (x : Answer). judged x ending) (k .ensures))))

@@ -1,0 +1,2 @@
+-- What is said of a stored log.
+pub mod Judged
