@@ -22,7 +22,12 @@ pub struct Decision {
     pub entry: TableUpdate,
 }
 
-pub fn decided(number: u8, logs: bool, builder: TableMetadataBuilder, entry: TableUpdate) -> Decision
+pub fn decided(
+    number: u8,
+    logs: bool,
+    builder: TableMetadataBuilder,
+    entry: TableUpdate,
+) -> Decision
     ensures { λ r. ⌜ r ≡ record { number = number; logs = logs; grows = false; builder = builder; entry = entry } ⌝ }
 {
     Decision {

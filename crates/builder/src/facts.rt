@@ -8,8 +8,8 @@ ghost use Rattle.rules.specs.Layout.{given, pad, readSnapshots, readSnapshotLog
 ghost use Rattle.tables.specs.Places.{indexOf};
 ghost use Rattle.tables.specs.Laid.{LaidSnapshots, LaidSnapshotLog};
 ghost use Rattle.builder.specs.Pieces.{idsOf, isAbove, lastTime};
-use records::capacities::SNAPSHOTS;
 use records::capacities::SNAPSHOT_LOG;
+use records::capacities::SNAPSHOTS;
 use records::counters::Time;
 use records::snapshot::SnapshotLog;
 use records::snapshot::Snapshots;

@@ -1,15 +1,17 @@
 -- An addition of a snapshot, by itself or as the first half of a branch commit, decided: a refusal, or one snapshot and one entry more.
 use Prim.Native.Nat.{ℕ, _+_, _-_, _≤_, _<_}
 use native.Mathlib.Omega.{arith}
-use mathlib.Core.Path.{_≡_, refl, sym, ap, _∙_}
-use mathlib.Core.Bool.{Bool, true, false, cond, true≢false, false≢true}
+use mathlib.Core.Path.{_≡_, refl, sym, ap, subst, _∙_}
+use mathlib.Core.Bool.{Bool, true, false, cond, _&&_, _||_, true≢false}
 use mathlib.Core.List.{List, [], _∷_, _++_, map-append}
 use lib.Dec.{eqb}
 use lib.IntN.{ℤ, pos}
 use lib.ListN.{length, drop, take, set, length-map}
+use borrow.Author.Tests.{eqb-true}
 use borrow.Table.Steps.{cases}
 use Rattle.records.specs.declared.snapshot.Snapshot.{Snapshot}
 use Rattle.records.specs.declared.snapshot.Snapshots.{Snapshots}
+use Rattle.records.specs.declared.update.TableUpdate.{TableUpdate}
 use Rattle.rules.specs.Words.{firstOf, put}
 use Rattle.rules.specs.Replies.{commitOnTag}
 use Rattle.rules.specs.Register as plain
@@ -20,9 +22,9 @@ use Rattle.rules.specs.SnapshotUpdates.{addSnapshotChecks, addSnapshot}
 use Rattle.rules.specs.RefUpdates.{isTag, committed, setRefChecks, setRef, setBranchSnapshotChecks, setBranchSnapshot}
 use Rattle.rules.specs.Updates.{checks, effect}
 use Rattle.rules.specs.Run.{weight}
-use Rattle.rules.specs.Layout.{pad, readSnapshot, laidSnapshot, readSnapshots, laidSnapshots}
-use Rattle.rules.specs.Kinds.{readUpdates}
-use Rattle.rules.proofs.Checks.{and-right, first-before, first-after}
+use Rattle.rules.specs.Layout.{pad, readSnapshot, laidSnapshot, readSnapshots, laidSnapshots, readRefs}
+use Rattle.rules.specs.Kinds.{readUpdate, readUpdates}
+use Rattle.rules.proofs.Checks.{and-right, by-either, first-before, first-after}
 use Rattle.rules.proofs.Reread.{reread-snapshots}
 use Rattle.rules.proofs.Tables.{put-length}
 use Rattle.rules.proofs.SoundSnapshots.{add-room, add-new, add-snapshot-numbered, add-snapshot-sound}
@@ -34,12 +36,13 @@ use Rattle.builder.specs.Pieces.{laidBuilder, idsOf, isAbove}
 use Rattle.snapshot_updates.specs.Snapshots.{SnapshotDecided}
 use Rattle.snapshot_updates.proofs.Last.{put-last}
 use Rattle.ref_updates.specs.Refs.{askedRef}
+use Rattle.start.proofs.Reading.{read-4, read-5}
 use Rattle.laws.specs.Standing.{Given, termsOf, Held, Pieces, withBuilder, withAddition, stored, Tables, Represents, Standing}
 use Rattle.laws.specs.Turns.{updateAt, nameAt, RefusedWith, Midway, Stands, Decided}
 use Rattle.laws.proofs.Effects.{Moves, add-moves}
 use Rattle.laws.proofs.Logged.{one-more, push-addition}
-use Rattle.laws.proofs.Moving.{fits, next, check-refused, accepted}
-use Rattle.laws.proofs.Beginning.{read-snapshots, laid-snapshots, snapshots-ascend}
+use Rattle.laws.proofs.Moving.{listed, fits, next, check-refused, accepted}
+use Rattle.laws.proofs.Beginning.{read-snapshots, read-refs, laid-snapshots, snapshots-ascend}
 use Rattle.laws.proofs.Closed.{held-ids, held-count}
 use Rattle.laws.proofs.Deciding.{whole, entry-room}
 use Rattle.laws.proofs.Removing.{laid-of}
@@ -122,13 +125,13 @@ module _ {g : Given} {i : ℕ} {p : Pieces} (S : Standing g i p) (v : Update) (a
           stays = λ y f. absurd (true≢false (sym (D .logs) ∙ f));
         }
 
-  module _ (w : v ≡ SetBranchSnapshot (nameAt g i) x) (u : x ≡ readSnapshot (updateAt g i .snapshot)) (five : updateAt g i .kind ≡ 5) {d : Decision} {t : Bool} (tag : t ≡ isTag (nameAt g i) (S .state .metadata .refs)) (D : SnapshotDecided t x (S .state) d) where
+  module _ (w : v ≡ SetBranchSnapshot (nameAt g i) x) (u : x ≡ readSnapshot (updateAt g i .snapshot)) (five : updateAt g i .kind ≡ 5) (f : updateFormed (readUpdate (updateAt g i)) ≡ true) {d : Decision} {t : Bool} (tag : t ≡ isTag (nameAt g i) (S .state .metadata .refs)) (D : SnapshotDecided t x (S .state) d) where
     pub commit-refused : (half : Bool) → (d .number ≡ 0 → ⊥) → Decided g i half p d
     unfolding checks setBranchSnapshotChecks
     commit-refused half z =
         refused-decided half (
-          D .number
-          ∙ rw (w, ← tag) (cases t (λ y. rw y) (λ f. rw f (sym (first-before (addSnapshotChecks x (S .state)) _ (λ k. z (D .number ∙ rw f k))))))
+        D .number
+        ∙ rw (w, ← tag) (cases t (λ y. rw y) (λ f. rw f (sym (first-before (addSnapshotChecks x (S .state)) _ (λ k. z (D .number ∙ rw f k))))))
         ) z
 
     module _ (z : d .number ≡ 0) where
@@ -174,6 +177,37 @@ module _ {g : Given} {i : ℕ} {p : Pieces} (S : Standing g i p) (v : Update) (a
           record {
             refuses = λ y. absurd (y z);
             room = λ y. entry-room S v at one;
-            logs = λ y k. record { whole = λ f. absurd (true≢false f); midway = λ f. midway a b c; commit = λ f. five };
+            logs = λ y k. record { whole = λ f. absurd (true≢false f); midway = λ _. midway a b c; commit = λ _. (five, listed g i at, f) };
             stays = λ y f. absurd (true≢false (sym (D .logs) ∙ f));
           }
+
+-- ---- either of the two, of the update at a place
+
+module _ {g : Given} {i : ℕ} {p : Pieces} (S : Standing g i p) (at : drop i (readUpdates (g .updates)) ≡ readUpdate (updateAt g i) ∷ drop (i + 1) (readUpdates (g .updates))) (one : 1 ≤ weight (readUpdate (updateAt g i))) (e : updateFormed (readUpdate (updateAt g i)) ≡ true)
+    (k : (eqb (updateAt g i .kind) 4 || eqb (updateAt g i .kind) 5) ≡ true) {t : Bool} (tag : t ≡ (eqb (updateAt g i .kind) 5 && isTag (nameAt g i) (readRefs (p .held .refs)))) {d : Decision} (D : SnapshotDecided t (readSnapshot (updateAt g i .snapshot)) (S .state) d) where
+  abbrev u : TableUpdate
+  u = updateAt g i
+
+  by-itself : u .kind ≡ 4 → SnapshotDecided false (readSnapshot (u .snapshot)) (S .state) d
+  by-itself q = subst (λ (x : Bool). SnapshotDecided x (readSnapshot (u .snapshot)) (S .state) d) (tag ∙ rw q) D
+
+  tagged : u .kind ≡ 5 → t ≡ isTag (nameAt g i) (S .state .metadata .refs)
+  tagged q = tag ∙ rw (q, read-refs (S .stands))
+
+  pub add-refused : (half : Bool) → (d .number ≡ 0 → ⊥) → Decided g i half p d
+  add-refused half z =
+      by-either (eqb (u .kind) 4) (eqb (u .kind) 5)
+      (λ a. let q = eqb-true (u .kind) 4 a in addition-refused S (readUpdate u) at one e (readSnapshot (u .snapshot)) (read-4 u e q) (by-itself q) half z)
+      (λ a. let q = eqb-true (u .kind) 5 a in commit-refused S (readUpdate u) at one e (readSnapshot (u .snapshot)) (read-5 u e q) refl q e (tagged q) D half z)
+      k
+
+  -- its checks pass where it is decided with 0
+  pub adds-fine : d .number ≡ 0 → firstOf (addSnapshotChecks (readSnapshot (u .snapshot)) (S .state)) ≡ 0
+  adds-fine z = untagged t (firstOf (addSnapshotChecks (readSnapshot (u .snapshot)) (S .state))) (sym (D .number) ∙ z) .1
+
+  pub add-decided : d .number ≡ 0 → {s : Snapshots} {is : List ℤ} {id : ℤ} → s ≡ laidSnapshots (put snapshotBelow (readSnapshot (u .snapshot)) (S .state .metadata .snapshots)) → is ≡ pad 64 (pos 0) (idsOf (put snapshotBelow (readSnapshot (u .snapshot)) (S .state .metadata .snapshots))) → id ≡ u .snapshot .«snapshot_id» .0 → Decided g i (eqb (u .kind) 5) (grown s is id p) d
+  add-decided z a b c =
+      by-either (eqb (u .kind) 4) (eqb (u .kind) 5)
+      (λ y. let q = eqb-true (u .kind) 4 y in rw q (addition-decided S (readUpdate u) at one e (readSnapshot (u .snapshot)) (read-4 u e q) (by-itself q) z a b c))
+      (λ y. let q = eqb-true (u .kind) 5 y in rw q (commit-decided S (readUpdate u) at one e (readSnapshot (u .snapshot)) (read-5 u e q) refl q e (tagged q) D z a b c))
+      k

@@ -31,7 +31,7 @@ use Rattle.builder.specs.declared.builder.TableMetadataBuilder.{TableMetadataBu
 use Rattle.builder.specs.Pieces.{fresh, laidBuilder, idsOf, lastTime}
 use Rattle.close.specs.Facts.{additions}
 use Rattle.start.specs.Start.{startNumber}
-use Rattle.start.proofs.Started.{Starts, starts, file-short}
+use Rattle.start.proofs.Started.{Starts, starts, file-short, sum-counts}
 use Rattle.laws.specs.Standing.{Given, Pieces, Represents, Standing}
 
 module _ (g : Given) (z : startNumber (g .metadata) (g .updates) (g .terms) ≡ 0) where
@@ -44,6 +44,13 @@ module _ (g : Given) (z : startNumber (g .metadata) (g .updates) (g .terms) ≡ 
   pub start-snapshots : LaidSnapshots (g .metadata .snapshots)
   unfolding snapshotsFormed laidMetadata
   start-snapshots = record { back = ap (λ (x : TableMetadata). x .snapshots) back; fits = table-parts snapshotRoom snapshotFormed snapshotBelow (readSnapshots (g .metadata .snapshots)) (formed-sound (readMetadata (g .metadata)) (start .formed) .snapshots) .0 }
+
+  pub start-log : LaidSnapshotLog (g .metadata .«snapshot_log»)
+  unfolding snapshotLogFormed laidMetadata
+  start-log = record { back = ap (λ (x : TableMetadata). x .«snapshot_log») back; fits = log-fits snapshotLogRoom (λ (e : plain.LogEntry). nonNeg (e .snapshot)) (readSnapshotLog (g .metadata .«snapshot_log»)) (formed-sound (readMetadata (g .metadata)) (start .formed) .snapshotLog) }
+
+  pub start-short : g .updates .count ≤ 64
+  start-short = omega (arith, start .sum, sum-counts (g .updates))
 
   pub standing-start : {b : TableMetadataBuilder} {is : List ℤ} {last : Time} {e : TableUpdate} → b ≡ fresh (g .metadata .fields) → is ≡ pad 64 (pos 0) (idsOf (readSnapshots (g .metadata .snapshots))) → given (ltb 0 (g .metadata .«snapshot_log» .count)) (last .0) ≡ lastTime (readSnapshotLog (g .metadata .«snapshot_log»)) → e ≡ noUpdate
       → Standing g 0 (record {

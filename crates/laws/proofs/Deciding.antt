@@ -121,17 +121,17 @@ none-passes q [] e = refl
 none-passes q (x ∷ l) e = cases (q x) (λ t. absurd (true≢false (rw t at e))) (λ f. rw f (ap (λ (y : List _). x ∷ y) (none-passes q l (rw f at e))))
 
 module _ {g : Given} {st : State} {p : Pieces} (E : Represents g st p) where
-  pub refs-left : (name : List ℕ) {r : Refs} → r ≡ laidRefs (keep (λ x. not (hasName name x)) (readRefs (p .held .refs))) → r ≡ laidRefs (removeRef name st .metadata .refs)
-  unfolding removeRef
-  refs-left name q =
-      q ∙ rw (read-refs E) (ap laidRefs
+  pub refs-left : (v : Update) (name : List ℕ) → v ≡ RemoveRef name → {r : Refs} → r ≡ laidRefs (keep (λ x. not (hasName name x)) (readRefs (p .held .refs))) → r ≡ laidRefs (effect (termsOf g) v st .metadata .refs)
+  unfolding effect removeRef
+  refs-left v name w q =
+      q ∙ rw (read-refs E, w) (ap laidRefs
       (by-test (λ (s : State). keep (λ x. not (hasName name x)) (st .metadata .refs) ≡ s .metadata .refs) (isMain name) (λ t. refl)
       (λ f. by-test (λ (s : State). keep (λ x. not (hasName name x)) (st .metadata .refs) ≡ s .metadata .refs) (isSome (refNamed name (st .metadata .refs))) (λ t. refl) (λ u. none-passes (hasName name) (st .metadata .refs) u))))
 
-  pub schemas-left : (ids : List ℤ) {s : Schemas} → s ≡ laidSchemas (keep (λ (x : plain.Schema). not (isIn ids (x .id))) (readSchemas (p .held .schemas))) → s ≡ laidSchemas (removeSchemas ids st .metadata .schemas)
-  unfolding removeSchemas
-  schemas-left ids q =
-      q ∙ rw (read-schemas E) (ap laidSchemas
+  pub schemas-left : (v : Update) (ids : List ℤ) → v ≡ RemoveSchemas ids → {s : Schemas} → s ≡ laidSchemas (keep (λ (x : plain.Schema). not (isIn ids (x .id))) (readSchemas (p .held .schemas))) → s ≡ laidSchemas (effect (termsOf g) v st .metadata .schemas)
+  unfolding effect removeSchemas
+  schemas-left v ids w q =
+      q ∙ rw (read-schemas E, w) (ap laidSchemas
       (by-test (λ (s : State). keep (λ (x : plain.Schema). not (isIn ids (x .id))) (st .metadata .schemas) ≡ s .metadata .schemas) (isEmpty ids) (λ t. keep-all (λ (x : plain.Schema). not (isIn ids (x .id))) (st .metadata .schemas) (λ x. none-in ids (x .id) t)) (λ f. refl)))
     where
       none-in : (l : List ℤ) (x : ℤ) → isEmpty l ≡ true → not (isIn l x) ≡ true

@@ -1,6 +1,6 @@
 -- The laws of the run's loop, in the order in which one rests on another.
 mod Slots
-mod Effects
+pub mod Effects
 mod Logged
 pub mod Beginning
 pub mod Closed
@@ -10,3 +10,4 @@ pub mod Removing
 pub mod Adding
 pub mod Setting
 pub mod Taken
+pub mod Turning

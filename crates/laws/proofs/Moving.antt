@@ -1,12 +1,14 @@
 -- One update more: where it is accepted the pieces are those of the next state, where it is refused the answer is known.
-use Prim.Native.Nat.{ℕ, _+_, _≤_}
+use Prim.Native.Nat.{ℕ, suc, _+_, _≤_, _<_}
 use native.Mathlib.Omega.{arith}
 use native.Mathlib.Numerals.{add-one}
 use mathlib.Core.Path.{_≡_, sym, ap, _∙_}
 use mathlib.Core.Bool.{true, false}
 use mathlib.Core.List.{List, _∷_}
 use lib.ListN.{length, drop}
-use borrow.Author.Tests.{eq-eqb, ne-eqb}
+use borrow.Author.Tests.{eq-eqb, ne-eqb, ltb-true, ltb-false}
+use borrow.Table.Steps.{cases}
+use lib.Dec.{ltb}
 use Rattle.rules.specs.Words.{total, firstOf}
 use Rattle.rules.specs.Register.{Update}
 use Rattle.rules.specs.WellFormed.{updateFormed}
@@ -23,6 +25,10 @@ use Rattle.start.proofs.Reading.{all-read, read-length}
 use Rattle.laws.specs.Standing.{Given, answerOf, termsOf, Pieces, Tables, Logs, Standing}
 use Rattle.laws.specs.Turns.{RefusedWith}
 use Rattle.laws.proofs.Effects.{Moves, moves}
+
+-- there is an update at the place
+pub listed : (g : Given) (i : ℕ) {v : Update} → drop i (readUpdates (g .updates)) ≡ v ∷ drop (i + 1) (readUpdates (g .updates)) → i < g .updates .count
+listed g i at = cases (ltb i (g .updates .count)) (λ t. ltb-true i (g .updates .count) t) (λ f. absurd (let z : _≡_ {A = ℕ} 0 (suc (length (drop (i + 1) (readUpdates (g .updates))))) = ap length (sym (all-read (g .updates) i (ltb-false i (g .updates .count) f)) ∙ at) in omega arith))
 
 module _ {g : Given} {i : ℕ} {p : Pieces} (S : Standing g i p) (v : Update) (at : drop i (readUpdates (g .updates)) ≡ v ∷ drop (i + 1) (readUpdates (g .updates))) where
   -- its entries have room

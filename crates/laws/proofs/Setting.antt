@@ -1,14 +1,14 @@
 -- A ref that is set, by itself or as the second half of a branch commit, decided: a refusal, nothing, or one ref and one entry more.
 use Prim.Native.Nat.{ℕ, _+_, _≤_, _<_}
 use native.Mathlib.Omega.{arith}
-use mathlib.Core.Path.{_≡_, refl, sym, ap, _∙_}
+use mathlib.Core.Path.{_≡_, refl, sym, ap, subst, _∙_}
 use mathlib.Core.Bool.{Bool, true, false, cond, not, _&&_, true≢false, false≢true}
 use mathlib.Core.List.{List, [], _∷_, _++_}
 use mathlib.Core.Option.{none, some}
-use lib.Dec.{ltb, eqb}
+use lib.Dec.{leb, ltb, eqb}
 use lib.IntN.{ℤ}
 use lib.ListN.{length, drop, take, set, getD}
-use borrow.Author.Tests.{ltb-true, lt-ltb, not-true, not-false, eq-eqb, eqb-true}
+use borrow.Author.Tests.{leb-false, ltb-true, lt-ltb, not-true, not-false, eq-eqb, eqb-true}
 use borrow.Table.Steps.{cases}
 use Rattle.records.specs.declared.counters.Time.{Time}
 use Rattle.records.specs.declared.snapshot.Snapshot.{Snapshot}
@@ -16,28 +16,31 @@ use Rattle.records.specs.declared.snapshot.SnapshotLog.{SnapshotLog}
 use Rattle.records.specs.declared.snapshot.SnapshotLogEntry.{SnapshotLogEntry}
 use Rattle.records.specs.declared.reference.Refs.{Refs}
 use Rattle.records.specs.declared.update.TableUpdate.{TableUpdate}
-use Rattle.rules.specs.Words.{eqZ, firstOf, put, orElse, lastOf}
+use Rattle.rules.specs.Words.{eqZ, isSome, firstOf, put, orElse, lastOf}
+use Rattle.rules.specs.Replies.{snapshotNotHeld, tableFull}
+use Rattle.rules.specs.Capacities.{refRoom, snapshotLogRoom}
 use Rattle.rules.specs.Names.{isMain}
 use Rattle.rules.specs.Register as plain
 use Rattle.rules.specs.Register.{Update, State, withOwn, logged}
 use Rattle.rules.specs.Register.Update.{SetRef}
 use Rattle.rules.specs.WellFormed.{updateFormed, refBelow, hasSnapshot, holdsSnapshot}
 use Rattle.rules.specs.ChangeLog.{logsAddition}
-use Rattle.rules.specs.RefUpdates.{isHeldRef, setRefChecks, setRef, putRef, asMain, timeOf, ownAfter}
+use Rattle.rules.specs.RefUpdates.{refNamed, isHeldRef, setRefChecks, setRef, putRef, asMain, timeOf, ownAfter}
 use Rattle.rules.specs.Updates.{checks, effect}
 use Rattle.rules.specs.Run.{weight}
 use Rattle.rules.specs.Layout.{given, readRefName, laidRefName, readReference, laidReference, readRefs, laidRefs, readSnapshot, readSnapshots, laidLogEntry, laidSnapshotLog}
 use Rattle.rules.specs.Kinds.{readUpdates, laidUpdate}
-use Rattle.rules.proofs.Checks.{and-left, and-right}
+use Rattle.rules.proofs.Checks.{and-left, and-right, passed-unless}
 use Rattle.rules.proofs.Reread.{reread-ref-name, reread-reference}
 use Rattle.tables.specs.Places.{indexOf}
 use Rattle.tables.proofs.Table.{at, read-length}
 use Rattle.tables.proofs.Each.{tidy-snapshots, tidy-snapshot-log, made-snapshot-log}
 use Rattle.tables.proofs.Push.{pushed-one}
+use Rattle.builder.specs.declared.builder.TableMetadataBuilder.{TableMetadataBuilder}
 use Rattle.builder.specs.declared.decision.Decision.{Decision}
 use Rattle.builder.specs.Pieces.{laidBuilder, lastTime}
 use Rattle.builder.proofs.Positions.{found, first-at, snapshot-place, snapshot-found, last-at}
-use Rattle.ref_updates.specs.Refs.{askedRef, Faced, RefSet}
+use Rattle.ref_updates.specs.Refs.{askedRef, Faced, RefSet, RefDecided}
 use Rattle.close.specs.Facts.{additions}
 use Rattle.laws.specs.Standing.{Given, termsOf, Held, Pieces, withMain, stored, Represents, Standing}
 use Rattle.laws.specs.Turns.{updateAt, nameAt, Midway, Decided}
@@ -108,6 +111,12 @@ set-midway {g} {i} S v at one e q k =
 
 -- ---- the decision
 
+-- what a decision of the update at a place says of the ref that is wanted
+pub set-decides : {g : Given} {i : ℕ} {p : Pieces} (W : Midway g i p) {b : TableMetadataBuilder} {t : Refs} {held isAdded : Bool} {time : Time} {entries : ℕ} {clock : Time} {d : Decision} → RefDecided b t held isAdded time entries clock (updateAt g i) d → Faced (termsOf g) (W .state) (W .wanted) b t held isAdded time entries clock → RefSet (termsOf g) (W .state) (nameAt g i) (W .wanted) d
+set-decides {g} {i} W {b} {t} {held} {isAdded} {time} {entries} {clock} {d} R F =
+    subst (λ (w : plain.Reference). RefSet (termsOf g) (W .state) (nameAt g i) w d) (sym (W .asks))
+    (R .answers (termsOf g) (W .state) (subst (λ (w : plain.Reference). Faced (termsOf g) (W .state) w b t held isAdded time entries clock) (W .asks) F))
+
 -- the pieces after `main` was set
 abbrev pub mained : Refs → SnapshotLog → Time → ℤ → Pieces → Pieces
 mained r h last id p =
@@ -125,6 +134,16 @@ module _ {g : Given} {i : ℕ} {p : Pieces} (W : Midway g i p) {d : Decision} (D
 
   room : p .changes .count < 64
   room = omega (arith, W .more, W .stands .logs .count)
+
+  -- the snapshot log has room for the entry of `main`
+  pub main-room : d .grows ≡ true → isMain name ≡ true → p .held .log .count < 128
+  unfolding setRefChecks
+  main-room t m =
+      let a = sym (D .grows) ∙ t in
+      let z : d .number ≡ 0 = eqb-true (d .number) 0 (and-right (d .logs) (eqb (d .number) 0) a) in
+      let y = not-true (isHeldRef name w (W .state .metadata .refs)) (sym (D .logs) ∙ and-left (d .logs) (eqb (d .number) 0) a) in
+      let k = passed-unless (isHeldRef name w (W .state .metadata .refs)) ((not (holdsSnapshot (W .state .metadata .snapshots) (w .snapshot)), snapshotNotHeld) ∷ (not (isSome (refNamed name (W .state .metadata .refs))) && leb refRoom (length (W .state .metadata .refs)), tableFull) ∷ (isMain name && leb snapshotLogRoom (length (W .state .metadata .snapshotLog)), tableFull) ∷ []) refl y (sym (D .number) ∙ z) in
+      omega (arith, log-long (W .stands), leb-false snapshotLogRoom (length (W .state .metadata .snapshotLog)) (rw m at (k .1 .1 .0)))
 
   fine : d .number ≡ 0 → firstOf (setRefChecks name w (W .state)) ≡ 0
   fine z = sym (D .number) ∙ z

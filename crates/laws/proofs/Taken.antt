@@ -25,8 +25,9 @@ use Rattle.rules.specs.Layout.{readRefName, laidRefName, readSnapshot, laidSnap
 use Rattle.rules.specs.Kinds.{readUpdate, isUnusedBlank, isUsedTidy, laidUpdate, withSnapshotIds, withRefName}
 use Rattle.rules.proofs.Checks.{Hold, parts, and-left, and-right}
 use Rattle.rules.proofs.Relaid.{fields-back, back-ref-name, back-snapshot, back-reference, zeroZ}
-use Rattle.tables.specs.Laid.{LaidName, LaidSnapshotIds, LaidSnapshots}
-use Rattle.start.proofs.Reading.{formed-tidy, read-5, read-6, read-7, read-8}
+use Rattle.tables.specs.Laid.{LaidName, LaidSnapshotIds, LaidSchemaIds}
+use Rattle.start.proofs.Reading.{formed-tidy, read-5, read-6, read-7, read-8, read-11}
+use Rattle.builder.proofs.Given.{given-schema-ids}
 
 blank-id : (x : SnapshotId) → isBlankSnapshotId x ≡ true → x ≡ noSnapshotId
 blank-id x e = λ i. record { 0 = zeroZ (x .0) e i }
@@ -70,3 +71,7 @@ module _ (u : TableUpdate) (f : updateFormed (readUpdate u) ≡ true) where
   pub name-8 : u .kind ≡ 8 → LaidName (u .«ref_name»)
   unfolding updateFormed
   name-8 k = name-laid (u .«ref_name») (used .1 .1 .1 .0) (rw (read-8 u f k) at f)
+
+  pub schema-ids-laid : u .kind ≡ 11 → LaidSchemaIds (u .«schema_ids»)
+  unfolding updateFormed
+  schema-ids-laid k = given-schema-ids u (formed-tidy u f) (rw (read-11 u f k) at f)

@@ -10,9 +10,10 @@ use Rattle.records.specs.declared.update.TableUpdate.{TableUpdate}
 use Rattle.rules.specs.Words.{firstOf}
 use Rattle.rules.specs.Register.{State, Reference}
 use Rattle.rules.specs.Register.Outcome.{Refused}
+use Rattle.rules.specs.WellFormed.{updateFormed}
 use Rattle.rules.specs.RefUpdates.{setRefChecks, setRef}
 use Rattle.rules.specs.Layout.{readRefName}
-use Rattle.rules.specs.Kinds.{setBranchSnapshotKind}
+use Rattle.rules.specs.Kinds.{setBranchSnapshotKind, readUpdate}
 use Rattle.rules.specs.Answer.{laidOutcome}
 use Rattle.builder.specs.declared.decision.Decision.{Decision}
 use Rattle.ref_updates.specs.Refs.{askedRef}
@@ -47,7 +48,7 @@ pub record Midway (g : Given) (i : ℕ) (p : Pieces) : Type 0 where
 pub record Stands (g : Given) (i : ℕ) (half : Bool) (p : Pieces) : Type 0 where
   pub whole : half ≡ false → Standing g i p
   pub midway : half ≡ true → Midway g i p
-  pub commit : half ≡ true → updateAt g i .kind ≡ setBranchSnapshotKind
+  pub commit : half ≡ true → (updateAt g i .kind ≡ setBranchSnapshotKind) × (i < g .updates .count) × (updateFormed (readUpdate (updateAt g i)) ≡ true)
 
 -- before a turn that stores: what comes of the decision, and whether it is of the first half of a branch commit
 pub record Decided (g : Given) (i : ℕ) (half : Bool) (p : Pieces) (d : Decision) : Type 0 where
@@ -59,6 +60,7 @@ pub record Decided (g : Given) (i : ℕ) (half : Bool) (p : Pieces) (d : Decisio
 -- before any turn
 pub record Turn (g : Given) (number place : ℕ) (decided half : Bool) (p : Pieces) (d : Decision) : Type 0 where
   pub within : place ≤ g .updates .count
+  pub short : number ≡ 0 → g .updates .count ≤ 64
   pub refused : (number ≡ 0 → ⊥) → RefusedWith g number place
   pub stands : number ≡ 0 → decided ≡ false → Stands g place half p
   pub waits : number ≡ 0 → decided ≡ true → (place < g .updates .count) × Decided g place half p d

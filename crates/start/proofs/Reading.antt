@@ -62,6 +62,9 @@ module _ (u : TableUpdate) (f : updateFormed (readUpdate u) ≡ true) where
   pub read-8 : u .kind ≡ 8 → readUpdate u ≡ RemoveRef (readRefName (u .«ref_name»))
   read-8 e = read-tidy u (formed-tidy u f) ∙ rw e
 
+  pub read-11 : u .kind ≡ 11 → readUpdate u ≡ RemoveSchemas (readSchemaIds (u .«schema_ids»))
+  read-11 e = read-tidy u (formed-tidy u f) ∙ rw e
+
   -- its form by its kind alone
   pub formed-kind : updateFormed (readKind u) ≡ true
   formed-kind = rw (read-tidy u (formed-tidy u f)) at f

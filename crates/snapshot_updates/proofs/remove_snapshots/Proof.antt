@@ -27,12 +27,12 @@ returns c st p q =
     let l : readSnapshots (s .args .t) ≡ st .metadata .snapshots = ap (λ (t : Snapshots). readSnapshots t) q ∙ reread-snapshots (st .metadata .snapshots) in
     let held : h .held .result ≡ laidSnapshotIds (heldSnapshots asked (st .metadata .snapshots)) = h .held .ensures ∙ ap (λ (x : List Snapshot). laidSnapshotIds (heldSnapshots asked x)) l in
     rw (c .decided .ensures) (
-      record {
-        number = refl;
-        logs = rw held (some-counted (heldSnapshots asked (st .metadata .snapshots)) _ refl);
-        builder = p;
-        entry = ap (withSnapshotIds (h .held .result)) (of-kind u (long s) (s .pre .1 .1 .1 .0) 6 (s .pre .1 .1 .1 .1)) ∙ rw held;
-      }
+    record {
+      number = refl;
+      logs = rw held (some-counted (heldSnapshots asked (st .metadata .snapshots)) _ refl);
+      builder = p;
+      entry = ap (withSnapshotIds (h .held .result)) (of-kind u (long s) (s .pre .1 .1 .1 .0) 6 (s .pre .1 .1 .1 .1)) ∙ rw held;
+    }
     )
 
 pub remove-snapshots-spec : {M : Type 1} → statement M

@@ -44,8 +44,7 @@ ids-of-spec =
     (λ c. below (c .before .before .before))
     (λ c. omega (arith, below (c .before .before .before)))
     (λ c. omega (arith, counted (c .before .before .before)))
-    (λ c. let l = c .before .before .before .before in
-    (
+    (λ c. let l = c .before .before .before .before in (
       omega (arith, below (c .before .before .before)),
       λ h. (
         omega (arith, counted (c .before .before .before)),
