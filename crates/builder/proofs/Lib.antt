@@ -8,5 +8,6 @@ pub mod NewIds
 pub mod Steps
 pub mod Entries
 pub mod Given
+pub mod Halves
 pub mod Positions
 pub mod State

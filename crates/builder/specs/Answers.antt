@@ -7,7 +7,9 @@ use Rattle.records.specs.declared.update.TableUpdate.{TableUpdate}
 use Rattle.rules.specs.Words.{firstOf, Check}
 use Rattle.rules.specs.Register.{Update, Terms, State}
 use Rattle.rules.specs.Updates.{checks, effect}
+use Rattle.rules.specs.Kinds.{readUpdate}
 use Rattle.builder.specs.declared.builder.TableMetadataBuilder.{TableMetadataBuilder}
+use Rattle.builder.specs.declared.decision.Decision.{Decision}
 use Rattle.builder.specs.Pieces.{Stepped}
 
 -- the number is that of the first check that fails; where none does, the update took effect and was logged, or nothing changed
@@ -17,3 +19,7 @@ Answers checks st st′ number logs b entry = (number ≡ firstOf checks) × (nu
 -- the same of an update: its checks, and its effect
 abbrev pub AnswersUpdate : Terms → Update → State → ℕ → Bool → TableMetadataBuilder → TableUpdate → Type 0
 AnswersUpdate terms u st number logs b entry = Answers (checks u st) st (effect terms u st) number logs b entry
+
+-- a decision is right for an update of a list, in a state
+abbrev pub Decides : Terms → TableUpdate → State → Decision → Type 0
+Decides terms u st d = AnswersUpdate terms (readUpdate u) st (d .number) (d .logs) (d .builder) (d .entry)

@@ -3,4 +3,5 @@
 // Document 01, "Rules for each update", as the crate `rules` writes it in the files named for the updates.
 pub mod builder;
 pub mod checks;
+pub mod decision;
 pub mod facts;

@@ -18,10 +18,10 @@ use Rattle.rules.specs.Layout.{given, laidSchemas, readSortOrder, readSortOrder
 use Rattle.rules.specs.Kinds.{readUpdate, ofKind, withSortOrder, addSortOrderKind}
 use Rattle.tables.specs.Laid.{LaidOrder}
 use Rattle.builder.specs.declared.builder.TableMetadataBuilder.{TableMetadataBuilder}
+use Rattle.builder.specs.declared.decision.Decision.{Decision}
 use Rattle.builder.specs.Pieces.{laidBuilder}
-use Rattle.builder.specs.Answers.{Answers, AnswersUpdate}
+use Rattle.builder.specs.Answers.{Answers, Decides}
 use Rattle.order_updates.specs.declared.OrderAdded.{OrderAdded}
-use Rattle.order_updates.specs.declared.OrdersUpdated.{OrdersUpdated}
 
 -- the id of the order added last, where there is one
 abbrev pub addedOrder : TableMetadataBuilder → Option ℤ
@@ -35,9 +35,14 @@ pub record OrderGrown (b : TableMetadataBuilder) (t : SortOrders) (schemas : Sch
   pub room : r .grows ≡ true → t .count < sortOrderRoom
   pub new : r .grows ≡ true → holdsOrder (readSortOrders t) (r .order .«order_id» .0) ≡ false
 
--- an update of sort orders; where it took effect, the table is the new state's
-abbrev pub OrdersAnswer : TableMetadataBuilder → Schemas → SortOrders → TableUpdate → OrdersUpdated → Type 0
-OrdersAnswer b schemas t u r =
-    (terms : Terms) (st : State) → b ≡ laidBuilder st → schemas ≡ laidSchemas (st .metadata .schemas) → t ≡ laidSortOrders (st .metadata .orders)
-    → AnswersUpdate terms (readUpdate u) st (r .number) (r .logs) (r .builder) (r .entry)
-    × (r .number ≡ 0 → r .logs ≡ true → r .orders ≡ laidSortOrders (effect terms (readUpdate u) st .metadata .orders))
+-- an order that can be put into a table: laid out, with room for it, and its id not held
+pub record NewOrder (t : SortOrders) (o : SortOrder) : Type 0 where
+  pub laid : LaidOrder o
+  pub room : t .count < sortOrderRoom
+  pub new : holdsOrder (readSortOrders t) (o .«order_id» .0) ≡ false
+
+-- an addition, decided: the answer, the table after it, and that an order to put can be put
+pub record OrderDecided (b : TableMetadataBuilder) (schemas : Schemas) (t : SortOrders) (u : TableUpdate) (d : Decision) : Type 0 where
+  pub answers : (terms : Terms) (st : State) → b ≡ laidBuilder st → schemas ≡ laidSchemas (st .metadata .schemas) → t ≡ laidSortOrders (st .metadata .orders) → Decides terms u st d
+  pub table : (terms : Terms) (st : State) → t ≡ laidSortOrders (st .metadata .orders) → d .number ≡ 0 → effect terms (readUpdate u) st .metadata .orders ≡ cond (d .grows) (put orderBelow (readSortOrder (d .entry .«sort_order»)) (st .metadata .orders)) (st .metadata .orders)
+  pub new : d .grows ≡ true → NewOrder t (d .entry .«sort_order»)

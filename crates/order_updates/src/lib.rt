@@ -4,25 +4,27 @@ ghost use mathlib.Core.Path.{_≡_};
 ghost use mathlib.Core.Bool.{true, false, cond, not, _&&_};
 ghost use mathlib.Core.Option.{some};
 ghost use lib.IntN.{sucℤ};
-ghost use Rattle.rules.specs.Words.{eqZ, someWith, isEmpty, first, highest as highestOf};
+ghost use Rattle.rules.specs.Words.{eqZ, someWith, isEmpty, first, highest as highestOf, put};
 ghost use Rattle.rules.specs.Capacities.{largestSortOrderId};
-ghost use Rattle.rules.specs.Register.{State};
-ghost use Rattle.rules.specs.WellFormed.{hasSchema, ordersFormed, updateFormed};
+ghost use Rattle.rules.specs.Register.{Terms, State};
+ghost use Rattle.rules.specs.WellFormed.{hasSchema, orderBelow, ordersFormed, updateFormed};
 ghost use Rattle.rules.specs.SchemaUpdates.{holdsSchema, chosen, choiceLogged};
 ghost use Rattle.rules.specs.OrderUpdates.{reusedOrder, orderIds, newOrderId, setDefaultSortOrderChecks, setDefaultSortOrder};
 ghost use Rattle.rules.specs.Layout.{readSchema, readSchemas, readSortOrder, readSortOrders, laidSortOrders};
 ghost use Rattle.rules.specs.Kinds.{isTidyUpdate, readKind, ofKind, withSortOrderId, addSortOrderKind, setDefaultSortOrderKind};
 ghost use Rattle.tables.specs.Laid.{LaidSchema, LaidSchemas, LaidOrder, LaidOrders};
 ghost use Rattle.builder.specs.Pieces.{laidBuilder};
-ghost use Rattle.builder.specs.Answers.{Answers};
+ghost use Rattle.builder.specs.Answers.{Answers, Decides};
 ghost use Rattle.builder.specs.Added.{Numbered};
-ghost use Rattle.order_updates.specs.Orders.{addedOrder, OrderGrown, OrdersAnswer};
+ghost use Rattle.order_updates.specs.Orders.{addedOrder, OrderGrown, OrderDecided, NewOrder};
 use builder::builder::TableMetadataBuilder;
 use builder::checks::IDS_EXHAUSTED;
 use builder::checks::NOTHING_ADDED;
 use builder::checks::TABLE_FULL;
 use builder::checks::UNKNOWN_ID;
 use builder::checks::choose;
+use builder::decision::Decision;
+use builder::decision::decided;
 use records::capacities::SORT_ORDERS;
 use records::counters::SortOrderId;
 use records::schema::Schema;
@@ -128,7 +130,7 @@ pub struct OrderAdded {
     pub builder: TableMetadataBuilder,
 }
 
-pub fn add_sort_order(
+fn order_addition(
     b: TableMetadataBuilder,
     t: SortOrders,
     schemas: Schemas,
@@ -206,7 +208,7 @@ pub struct OrderSet {
     pub builder: TableMetadataBuilder,
 }
 
-pub fn set_default_sort_order(b: TableMetadataBuilder, t: SortOrders, id: SortOrderId) -> OrderSet
+fn order_choice(b: TableMetadataBuilder, t: SortOrders, id: SortOrderId) -> OrderSet
     requires { ⌜ LaidOrders t ⌝ }
     ensures { λ r. ⌜ ((st : State) → b ≡ laidBuilder st → t ≡ laidSortOrders (st .metadata .orders) → Answers (setDefaultSortOrderChecks (id .0) st) st (setDefaultSortOrder (id .0) st) (r .number) (r .logs) (r .builder) (withSortOrderId (r .«order_id») (ofKind setDefaultSortOrderKind))) ⌝ }
 {
@@ -231,22 +233,14 @@ pub fn set_default_sort_order(b: TableMetadataBuilder, t: SortOrders, id: SortOr
     }
 }
 
-// ---- the table's update
+// ---- the updates of a list
 
-pub struct OrdersUpdated {
-    pub number: u8,
-    pub logs: bool,
-    pub builder: TableMetadataBuilder,
-    pub orders: SortOrders,
-    pub entry: TableUpdate,
-}
-
-pub fn update_orders(
+pub fn add_sort_order(
     b: TableMetadataBuilder,
     schemas: Schemas,
     t: SortOrders,
     u: TableUpdate,
-) -> OrdersUpdated
+) -> Decision
     requires { ⌜ LaidSchemas schemas ⌝ }
     requires { ⌜ holdsSchema (readSchemas schemas) (b .fields .«current_schema_id» .0) ≡ true ⌝ }
     requires { ⌜ LaidOrders t ⌝ }
@@ -254,32 +248,47 @@ pub fn update_orders(
     requires { ⌜ isTidyUpdate u ≡ true ⌝ }
     requires { ⌜ updateFormed (readKind u) ≡ true ⌝ }
     requires { ⌜ u .kind ≡ addSortOrderKind ⌝ }
-    ensures { λ r. ⌜ OrdersAnswer b schemas t u r ⌝ }
+    ensures { λ r. ⌜ OrderDecided b schemas t u r ⌝ }
 {
-    let v = u.sort_order;
-    let x = add_sort_order(b, t, schemas, v);
+    let o = u.sort_order;
+    let x = order_addition(b, t, schemas, o);
     let y = x.order;
     let c = x.builder;
-    let number = x.number;
-    let logs = x.logs;
-    let grows = x.grows;
     let mut e = u;
     e.sort_order = y;
-    if grows {
-        let o = tables::sort_orders::put(t, y);
-        return OrdersUpdated {
-            number,
-            logs,
-            builder: c,
-            orders: o,
-            entry: e,
-        };
-    }
-    OrdersUpdated {
-        number,
-        logs,
+    Decision {
+        number: x.number,
+        logs: x.logs,
+        grows: x.grows,
         builder: c,
-        orders: t,
         entry: e,
     }
+}
+
+// The table after an addition: a new order is put into it.
+pub fn orders_after(t: SortOrders, d: Decision) -> SortOrders
+    requires { ⌜ LaidOrders t ⌝ }
+    requires { ⌜ (d .grows ≡ true → NewOrder t (d .entry .«sort_order»)) ⌝ }
+    ensures { λ r. ⌜ r ≡ cond (d .grows) (laidSortOrders (put orderBelow (readSortOrder (d .entry .«sort_order»)) (readSortOrders t))) t ⌝ }
+{
+    let e = d.entry;
+    let o = e.sort_order;
+    if d.grows {
+        return tables::sort_orders::put(t, o);
+    }
+    t
+}
+
+pub fn set_default_sort_order(b: TableMetadataBuilder, t: SortOrders, u: TableUpdate) -> Decision
+    requires { ⌜ LaidOrders t ⌝ }
+    requires { ⌜ isTidyUpdate u ≡ true ⌝ }
+    requires { ⌜ u .kind ≡ setDefaultSortOrderKind ⌝ }
+    ensures { λ r. ⌜ ((terms : Terms) (st : State) → b ≡ laidBuilder st → t ≡ laidSortOrders (st .metadata .orders) → Decides terms u st r) ⌝ }
+{
+    let x = order_choice(b, t, u.sort_order_id);
+    let c = x.builder;
+    let id = x.order_id;
+    let mut e = u;
+    e.sort_order_id = id;
+    decided(x.number, x.logs, c, e)
 }

@@ -1,24 +1,31 @@
--- Setting refs, by parts: the ref that an update asks for, as a record, what a ref that becomes `main` brings, and what is left where one is removed.
+-- Setting refs: the ref that an update asks for, what the function is handed of a state, and what it decides.
 use mathlib.Core.Path.{_≡_}
-use mathlib.Core.Bool.{Bool, true, false, cond}
-use mathlib.Core.List.{List, [], _∷_, _++_}
-use Prim.Native.Nat.{ℕ}
+use mathlib.Core.Bool.{Bool, true, false, cond, not, _&&_}
+use mathlib.Core.List.{List}
+use mathlib.Core.Option.{some}
+use Prim.Native.Nat.{ℕ, _<_}
 use lib.Dec.{eqb}
 use lib.IntN.{pos}
+use lib.ListN.{length}
 use Rattle.records.specs.declared.counters.SnapshotId.{SnapshotId}
 use Rattle.records.specs.declared.counters.Time.{Time}
 use Rattle.records.specs.declared.reference.SnapshotReference.{SnapshotReference}
 use Rattle.records.specs.declared.reference.NamedRef.{NamedRef}
+use Rattle.records.specs.declared.reference.Refs.{Refs}
 use Rattle.records.specs.declared.update.TableUpdate.{TableUpdate}
-use Rattle.rules.specs.Words.{orElse}
-use Rattle.rules.specs.Register.{State, RemoveRef}
-use Rattle.rules.specs.RefUpdates.{asMain, removeRef}
-use Rattle.rules.specs.WellFormed.{branch}
-use Rattle.rules.specs.Layout.{laidLogEntry, laidRefs}
-use Rattle.rules.specs.Kinds.{setRefKind}
+use Rattle.rules.specs.Words.{any, isSome, firstOf}
+use Rattle.rules.specs.Capacities.{refRoom}
+use Rattle.rules.specs.Register as plain
+use Rattle.rules.specs.Register.{Terms, State, SetRef}
+use Rattle.rules.specs.WellFormed.{branch, holdsSnapshot}
+use Rattle.rules.specs.RefUpdates.{hasName, refNamed, isHeldRef, setRefChecks, ownAfter, setRef, committed}
+use Rattle.rules.specs.Layout.{readRefName, readReference, laidReference, readRefs, laidRefs}
+use Rattle.rules.specs.Kinds.{setRefKind, laidUpdate}
+use Rattle.tables.specs.Laid.{LaidRef}
+use Rattle.builder.specs.declared.builder.TableMetadataBuilder.{TableMetadataBuilder}
+use Rattle.builder.specs.declared.decision.Decision.{Decision}
 use Rattle.builder.specs.Pieces.{laidBuilder}
-use Rattle.ref_updates.specs.declared.AsMain.{AsMain}
-use Rattle.ref_updates.specs.declared.RefRemoved.{RefRemoved}
+use Rattle.ref_updates.specs.declared.AskedRef.{AskedRef}
 
 -- the same ref to another snapshot
 abbrev pub pointed : SnapshotId → SnapshotReference → SnapshotReference
@@ -55,14 +62,39 @@ wantedRef u held old =
     (u .reference)
     (pointed (u .snapshot .«snapshot_id») (cond held (old .reference) bareBranch))
 
--- the builder and the log entry of a state in which the snapshot becomes current
-pub record BecameMain (st : State) (clock : Time) (id : SnapshotId) (r : AsMain) : Type 0 where
-  pub builder : r .builder ≡ laidBuilder (asMain (clock .0) (id .0) st)
-  pub entry : r .entry ≡ laidLogEntry (record { snapshot = id .0; time = orElse (st .own) (clock .0) })
+-- the same, read: the update's own ref, or the rule's for a branch commit
+abbrev pub askedRef : TableUpdate → List plain.NamedRef → plain.Reference
+askedRef u l = cond (eqb (u .kind) setRefKind) (readReference (u .reference)) (committed (readRefName (u .«ref_name»)) (u .snapshot .«snapshot_id» .0) l)
 
--- the builder and the refs of a state from which a ref was removed, and whether that was logged
-pub record RefGone (st : State) (name : List ℕ) (r : RefRemoved) : Type 0 where
-  pub builder : r .builder ≡ laidBuilder (removeRef name st)
-  pub refs : r .refs ≡ laidRefs (removeRef name st .metadata .refs)
-  pub took : r .logs ≡ true → removeRef name st .log ≡ st .log ++ (RemoveRef name ∷ [])
-  pub left : r .logs ≡ false → removeRef name st ≡ st
+-- what an update asks of the refs of a table
+pub record RefAsked (t : Refs) (u : TableUpdate) (r : AskedRef) : Type 0 where
+  pub same : r .same ≡ isHeldRef (readRefName (u .«ref_name»)) (askedRef u (readRefs t)) (readRefs t)
+  pub named : r .named ≡ isSome (refNamed (readRefName (u .«ref_name»)) (readRefs t))
+  pub read : readReference (r .reference) ≡ askedRef u (readRefs t)
+  pub laid : laidReference (readReference (r .reference)) ≡ r .reference
+
+-- what a set ref is handed, of a state
+pub record Faced (terms : Terms) (st : State) (w : plain.Reference) (b : TableMetadataBuilder) (t : Refs) (held isAdded : Bool) (time : Time) (entries : ℕ) (clock : Time) : Type 0 where
+  pub builder : b ≡ laidBuilder st
+  pub refs : t ≡ laidRefs (st .metadata .refs)
+  pub snapshot : held ≡ holdsSnapshot (st .metadata .snapshots) (w .snapshot)
+  pub own : held ≡ true → cond isAdded (some (time .0)) (st .own) ≡ ownAfter (w .snapshot) st
+  pub log : entries ≡ length (st .metadata .snapshotLog)
+  pub now : terms .clock ≡ clock .0
+
+-- a set ref, decided
+pub record RefSet (terms : Terms) (st : State) (name : List ℕ) (w : plain.Reference) (d : Decision) : Type 0 where
+  pub number : d .number ≡ firstOf (setRefChecks name w st)
+  pub logs : d .logs ≡ not (isHeldRef name w (st .metadata .refs))
+  pub grows : d .grows ≡ (d .logs && eqb (d .number) 0)
+  pub builder : d .number ≡ 0 → d .logs ≡ true → d .builder ≡ laidBuilder (setRef terms name w st)
+  pub entry : d .entry ≡ laidUpdate (SetRef name w)
+
+-- a ref that can be put into a table: laid out, and with room for it if its name is new
+pub record NewRef (t : Refs) (e : TableUpdate) : Type 0 where
+  pub laid : LaidRef (record { name = e .«ref_name»; reference = e .reference })
+  pub room : any (hasName (readRefName (e .«ref_name»))) (readRefs t) ≡ false → t .count < refRoom
+
+pub record RefDecided (b : TableMetadataBuilder) (t : Refs) (held isAdded : Bool) (time : Time) (entries : ℕ) (clock : Time) (u : TableUpdate) (d : Decision) : Type 0 where
+  pub answers : (terms : Terms) (st : State) → Faced terms st (askedRef u (st .metadata .refs)) b t held isAdded time entries clock → RefSet terms st (readRefName (u .«ref_name»)) (askedRef u (st .metadata .refs)) d
+  pub new : d .grows ≡ true → NewRef t (d .entry)

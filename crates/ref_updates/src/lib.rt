@@ -2,22 +2,25 @@
 // Document 01, "Rules for each update", as the crate `rules` writes it in RefUpdates.
 ghost use mathlib.Core.Path.{_≡_};
 ghost use mathlib.Core.Bool.{true, false, cond, not, _&&_, _||_};
-ghost use mathlib.Core.List.{[], _∷_};
+ghost use mathlib.Core.List.{List, [], _∷_};
 ghost use Prim.Native.Nat.{_≤_, _<_};
 ghost use lib.Dec.{eqb, leb};
-ghost use mathlib.Core.Option.{none};
+ghost use mathlib.Core.Option.{Option, none, some};
+ghost use lib.IntN.{ℤ};
 ghost use lib.ListN.{length};
-ghost use Rattle.rules.specs.Words.{eqZ, sameOption, any, ascending, put, firstOf};
+ghost use Rattle.rules.specs.Words.{eqZ, sameOption, ascending, put, firstOf};
 ghost use Rattle.rules.specs.Capacities.{refRoom, snapshotLogRoom, refNameRoom};
 ghost use Rattle.rules.specs.Replies.{snapshotNotHeld, tableFull};
-ghost use Rattle.rules.specs.Register.{State, AddSnapshot, SetRef, withCurrent, onFields};
+ghost use Rattle.rules.specs.Register as plain;
+ghost use Rattle.rules.specs.Register.{Terms, State, SetRef, withCurrent, withOwn, onFields};
 ghost use Rattle.rules.specs.WellFormed.{refBelow};
-ghost use Rattle.rules.specs.RefUpdates.{hasName, sameReference, isTag};
-ghost use Rattle.rules.specs.Layout.{given, readRefName, readSnapshot, readReference, laidReference, readRefs, laidRefs};
-ghost use Rattle.rules.specs.Kinds.{addSnapshotKind, setBranchSnapshotKind, setRefKind, isTidyUpdate, laidUpdate};
-ghost use Rattle.tables.specs.Laid.{LaidName, LaidRef, LaidRefs};
+ghost use Rattle.rules.specs.RefUpdates.{sameReference, isTag, asMain};
+ghost use Rattle.rules.specs.Layout.{given, readRefName, readReference, laidReference, readRefs, laidRefs};
+ghost use Rattle.rules.specs.Kinds.{setBranchSnapshotKind, setRefKind, removeRefKind, isTidyUpdate, laidUpdate};
+ghost use Rattle.tables.specs.Laid.{LaidName, LaidRefs};
 ghost use Rattle.builder.specs.Pieces.{laidBuilder};
-ghost use Rattle.ref_updates.specs.Refs.{wantedRef, BecameMain, RefGone};
+ghost use Rattle.builder.specs.Answers.{Decides};
+ghost use Rattle.ref_updates.specs.Refs.{wantedRef, askedRef, RefAsked, RefDecided, NewRef};
 use builder::builder::TableMetadataBuilder;
 use builder::builder::own_or;
 use builder::checks::ACCEPTED;
@@ -25,6 +28,8 @@ use builder::checks::TABLE_FULL;
 use builder::checks::both;
 use builder::checks::choose;
 use builder::checks::is_full;
+use builder::decision::Decision;
+use builder::decision::decided;
 use records::capacities::REFS;
 use records::capacities::SNAPSHOT_LOG;
 use records::counters::Age;
@@ -37,7 +42,7 @@ use records::reference::SnapshotReference;
 use records::snapshot::Snapshot;
 use records::snapshot::SnapshotLogEntry;
 use records::text::RefName;
-use records::update::ADD_SNAPSHOT;
+use records::update::SET_BRANCH_SNAPSHOT;
 use records::update::SET_REF;
 use records::update::TableUpdate;
 use tables::ids::same_snapshot;
@@ -93,7 +98,7 @@ fn same_present(h: bool, g: bool, same: bool) -> bool
     same
 }
 
-pub fn same_reference(a: SnapshotReference, b: SnapshotReference) -> bool
+fn same_reference(a: SnapshotReference, b: SnapshotReference) -> bool
     ensures { λ r. ⌜ r ≡ sameReference (readReference a) (readReference b) ⌝ }
 {
     let i = a.snapshot_id;
@@ -125,16 +130,11 @@ pub fn same_reference(a: SnapshotReference, b: SnapshotReference) -> bool
     both(z, o)
 }
 
-pub struct AsMain {
-    pub builder: TableMetadataBuilder,
-    pub entry: SnapshotLogEntry,
-}
-
-// `main`: current snapshot set, the clock is the last update if none, and the entry that is appended.
-pub fn as_main(b: TableMetadataBuilder, clock: Time, id: SnapshotId) -> AsMain
-    ensures { λ r. ⌜ ((st : State) → b ≡ laidBuilder st → BecameMain st clock id r) ⌝ }
+// `main`: current snapshot set, and the clock is the last update if none.
+fn as_main(b: TableMetadataBuilder, clock: Time, id: SnapshotId) -> TableMetadataBuilder
+    ensures { λ r. ⌜ ((st : State) → b ≡ laidBuilder st → r ≡ laidBuilder (asMain (clock .0) (id .0) st)) ⌝ }
 {
-    let time = own_or(b, clock);
+    let own = own_or(b, clock);
     let f = b.fields;
     let mut g = f;
     g.has_current = true;
@@ -142,15 +142,11 @@ pub fn as_main(b: TableMetadataBuilder, clock: Time, id: SnapshotId) -> AsMain
     let mut c = b;
     c.fields = g;
     c.has_own = true;
-    c.own = time;
-    let entry = SnapshotLogEntry {
-        snapshot_id: id,
-        timestamp_ms: time,
-    };
-    AsMain { builder: c, entry }
+    c.own = own;
+    c
 }
 
-pub fn is_tag(t: Refs, name: RefName) -> bool
+fn is_tag(t: Refs, name: RefName) -> bool
     requires { ⌜ LaidRefs t ⌝ }
     requires { ⌜ LaidName name ⌝ }
     ensures { λ r. ⌜ r ≡ isTag (readRefName name) (readRefs t) ⌝ }
@@ -167,7 +163,7 @@ pub fn is_tag(t: Refs, name: RefName) -> bool
 }
 
 // The ref that an update asks for: its own, or that of a branch commit, the old retention or a branch with none.
-pub fn wanted(u: TableUpdate, held: bool, old: NamedRef) -> SnapshotReference
+fn wanted(u: TableUpdate, held: bool, old: NamedRef) -> SnapshotReference
     ensures { λ r. ⌜ r ≡ wantedRef u held old ⌝ }
 {
     let k = u.kind;
@@ -188,7 +184,7 @@ pub fn wanted(u: TableUpdate, held: bool, old: NamedRef) -> SnapshotReference
 }
 
 // The number of a set-ref whose ref is not held as it is.
-pub fn set_ref_number(held: bool, is_named: bool, named: usize, main: bool, entries: usize) -> u8
+fn set_ref_number(held: bool, is_named: bool, named: usize, main: bool, entries: usize) -> u8
     ensures { λ r. ⌜ r ≡ firstOf ((not held, snapshotNotHeld) ∷ (not «is_named» && leb refRoom named, tableFull) ∷ (main && leb snapshotLogRoom entries, tableFull) ∷ []) ⌝ }
 {
     let log_full = is_full(main, entries, SNAPSHOT_LOG);
@@ -198,18 +194,8 @@ pub fn set_ref_number(held: bool, is_named: bool, named: usize, main: bool, entr
     choose(!held, SNAPSHOT_NOT_HELD, m19)
 }
 
-// What is logged of an addition, and of a setting: the update, or the half of a branch commit.
-pub fn addition(u: TableUpdate) -> TableUpdate
-    ensures { λ r. ⌜ ((eqb (u .kind) addSnapshotKind || eqb (u .kind) setBranchSnapshotKind) ≡ true → isTidyUpdate u ≡ true → r ≡ laidUpdate (AddSnapshot (readSnapshot (u .snapshot)))) ⌝ }
-{
-    let mut e = u;
-    let none = RefName::blank();
-    e.kind = ADD_SNAPSHOT;
-    e.ref_name = none;
-    e
-}
-
-pub fn setting(u: TableUpdate, r: SnapshotReference) -> TableUpdate
+// What is logged of a setting: the update, or the second half of a branch commit.
+fn setting(u: TableUpdate, r: SnapshotReference) -> TableUpdate
     ensures { λ e. ⌜ ((eqb (u .kind) setBranchSnapshotKind || eqb (u .kind) setRefKind) ≡ true → isTidyUpdate u ≡ true → length (readRefName (u .«ref_name»)) ≤ refNameRoom → laidReference (readReference r) ≡ r → e ≡ laidUpdate (SetRef (readRefName (u .«ref_name»)) (readReference r))) ⌝ }
 {
     let mut e = u;
@@ -220,53 +206,181 @@ pub fn setting(u: TableUpdate, r: SnapshotReference) -> TableUpdate
     e
 }
 
-pub fn put_ref(t: Refs, name: RefName, reference: SnapshotReference) -> Refs
-    requires { ⌜ LaidRefs t ⌝ }
-    requires { ⌜ LaidRef (record { name = name; reference = reference }) ⌝ }
-    requires { ⌜ (any (hasName (readRefName name)) (readRefs t) ≡ false → t .count < refRoom) ⌝ }
-    requires { ⌜ ascending refBelow (readRefs t) ≡ true ⌝ }
-    ensures { λ r. ⌜ r ≡ laidRefs (put refBelow (record { name = readRefName name; reference = readReference reference }) (readRefs t)) ⌝ }
-{
-    tables::refs::put(t, NamedRef { name, reference })
+// What an update asks of the refs: whether the ref is held as it is to be, whether its name is, and the ref.
+pub struct AskedRef {
+    pub same: bool,
+    pub named: bool,
+    pub reference: SnapshotReference,
 }
 
-pub struct RefRemoved {
-    pub logs: bool,
-    pub builder: TableMetadataBuilder,
-    pub refs: Refs,
+fn asked_ref(t: Refs, u: TableUpdate) -> AskedRef
+    requires { ⌜ LaidRefs t ⌝ }
+    requires { ⌜ LaidName (u .«ref_name») ⌝ }
+    requires { ⌜ laidReference (readReference (u .reference)) ≡ u .reference ⌝ }
+    ensures { λ r. ⌜ RefAsked t u r ⌝ }
+{
+    let name = u.ref_name;
+    let n = t.count;
+    let at = tables::refs::find(t, name);
+    let mut old = NamedRef::blank();
+    if at < n {
+        old = t.items[at];
+    }
+    let before = old.reference;
+    let reference = wanted(u, at < n, old);
+    let same = same_reference(before, reference);
+    AskedRef {
+        same: (at < n) & same,
+        named: at < n,
+        reference,
+    }
+}
+
+// The time of a snapshot that the run added becomes the run's last update.
+fn with_own(b: TableMetadataBuilder, is_added: bool, time: Time) -> TableMetadataBuilder
+    ensures { λ r. ⌜ ((st : State) → b ≡ laidBuilder st → r ≡ laidBuilder (withOwn (cond «is_added» (some (time .0)) (st .own)) st)) ⌝ }
+{
+    let mut c = b;
+    if is_added {
+        c.has_own = true;
+        c.own = time;
+        return c;
+    }
+    c
+}
+
+fn set_ref_builder(
+    b: TableMetadataBuilder,
+    is_added: bool,
+    time: Time,
+    main: bool,
+    clock: Time,
+    id: SnapshotId,
+) -> TableMetadataBuilder
+    ensures { λ r. ⌜ ((st : State) (own : Option ℤ) → b ≡ laidBuilder st → cond «is_added» (some (time .0)) (st .own) ≡ own → r ≡ laidBuilder (cond main (asMain (clock .0) (id .0) (withOwn own st)) (withOwn own st))) ⌝ }
+{
+    let c = with_own(b, is_added, time);
+    if main {
+        return as_main(c, clock, id);
+    }
+    c
+}
+
+// ---- the updates of a list
+
+// A branch commit whose branch is a tag.
+pub fn commits_on_tag(t: Refs, u: TableUpdate) -> bool
+    requires { ⌜ LaidRefs t ⌝ }
+    requires { ⌜ (u .kind ≡ setBranchSnapshotKind → LaidName (u .«ref_name»)) ⌝ }
+    ensures { λ r. ⌜ r ≡ (eqb (u .kind) setBranchSnapshotKind && isTag (readRefName (u .«ref_name»)) (readRefs t)) ⌝ }
+{
+    let k = u.kind;
+    let name = u.ref_name;
+    if k == SET_BRANCH_SNAPSHOT {
+        return is_tag(t, name);
+    }
+    false
+}
+
+// The snapshot to which the ref of an update, or of a branch commit, is set.
+pub fn target(u: TableUpdate) -> SnapshotId
+    ensures { λ r. ⌜ ((l : List plain.NamedRef) → r .0 ≡ askedRef u l .snapshot) ⌝ }
+{
+    let k = u.kind;
+    let x = u.snapshot;
+    let y = u.reference;
+    if k == SET_REF {
+        return y.snapshot_id;
+    }
+    x.snapshot_id
+}
+
+// `held` is of the snapshot, `time` is its time, `is_added` says that the run logged its addition; `entries` counts the snapshot log.
+pub fn set_ref(
+    b: TableMetadataBuilder,
+    t: Refs,
+    held: bool,
+    is_added: bool,
+    time: Time,
+    entries: usize,
+    clock: Time,
+    u: TableUpdate,
+) -> Decision
+    requires { ⌜ LaidRefs t ⌝ }
+    requires { ⌜ LaidName (u .«ref_name») ⌝ }
+    requires { ⌜ laidReference (readReference (u .reference)) ≡ u .reference ⌝ }
+    requires { ⌜ isTidyUpdate u ≡ true ⌝ }
+    requires { ⌜ (eqb (u .kind) setBranchSnapshotKind || eqb (u .kind) setRefKind) ≡ true ⌝ }
+    ensures { λ r. ⌜ RefDecided b t held «is_added» time entries clock u r ⌝ }
+{
+    let name = u.ref_name;
+    let named = t.count;
+    let asked = asked_ref(t, u);
+    let reference = asked.reference;
+    let id = reference.snapshot_id;
+    let same = asked.same;
+    let main = is_main_name(name);
+    let fails = set_ref_number(held, asked.named, named, main, entries);
+    let number = choose(same, ACCEPTED, fails);
+    let c = set_ref_builder(b, is_added, time, main, clock, id);
+    let e = setting(u, reference);
+    Decision {
+        number,
+        logs: !same,
+        grows: !same & (number == ACCEPTED),
+        builder: c,
+        entry: e,
+    }
+}
+
+// The refs after a set ref that takes effect.
+pub fn refs_after(t: Refs, d: Decision) -> Refs
+    requires { ⌜ LaidRefs t ⌝ }
+    requires { ⌜ ascending refBelow (readRefs t) ≡ true ⌝ }
+    requires { ⌜ (d .grows ≡ true → NewRef t (d .entry)) ⌝ }
+    ensures { λ r. ⌜ r ≡ cond (d .grows) (laidRefs (put refBelow (record { name = readRefName (d .entry .«ref_name»); reference = readReference (d .entry .reference) }) (readRefs t))) t ⌝ }
+{
+    let e = d.entry;
+    let name = e.ref_name;
+    let reference = e.reference;
+    if d.grows {
+        return tables::refs::put(t, NamedRef { name, reference });
+    }
+    t
+}
+
+// What the snapshot log gains where `main` is set.
+pub fn main_entry(d: Decision) -> SnapshotLogEntry
+    ensures { λ r. ⌜ r ≡ record { «snapshot_id» = d .entry .reference .«snapshot_id»; «timestamp_ms» = d .builder .own } ⌝ }
+{
+    let e = d.entry;
+    let b = d.builder;
+    let reference = e.reference;
+    let snapshot_id = reference.snapshot_id;
+    let timestamp_ms = b.own;
+    SnapshotLogEntry {
+        snapshot_id,
+        timestamp_ms,
+    }
 }
 
 // `main` clears the current snapshot and is logged even if absent; another absent one: nothing.
-pub fn remove_ref(b: TableMetadataBuilder, t: Refs, name: RefName) -> RefRemoved
+pub fn remove_ref(b: TableMetadataBuilder, t: Refs, u: TableUpdate) -> Decision
     requires { ⌜ LaidRefs t ⌝ }
-    requires { ⌜ LaidName name ⌝ }
-    ensures { λ r. ⌜ ((st : State) → b ≡ laidBuilder st → t ≡ laidRefs (st .metadata .refs) → RefGone st (readRefName name) r) ⌝ }
+    requires { ⌜ LaidName (u .«ref_name») ⌝ }
+    requires { ⌜ isTidyUpdate u ≡ true ⌝ }
+    requires { ⌜ u .kind ≡ removeRefKind ⌝ }
+    ensures { λ r. ⌜ ((terms : Terms) (st : State) → b ≡ laidBuilder st → t ≡ laidRefs (st .metadata .refs) → Decides terms u st r) ⌝ }
 {
+    let name = u.ref_name;
     let n = t.count;
     let main = is_main_name(name);
     let at = tables::refs::find(t, name);
     if main {
-        let refs = tables::refs::without(t, name);
         let c = without_current(b);
-        return RefRemoved {
-            logs: true,
-            builder: c,
-            refs,
-        };
+        return decided(ACCEPTED, true, c, u);
     }
-    if at >= n {
-        return RefRemoved {
-            logs: false,
-            builder: b,
-            refs: t,
-        };
-    }
-    let refs = tables::refs::without(t, name);
-    RefRemoved {
-        logs: true,
-        builder: b,
-        refs,
-    }
+    decided(ACCEPTED, at < n, b, u)
 }
 
 // The current snapshot is cleared.

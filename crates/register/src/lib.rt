@@ -2,251 +2,291 @@
 // A refusal gives document 01's number and the place, the metadata that was given, no changes and no expired entries.
 // Document 01 decides, as the crate `rules` writes it in Run and Answer.
 ghost use mathlib.Core.Path.{_≡_};
+ghost use mathlib.Core.Bool.{cond};
+ghost use Prim.Native.Nat.{_+_, _<_};
 ghost use Rattle.rules.specs.Answer.{answer};
 use builder::builder::TableMetadataBuilder;
+use builder::decision::assign_uuid;
+use builder::decision::decided;
+use builder::decision::set_location;
+use builder::decision::upgrade_format_version;
 use builder::facts::ids_of;
 use builder::facts::is_last;
+use builder::facts::last_time;
 use builder::facts::position;
-use field_updates::update_fields;
-use order_updates::update_orders;
+use close::close_number;
+use close::files::files;
+use close::history::close_log;
+use close::last_update;
+use leaves::limit::limit;
+use order_updates::add_sort_order;
+use order_updates::orders_after;
+use order_updates::set_default_sort_order;
 use records::metadata::TableMetadata;
-use records::reference::NamedRef;
 use records::run::Answer;
 use records::run::RunTerms;
+use records::update::ADD_SCHEMA;
+use records::update::ADD_SNAPSHOT;
+use records::update::ADD_SORT_ORDER;
+use records::update::ASSIGN_UUID;
+use records::update::REMOVE_REF;
+use records::update::REMOVE_SCHEMAS;
+use records::update::REMOVE_SNAPSHOTS;
+use records::update::SET_BRANCH_SNAPSHOT;
+use records::update::SET_CURRENT_SCHEMA;
+use records::update::SET_LOCATION;
+use records::update::SET_REF;
 use records::update::TableUpdate;
+use records::update::UPGRADE_FORMAT_VERSION;
 use records::update::UpdateList;
-use ref_updates::addition;
-use ref_updates::as_main;
-use ref_updates::is_tag;
-use ref_updates::put_ref;
+use ref_updates::commits_on_tag;
+use ref_updates::main_entry;
+use ref_updates::refs_after;
 use ref_updates::remove_ref;
-use ref_updates::same_reference;
-use ref_updates::set_ref_number;
-use ref_updates::setting;
-use ref_updates::wanted;
-use schema_updates::update_schemas;
-use snapshot_updates::add_snapshot_builder;
-use snapshot_updates::add_snapshot_number;
+use ref_updates::set_ref;
+use ref_updates::target;
+use schema_updates::add_schema;
+use schema_updates::remove_schemas;
+use schema_updates::schemas_after;
+use schema_updates::set_current_schema;
+use snapshot_updates::add_snapshot;
 use snapshot_updates::remove_snapshots;
-use standing::ending;
-use standing::is_field_kind;
-use standing::refused;
-use standing::start_number;
+use start::refused;
+use start::start_number;
+use start::weight;
 use tables::names::is_main_name;
 
-pub fn run(m: TableMetadata, us: UpdateList, terms: RunTerms, limit: &[u8]) -> Answer
-    ensures { λ r. ⌜ r ≡ answer m us terms (now (limit .entry)) ⌝ }
+const UPDATE_NOT_FORMED: u8 = 3;
+
+const TOO_MANY_FILES: u8 = 23;
+
+// The place after a decision is stored: the same one, if a branch commit has its second half to come.
+fn after(place: usize, half: bool) -> usize
+    requires { ⌜ place < 64 ⌝ }
+    ensures { λ r. ⌜ r ≡ cond half place (place + 1) ⌝ }
 {
-    let number = start_number(m, us, terms);
-    if number != 0 {
-        return refused(m, number, 0);
+    if half {
+        return place;
     }
-    let n = us.count;
-    let clock = terms.clock_ms;
-    let first = m.fields;
-    let mut b = TableMetadataBuilder::new_from_metadata(first);
-    let mut t = m.snapshots;
-    let mut ids = ids_of(t);
-    let mut r = m.refs;
-    let mut log = m.snapshot_log;
-    let mut s = m.schemas;
-    let mut o = m.sort_orders;
-    // What is logged, and what the log says of snapshots.
+    place + 1
+}
+
+// The loop decides an update, or one half of a branch commit, and in its next turn stores the decision. Entries, snapshots, their ids and the
+// snapshot log are stored in place, since a table that is handed over is copied.
+pub fn run(metadata: TableMetadata, updates: UpdateList, terms: RunTerms, text: &[u8]) -> Answer
+    ensures { λ r. ⌜ r ≡ answer metadata updates terms (now (text .entry)) ⌝ }
+{
     let none = TableUpdate::blank();
-    let mut entries = [none; 64];
-    let mut c: usize = 0;
+    let first = metadata.fields;
+    let clock = terms.clock_ms;
+    let listed = updates.count;
+    // What the change log says of snapshots: the ids that it adds, those to which it sets `main`, whether it removes any.
     let mut added = [0i64; 64];
-    let mut adds: usize = 0;
     let mut mained = [0i64; 64];
+    let mut adds: usize = 0;
     let mut mains: usize = 0;
     let mut removal = false;
-    let mut i = 0;
-    while i < n {
-        let u = us.items[i];
-        let place = i;
-        let k = u.kind;
-        i += 1;
-        if !formed::update::is_formed(u) {
-            return refused(m, 3, place);
-        }
-        if is_field_kind(k) {
-            let x = update_fields(b, s, o, u);
-            let number = x.number;
+    let mut sum: usize = 0;
+    let mut number: u8 = 0;
+    // The change log, the update at hand, and the decision on it.
+    let mut entries = [none; 64];
+    let mut update = none;
+    let mut builder = TableMetadataBuilder::new_from_metadata(first);
+    let mut decision = decided(UPDATE_NOT_FORMED, false, builder, none);
+    let mut snapshots = metadata.snapshots;
+    let mut ids = ids_of(snapshots);
+    let mut refs = metadata.refs;
+    let mut log = metadata.snapshot_log;
+    let mut last = last_time(log, clock);
+    let mut schemas = metadata.schemas;
+    let mut orders = metadata.sort_orders;
+    let mut count: usize = 0;
+    let mut place: usize = 0;
+    // A decision waits to be stored; a branch commit has added its snapshot; it had when this turn began.
+    let mut waits = false;
+    let mut half = false;
+    let mut begun = false;
+    while (place < listed) & (place < 64) {
+        sum += weight(updates.items[place].kind);
+        place += 1;
+    }
+    number = start_number(metadata, terms, listed, sum);
+    place = 0;
+    while (number == 0) & (waits | (place < listed)) {
+        if waits {
+            waits = false;
+            number = decision.number;
             if number != 0 {
-                return refused(m, number, place);
+                continue;
             }
-            if x.logs {
-                b = x.builder;
-                let e = x.entry;
-                entries[c] = e;
-                c += 1;
+            place = after(place, half);
+            if !decision.logs {
+                continue;
             }
+            builder = decision.builder;
+            update = decision.entry;
+            entries[count] = update;
+            count += 1;
             continue;
         }
-        if k == 6 {
-            let asked = u.snapshot_ids;
-            let x = remove_snapshots(t, r, asked);
-            t = x.snapshots;
-            r = x.refs;
-            ids = ids_of(t);
-            let held = x.ids;
-            if held.count > 0 {
-                removal = true;
-                let mut e = none;
-                e.kind = 6;
-                e.snapshot_ids = held;
-                entries[c] = e;
-                c += 1;
-            }
+        waits = true;
+        begun = half;
+        half = false;
+        update = updates.items[place];
+        let kind = update.kind;
+        if !formed::update::is_formed(update) {
+            decision = decided(UPDATE_NOT_FORMED, false, builder, update);
             continue;
         }
-        if k == 8 {
-            let name = u.ref_name;
-            let x = remove_ref(b, r, name);
-            if x.logs {
-                b = x.builder;
-                r = x.refs;
-                let mut e = none;
-                e.kind = 8;
-                e.ref_name = name;
-                entries[c] = e;
-                c += 1;
-            }
+        if kind == ASSIGN_UUID {
+            decision = assign_uuid(builder, update);
             continue;
         }
-        if k == 9 || k == 11 {
-            let x = update_schemas(b, s, u);
-            let number = x.number;
-            if number != 0 {
-                return refused(m, number, place);
-            }
-            if x.logs {
-                b = x.builder;
-                s = x.schemas;
-                let e = x.entry;
-                entries[c] = e;
-                c += 1;
-            }
+        if kind == UPGRADE_FORMAT_VERSION {
+            decision = upgrade_format_version(builder, update);
             continue;
         }
-        if k == 12 {
-            let x = update_orders(b, s, o, u);
-            let number = x.number;
-            if number != 0 {
-                return refused(m, number, place);
-            }
-            if x.logs {
-                b = x.builder;
-                o = x.orders;
-                let e = x.entry;
-                entries[c] = e;
-                c += 1;
-            }
+        if kind == SET_LOCATION {
+            decision = set_location(builder, update);
             continue;
         }
-        let name = u.ref_name;
-        if k != 7 {
-            let x = u.snapshot;
-            let id = x.snapshot_id;
+        let held = snapshots.count;
+        let history = log.count;
+        if (kind == ADD_SNAPSHOT) | ((kind == SET_BRANCH_SNAPSHOT) & !begun) {
+            let on_tag = commits_on_tag(refs, update);
+            decision = add_snapshot(builder, on_tag, &ids[..held], history > 0, last, update);
+            half = kind == SET_BRANCH_SNAPSHOT;
+            if !decision.grows {
+                continue;
+            }
+            let snapshot = update.snapshot;
+            let id = snapshot.snapshot_id;
             let key = id.0;
-            let held = t.count;
-            let l = log.count;
-            if k == 5 && is_tag(r, name) {
-                return refused(m, 13, place);
-            }
-            let mut last = clock;
-            if l > 0 {
-                let e = log.items[l - 1];
-                last = e.timestamp_ms;
-            }
-            let number = add_snapshot_number(b, &ids[..held], l > 0, last, x);
-            if number != 0 {
-                return refused(m, number, place);
-            }
-            b = add_snapshot_builder(b, x);
             if is_last(&ids[..held], key) {
-                t.items[held] = x;
-                t.count = held + 1;
+                snapshots.items[held] = snapshot;
+                snapshots.count = held + 1;
                 ids[held] = key;
             } else {
-                t = tables::snapshots::put(t, x);
-                ids = ids_of(t);
+                snapshots = tables::snapshots::put(snapshots, snapshot);
+                ids = ids_of(snapshots);
             }
             added[adds] = key;
             adds += 1;
-            entries[c] = addition(u);
-            c += 1;
-            if k == 4 {
-                continue;
-            }
-        }
-        // Set ref, or the second half of a branch commit.
-        let at = tables::refs::find(r, name);
-        let named = r.count;
-        let mut old = NamedRef::blank();
-        if at < named {
-            old = r.items[at];
-        }
-        let reference = wanted(u, at < named, old);
-        let before = old.reference;
-        if at < named && same_reference(before, reference) {
             continue;
         }
-        let id = reference.snapshot_id;
-        let key = id.0;
-        let held = t.count;
-        let spot = position(&ids[..held], key);
-        let main = is_main_name(name);
-        let l = log.count;
-        let number = set_ref_number(spot < held, at < named, named, main, l);
-        if number != 0 {
-            return refused(m, number, place);
-        }
-        if position(&added[..adds], key) < adds {
-            let y = t.items[spot];
-            let time = y.timestamp_ms;
-            b.has_own = true;
-            b.own = time;
-        }
-        if main {
-            let y = as_main(b, clock, id);
-            b = y.builder;
-            let e = y.entry;
-            log.items[l] = e;
-            log.count = l + 1;
+        if (kind == SET_BRANCH_SNAPSHOT) | (kind == SET_REF) {
+            let id = target(update);
+            let key = id.0;
+            let spot = position(&ids[..held], key);
+            let mut time = clock;
+            if spot < held {
+                let snapshot = snapshots.items[spot];
+                time = snapshot.timestamp_ms;
+            }
+            let addition = position(&added[..adds], key);
+            decision = set_ref(
+                builder,
+                refs,
+                spot < held,
+                addition < adds,
+                time,
+                history,
+                clock,
+                update,
+            );
+            refs = refs_after(refs, decision);
+            let main = is_main_name(update.ref_name);
+            if !(decision.grows & main) {
+                continue;
+            }
+            let entry = main_entry(decision);
+            last = entry.timestamp_ms;
+            log.items[history] = entry;
+            log.count = history + 1;
             mained[mains] = key;
             mains += 1;
+            continue;
         }
-        if at < named {
-            old.reference = reference;
-            r.items[at] = old;
-        } else {
-            r = put_ref(r, name, reference);
+        if kind == REMOVE_SNAPSHOTS {
+            decision = remove_snapshots(builder, snapshots, update);
+            snapshots = tables::snapshots::without(snapshots, update.snapshot_ids);
+            refs = tables::refs::pointing(refs, snapshots);
+            ids = ids_of(snapshots);
+            removal = removal | decision.logs;
+            continue;
         }
-        entries[c] = setting(u, reference);
-        c += 1;
+        if kind == REMOVE_REF {
+            decision = remove_ref(builder, refs, update);
+            refs = tables::refs::without(refs, update.ref_name);
+            continue;
+        }
+        if kind == ADD_SCHEMA {
+            decision = add_schema(builder, schemas, update);
+            schemas = schemas_after(schemas, decision);
+            continue;
+        }
+        if kind == SET_CURRENT_SCHEMA {
+            decision = set_current_schema(builder, schemas, update);
+            continue;
+        }
+        if kind == REMOVE_SCHEMAS {
+            decision = remove_schemas(builder, schemas, update);
+            schemas = tables::schemas::without(schemas, update.schema_ids);
+            continue;
+        }
+        if kind == ADD_SORT_ORDER {
+            decision = add_sort_order(builder, schemas, orders, update);
+            orders = orders_after(orders, decision);
+            continue;
+        }
+        decision = set_default_sort_order(builder, orders, update);
     }
+    if number != 0 {
+        return refused(metadata, number, place);
+    }
+    let fields = builder.fields;
+    let held = snapshots.count;
+    let history = close_log(
+        log,
+        &ids[..held],
+        fields,
+        &added[..adds],
+        &mained[..mains],
+        removal,
+    );
+    number = close_number(history, fields, refs, schemas, orders);
+    if number != 0 {
+        return refused(metadata, number, place);
+    }
+    let most = limit(text);
+    let filed = files(metadata.metadata_log, terms, first.last_updated_ms, most);
+    if filed.too_many {
+        return refused(metadata, TOO_MANY_FILES, place);
+    }
+    let updated = last_update(builder, clock);
+    let mut closed = fields;
+    closed.last_updated_ms = updated;
+    let snapshot_log = history.log;
+    let metadata_log = filed.stay;
+    let expired = filed.expired;
+    let ended = TableMetadata {
+        fields: closed,
+        snapshots,
+        refs,
+        snapshot_log,
+        metadata_log,
+        schemas,
+        sort_orders: orders,
+    };
     let changes = UpdateList {
         items: entries,
-        count: c,
+        count,
     };
-    ending(
-        m,
-        n,
-        terms,
-        limit,
-        b,
-        t,
-        ids,
-        r,
-        log,
-        s,
-        o,
+    Answer {
+        number: 0,
+        place: 0,
+        metadata: ended,
         changes,
-        added,
-        adds,
-        mained,
-        mains,
-        removal,
-    )
+        expired,
+    }
 }

@@ -17,10 +17,10 @@ use Rattle.rules.specs.Layout.{given, readSchema, readSchemas, laidSchemas}
 use Rattle.rules.specs.Kinds.{readUpdate, ofKind, withSchema, addSchemaKind}
 use Rattle.tables.specs.Laid.{LaidSchema}
 use Rattle.builder.specs.declared.builder.TableMetadataBuilder.{TableMetadataBuilder}
+use Rattle.builder.specs.declared.decision.Decision.{Decision}
 use Rattle.builder.specs.Pieces.{laidBuilder}
-use Rattle.builder.specs.Answers.{Answers, AnswersUpdate}
+use Rattle.builder.specs.Answers.{Answers, Decides}
 use Rattle.schema_updates.specs.declared.SchemaAdded.{SchemaAdded}
-use Rattle.schema_updates.specs.declared.SchemasUpdated.{SchemasUpdated}
 
 -- the id of the schema added last, where there is one
 abbrev pub addedSchema : TableMetadataBuilder → Option ℤ
@@ -34,9 +34,14 @@ pub record SchemaGrown (b : TableMetadataBuilder) (t : Schemas) (s : Schema) (r 
   pub room : r .grows ≡ true → t .count < schemaRoom
   pub new : r .grows ≡ true → holdsSchema (readSchemas t) (r .schema .«schema_id» .0) ≡ false
 
--- an update of schemas; where it took effect, the table is the new state's
-abbrev pub SchemasAnswer : TableMetadataBuilder → Schemas → TableUpdate → SchemasUpdated → Type 0
-SchemasAnswer b t u r =
-    (terms : Terms) (st : State) → b ≡ laidBuilder st → t ≡ laidSchemas (st .metadata .schemas)
-    → AnswersUpdate terms (readUpdate u) st (r .number) (r .logs) (r .builder) (r .entry)
-    × (r .number ≡ 0 → r .logs ≡ true → r .schemas ≡ laidSchemas (effect terms (readUpdate u) st .metadata .schemas))
+-- a schema that can be put into a table: laid out, with room for it, and its id not held
+pub record NewSchema (t : Schemas) (s : Schema) : Type 0 where
+  pub laid : LaidSchema s
+  pub room : t .count < schemaRoom
+  pub new : holdsSchema (readSchemas t) (s .«schema_id» .0) ≡ false
+
+-- an addition, decided: the answer, the table after it, and that a schema to put can be put
+pub record SchemaDecided (b : TableMetadataBuilder) (t : Schemas) (u : TableUpdate) (d : Decision) : Type 0 where
+  pub answers : (terms : Terms) (st : State) → b ≡ laidBuilder st → t ≡ laidSchemas (st .metadata .schemas) → Decides terms u st d
+  pub table : (terms : Terms) (st : State) → t ≡ laidSchemas (st .metadata .schemas) → d .number ≡ 0 → effect terms (readUpdate u) st .metadata .schemas ≡ cond (d .grows) (put schemaBelow (readSchema (d .entry .schema)) (st .metadata .schemas)) (st .metadata .schemas)
+  pub new : d .grows ≡ true → NewSchema t (d .entry .schema)

@@ -2,34 +2,33 @@
 // Document 01, "Rules for each update", as the crate `rules` writes it in SchemaUpdates.
 ghost use mathlib.Core.Path.{_≡_};
 ghost use mathlib.Core.Bool.{true, cond};
-ghost use mathlib.Core.List.{[], _∷_};
-ghost use lib.Dec.{eqb};
 ghost use lib.IntN.{sucℤ};
 ghost use lib.Signed.{ltZ};
-ghost use Rattle.rules.specs.Words.{any, eqZ, larger, someWith, highest as highestOf, ascending};
+ghost use Rattle.rules.specs.Words.{eqZ, larger, someWith, highest as highestOf, ascending, put};
 ghost use Rattle.rules.specs.Capacities.{largestSchemaId};
-ghost use Rattle.rules.specs.Register.{State};
+ghost use Rattle.rules.specs.Register.{Terms, State};
 ghost use Rattle.rules.specs.WellFormed.{fieldIds, schemaBelow, updateFormed};
 ghost use Rattle.rules.specs.SchemaUpdates.{reusedSchema, schemaIds, chosen, choiceLogged, setCurrentSchemaChecks, setCurrentSchema};
 ghost use Rattle.rules.specs.Layout.{readSchema, readSchemas, laidSchemas};
 ghost use Rattle.rules.specs.Kinds.{isTidyUpdate, readKind, ofKind, withSchemaId, addSchemaKind, setCurrentSchemaKind, removeSchemasKind};
 ghost use Rattle.tables.specs.Laid.{LaidSchema, LaidSchemas};
 ghost use Rattle.builder.specs.Pieces.{laidBuilder};
-ghost use Rattle.builder.specs.Answers.{Answers};
+ghost use Rattle.builder.specs.Answers.{Answers, Decides};
 ghost use Rattle.builder.specs.Added.{Numbered};
-ghost use Rattle.schema_updates.specs.Schemas.{addedSchema, SchemaGrown, SchemasAnswer};
+ghost use Rattle.schema_updates.specs.Schemas.{addedSchema, SchemaGrown, SchemaDecided, NewSchema};
 use builder::builder::TableMetadataBuilder;
 use builder::checks::IDS_EXHAUSTED;
 use builder::checks::NOTHING_ADDED;
 use builder::checks::TABLE_FULL;
 use builder::checks::UNKNOWN_ID;
 use builder::checks::choose;
+use builder::decision::Decision;
+use builder::decision::decided;
 use records::capacities::SCHEMAS;
 use records::counters::FieldId;
 use records::counters::SchemaId;
 use records::schema::Schema;
 use records::schema::Schemas;
-use records::update::ADD_SCHEMA;
 use records::update::TableUpdate;
 use tables::ids::same_schema;
 use tables::schemas::find_equal;
@@ -139,7 +138,7 @@ pub struct SchemaAdded {
     pub builder: TableMetadataBuilder,
 }
 
-pub fn add_schema(b: TableMetadataBuilder, t: Schemas, s: Schema) -> SchemaAdded
+fn schema_addition(b: TableMetadataBuilder, t: Schemas, s: Schema) -> SchemaAdded
     requires { ⌜ LaidSchemas t ⌝ }
     requires { ⌜ LaidSchema s ⌝ }
     ensures { λ r. ⌜ SchemaGrown b t s r ⌝ }
@@ -212,7 +211,7 @@ pub struct SchemaSet {
     pub builder: TableMetadataBuilder,
 }
 
-pub fn set_current_schema(b: TableMetadataBuilder, t: Schemas, id: SchemaId) -> SchemaSet
+fn schema_choice(b: TableMetadataBuilder, t: Schemas, id: SchemaId) -> SchemaSet
     requires { ⌜ LaidSchemas t ⌝ }
     ensures { λ r. ⌜ ((st : State) → b ≡ laidBuilder st → t ≡ laidSchemas (st .metadata .schemas) → Answers (setCurrentSchemaChecks (id .0) st) st (setCurrentSchema (id .0) st) (r .number) (r .logs) (r .builder) (withSchemaId (r .«schema_id») (ofKind setCurrentSchemaKind))) ⌝ }
 {
@@ -237,58 +236,66 @@ pub fn set_current_schema(b: TableMetadataBuilder, t: Schemas, id: SchemaId) -> 
     }
 }
 
-// ---- the table's updates
+// ---- the updates of a list
 
-pub struct SchemasUpdated {
-    pub number: u8,
-    pub logs: bool,
-    pub builder: TableMetadataBuilder,
-    pub schemas: Schemas,
-    pub entry: TableUpdate,
-}
-
-fn put_schema(b: TableMetadataBuilder, t: Schemas, u: TableUpdate) -> SchemasUpdated
+pub fn add_schema(b: TableMetadataBuilder, t: Schemas, u: TableUpdate) -> Decision
     requires { ⌜ LaidSchemas t ⌝ }
     requires { ⌜ isTidyUpdate u ≡ true ⌝ }
     requires { ⌜ updateFormed (readKind u) ≡ true ⌝ }
     requires { ⌜ u .kind ≡ addSchemaKind ⌝ }
-    ensures { λ r. ⌜ SchemasAnswer b t u r ⌝ }
+    ensures { λ r. ⌜ SchemaDecided b t u r ⌝ }
 {
-    let v = u.schema;
-    let x = add_schema(b, t, v);
+    let s = u.schema;
+    let x = schema_addition(b, t, s);
     let y = x.schema;
     let c = x.builder;
-    let number = x.number;
-    let logs = x.logs;
-    let grows = x.grows;
     let mut e = u;
     e.schema = y;
-    if grows {
-        let s = tables::schemas::put(t, y);
-        return SchemasUpdated {
-            number,
-            logs,
-            builder: c,
-            schemas: s,
-            entry: e,
-        };
-    }
-    SchemasUpdated {
-        number,
-        logs,
+    Decision {
+        number: x.number,
+        logs: x.logs,
+        grows: x.grows,
         builder: c,
-        schemas: t,
         entry: e,
     }
 }
 
-fn remove_schemas(b: TableMetadataBuilder, t: Schemas, u: TableUpdate) -> SchemasUpdated
+// The table after an addition: a new schema is put into it.
+pub fn schemas_after(t: Schemas, d: Decision) -> Schemas
+    requires { ⌜ LaidSchemas t ⌝ }
+    requires { ⌜ (d .grows ≡ true → NewSchema t (d .entry .schema)) ⌝ }
+    ensures { λ r. ⌜ r ≡ cond (d .grows) (laidSchemas (put schemaBelow (readSchema (d .entry .schema)) (readSchemas t))) t ⌝ }
+{
+    let e = d.entry;
+    let s = e.schema;
+    if d.grows {
+        return tables::schemas::put(t, s);
+    }
+    t
+}
+
+pub fn set_current_schema(b: TableMetadataBuilder, t: Schemas, u: TableUpdate) -> Decision
+    requires { ⌜ LaidSchemas t ⌝ }
+    requires { ⌜ isTidyUpdate u ≡ true ⌝ }
+    requires { ⌜ u .kind ≡ setCurrentSchemaKind ⌝ }
+    ensures { λ r. ⌜ ((terms : Terms) (st : State) → b ≡ laidBuilder st → t ≡ laidSchemas (st .metadata .schemas) → Decides terms u st r) ⌝ }
+{
+    let x = schema_choice(b, t, u.schema_id);
+    let c = x.builder;
+    let id = x.schema_id;
+    let mut e = u;
+    e.schema_id = id;
+    decided(x.number, x.logs, c, e)
+}
+
+// The entry has the ids that were held.
+pub fn remove_schemas(b: TableMetadataBuilder, t: Schemas, u: TableUpdate) -> Decision
     requires { ⌜ LaidSchemas t ⌝ }
     requires { ⌜ ascending schemaBelow (readSchemas t) ≡ true ⌝ }
     requires { ⌜ isTidyUpdate u ≡ true ⌝ }
     requires { ⌜ updateFormed (readKind u) ≡ true ⌝ }
     requires { ⌜ u .kind ≡ removeSchemasKind ⌝ }
-    ensures { λ r. ⌜ SchemasAnswer b t u r ⌝ }
+    ensures { λ r. ⌜ ((terms : Terms) (st : State) → b ≡ laidBuilder st → t ≡ laidSchemas (st .metadata .schemas) → Decides terms u st r) ⌝ }
 {
     let ids = u.schema_ids;
     let n = ids.count;
@@ -297,29 +304,7 @@ fn remove_schemas(b: TableMetadataBuilder, t: Schemas, u: TableUpdate) -> Schema
     let removed = tables::ids::has_schema(ids, current);
     let number = choose(removed, CURRENT_SCHEMA_REMOVED, 0);
     let held = tables::schemas::held(t, ids);
-    let left = tables::schemas::without(t, ids);
     let mut e = u;
     e.schema_ids = held;
-    SchemasUpdated {
-        number,
-        logs: n > 0,
-        builder: b,
-        schemas: left,
-        entry: e,
-    }
-}
-
-pub fn update_schemas(b: TableMetadataBuilder, t: Schemas, u: TableUpdate) -> SchemasUpdated
-    requires { ⌜ LaidSchemas t ⌝ }
-    requires { ⌜ ascending schemaBelow (readSchemas t) ≡ true ⌝ }
-    requires { ⌜ isTidyUpdate u ≡ true ⌝ }
-    requires { ⌜ updateFormed (readKind u) ≡ true ⌝ }
-    requires { ⌜ any (eqb (u .kind)) (addSchemaKind ∷ removeSchemasKind ∷ []) ≡ true ⌝ }
-    ensures { λ r. ⌜ SchemasAnswer b t u r ⌝ }
-{
-    let k = u.kind;
-    if k == ADD_SCHEMA {
-        return put_schema(b, t, u);
-    }
-    remove_schemas(b, t, u)
+    decided(number, n > 0, b, e)
 }

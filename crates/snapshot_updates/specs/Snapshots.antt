@@ -1,15 +1,16 @@
--- Adding snapshots, by parts: the checks of a row range; and what a removal of snapshots leaves, as records.
+-- Adding and removing snapshots: the checks of a row range, and what the two updates decide.
 use mathlib.Core.Path.{_≡_}
-use mathlib.Core.Bool.{not, _&&_}
+use mathlib.Core.Bool.{Bool, true, cond, not, _&&_}
 use mathlib.Core.List.{List, [], _∷_}
+use lib.Dec.{eqb}
 use lib.IntN.{ℤ}
-use Rattle.rules.specs.Words.{isSome, keep, Check}
-use Rattle.rules.specs.Replies.{noRowRange, firstRowBehind, rowsOverflow}
-use Rattle.rules.specs.Register.{Snapshot, NamedRef, SingleFields}
-use Rattle.rules.specs.WellFormed.{pointsIn}
-use Rattle.rules.specs.SnapshotUpdates.{isVersion3, firstBehind, rowsPass, heldSnapshots, otherSnapshots}
-use Rattle.rules.specs.Layout.{laidSnapshots, laidSnapshotIds, laidRefs}
-use Rattle.snapshot_updates.specs.declared.Removed.{Removed}
+use Rattle.rules.specs.Words.{isSome, isEmpty, firstOf, Check}
+use Rattle.rules.specs.Replies.{noRowRange, firstRowBehind, rowsOverflow, commitOnTag}
+use Rattle.rules.specs.Register.{Snapshot, SingleFields, State, AddSnapshot, RemoveSnapshots}
+use Rattle.rules.specs.SnapshotUpdates.{isVersion3, firstBehind, rowsPass, addSnapshotChecks, addSnapshot, heldSnapshots}
+use Rattle.rules.specs.Kinds.{laidUpdate}
+use Rattle.builder.specs.declared.decision.Decision.{Decision}
+use Rattle.builder.specs.Pieces.{laidBuilder}
 
 -- "version 3 only: 10, 9, 11"
 abbrev pub rowChecks : Snapshot → SingleFields → List Check
@@ -19,8 +20,17 @@ rowChecks s f =
     ∷ (isVersion3 f && rowsPass s f, rowsOverflow)
     ∷ []
 
--- the snapshots whose ids are not in the list, the refs to them, and the held ids of the list
-pub record SnapshotsGone (asked : List ℤ) (held : List Snapshot) (named : List NamedRef) (r : Removed) : Type 0 where
-  pub snapshots : r .snapshots ≡ laidSnapshots (otherSnapshots asked held)
-  pub refs : r .refs ≡ laidRefs (keep (pointsIn (otherSnapshots asked held)) named)
-  pub ids : r .ids ≡ laidSnapshotIds (heldSnapshots asked held)
+-- an addition, decided: 13 on a tag, then the rule's checks; the builder after it, and what is logged
+pub record SnapshotDecided (onTag : Bool) (s : Snapshot) (st : State) (d : Decision) : Type 0 where
+  pub number : d .number ≡ cond onTag commitOnTag (firstOf (addSnapshotChecks s st))
+  pub logs : d .logs ≡ true
+  pub grows : d .grows ≡ eqb (d .number) 0
+  pub builder : d .number ≡ 0 → d .builder ≡ laidBuilder (addSnapshot s st)
+  pub entry : d .entry ≡ laidUpdate (AddSnapshot s)
+
+-- a removal, decided: it is logged, with the held ids, if there are any
+pub record SnapshotsGone (asked : List ℤ) (st : State) (d : Decision) : Type 0 where
+  pub number : d .number ≡ 0
+  pub logs : d .logs ≡ not (isEmpty (heldSnapshots asked (st .metadata .snapshots)))
+  pub builder : d .builder ≡ laidBuilder st
+  pub entry : d .entry ≡ laidUpdate (RemoveSnapshots (heldSnapshots asked (st .metadata .snapshots)))

@@ -1,23 +1,27 @@
 // Adding and removing snapshots: what these updates ask and do.
 // Document 01, "Rules for each update", as the crate `rules` writes it in SnapshotUpdates.
 ghost use mathlib.Core.Path.{_≡_};
-ghost use mathlib.Core.Bool.{true};
+ghost use mathlib.Core.Bool.{true, _||_};
+ghost use lib.Dec.{eqb};
 ghost use lib.IntN.{pos};
 ghost use lib.Signed.{ltZ, leZ};
 ghost use Rattle.rules.specs.Words.{larger, orElse, someWith, ascending, firstOf};
 ghost use Rattle.rules.specs.Window.{isBefore, minute};
-ghost use Rattle.rules.specs.Register.{State};
+ghost use Rattle.rules.specs.Register.{State, AddSnapshot};
 ghost use Rattle.rules.specs.WellFormed.{snapshotBelow};
-ghost use Rattle.rules.specs.Layout.{given, readSnapshot, readSnapshots, readSnapshotIds, readRefs, readFields};
+ghost use Rattle.rules.specs.Layout.{given, readSnapshot, readSnapshots, laidSnapshots, readSnapshotIds, readFields};
+ghost use Rattle.rules.specs.Kinds.{addSnapshotKind, setBranchSnapshotKind, removeSnapshotsKind, isTidyUpdate, laidUpdate};
 ghost use Rattle.rules.specs.SnapshotUpdates.{tooLow, nextRowAfter, addSnapshotChecks, addSnapshot};
-ghost use Rattle.tables.specs.Laid.{LaidSnapshots, LaidRefs, LaidSnapshotIds};
+ghost use Rattle.tables.specs.Laid.{LaidSnapshots, LaidSnapshotIds};
 ghost use Rattle.builder.specs.Pieces.{laidBuilder, idsOf, lastTime};
-ghost use Rattle.snapshot_updates.specs.Snapshots.{rowChecks, SnapshotsGone};
+ghost use Rattle.snapshot_updates.specs.Snapshots.{rowChecks, SnapshotDecided, SnapshotsGone};
 use builder::builder::TableMetadataBuilder;
 use builder::builder::own_or;
 use builder::checks::ACCEPTED;
 use builder::checks::TABLE_FULL;
 use builder::checks::choose;
+use builder::decision::Decision;
+use builder::decision::decided;
 use builder::facts::position;
 use leaves::row_ids::check_rows;
 use leaves::window::is_before;
@@ -27,10 +31,11 @@ use records::counters::RowId;
 use records::counters::SequenceNumber;
 use records::counters::Time;
 use records::metadata::SingleFields;
-use records::reference::Refs;
 use records::snapshot::Snapshot;
-use records::snapshot::SnapshotIds;
 use records::snapshot::Snapshots;
+use records::text::RefName;
+use records::update::ADD_SNAPSHOT;
+use records::update::TableUpdate;
 
 const SNAPSHOT_HELD: u8 = 5;
 
@@ -41,6 +46,8 @@ const BEFORE_LAST_ENTRY: u8 = 7;
 const BEFORE_LAST_UPDATE: u8 = 8;
 
 const NO_ROW_RANGE: u8 = 10;
+
+const COMMIT_ON_TAG: u8 = 13;
 
 // In milliseconds.
 const MINUTE: i64 = 60000;
@@ -142,7 +149,7 @@ fn next_row_after(f: SingleFields, s: Snapshot) -> RowId
 }
 
 // The checks in document 01's order: 5; 6; 7; 8; at version 3 10, 9, 11; 19. The entry is the last of the snapshot log, where it has one.
-pub fn add_snapshot_number(
+fn add_snapshot_number(
     b: TableMetadataBuilder,
     ids: &[i64],
     has_last: bool,
@@ -170,7 +177,7 @@ pub fn add_snapshot_number(
 }
 
 // The builder after an addition that is not refused.
-pub fn add_snapshot_builder(b: TableMetadataBuilder, s: Snapshot) -> TableMetadataBuilder
+fn add_snapshot_builder(b: TableMetadataBuilder, s: Snapshot) -> TableMetadataBuilder
     ensures { λ r. ⌜ ((st : State) → b ≡ laidBuilder st → firstOf (addSnapshotChecks (readSnapshot s) st) ≡ 0 → r ≡ laidBuilder (addSnapshot (readSnapshot s) st)) ⌝ }
 {
     let f = b.fields;
@@ -187,26 +194,58 @@ pub fn add_snapshot_builder(b: TableMetadataBuilder, s: Snapshot) -> TableMetada
     c
 }
 
-pub struct Removed {
-    pub snapshots: Snapshots,
-    pub refs: Refs,
-    pub ids: SnapshotIds,
+// ---- the updates of a list
+
+// What is logged of an addition: the update, or the first half of a branch commit.
+fn addition(u: TableUpdate) -> TableUpdate
+    ensures { λ r. ⌜ ((eqb (u .kind) addSnapshotKind || eqb (u .kind) setBranchSnapshotKind) ≡ true → isTidyUpdate u ≡ true → r ≡ laidUpdate (AddSnapshot (readSnapshot (u .snapshot)))) ⌝ }
+{
+    let mut e = u;
+    let none = RefName::blank();
+    e.kind = ADD_SNAPSHOT;
+    e.ref_name = none;
+    e
 }
 
-// Held ids go, and refs to missing snapshots.
-pub fn remove_snapshots(t: Snapshots, r: Refs, ids: SnapshotIds) -> Removed
-    requires { ⌜ LaidSnapshots t ⌝ }
-    requires { ⌜ LaidRefs r ⌝ }
-    requires { ⌜ LaidSnapshotIds ids ⌝ }
-    requires { ⌜ ascending snapshotBelow (readSnapshots t) ≡ true ⌝ }
-    ensures { λ x. ⌜ SnapshotsGone (readSnapshotIds ids) (readSnapshots t) (readRefs r) x ⌝ }
+// An addition, or the first half of a branch commit, which is refused with 13 on a tag.
+pub fn add_snapshot(
+    b: TableMetadataBuilder,
+    on_tag: bool,
+    ids: &[i64],
+    has_last: bool,
+    entry: Time,
+    u: TableUpdate,
+) -> Decision
+    requires { ⌜ isTidyUpdate u ≡ true ⌝ }
+    requires { ⌜ (eqb (u .kind) addSnapshotKind || eqb (u .kind) setBranchSnapshotKind) ≡ true ⌝ }
+    ensures { λ r. ⌜ ((st : State) → b ≡ laidBuilder st → now (ids .entry) ≡ idsOf (st .metadata .snapshots) → given «has_last» (entry .0) ≡ lastTime (st .metadata .snapshotLog) → SnapshotDecided «on_tag» (readSnapshot (u .snapshot)) st r) ⌝ }
 {
-    let held = tables::snapshots::held(t, ids);
-    let left = tables::snapshots::without(t, ids);
-    let refs = tables::refs::pointing(r, left);
-    Removed {
-        snapshots: left,
-        refs,
-        ids: held,
+    let s = u.snapshot;
+    let fails = add_snapshot_number(b, ids, has_last, entry, s);
+    let number = choose(on_tag, COMMIT_ON_TAG, fails);
+    let c = add_snapshot_builder(b, s);
+    let e = addition(u);
+    Decision {
+        number,
+        logs: true,
+        grows: number == ACCEPTED,
+        builder: c,
+        entry: e,
     }
+}
+
+// Held ids go, and are logged if there are any.
+pub fn remove_snapshots(b: TableMetadataBuilder, t: Snapshots, u: TableUpdate) -> Decision
+    requires { ⌜ LaidSnapshots t ⌝ }
+    requires { ⌜ ascending snapshotBelow (readSnapshots t) ≡ true ⌝ }
+    requires { ⌜ LaidSnapshotIds (u .«snapshot_ids») ⌝ }
+    requires { ⌜ isTidyUpdate u ≡ true ⌝ }
+    requires { ⌜ u .kind ≡ removeSnapshotsKind ⌝ }
+    ensures { λ r. ⌜ ((st : State) → b ≡ laidBuilder st → t ≡ laidSnapshots (st .metadata .snapshots) → SnapshotsGone (readSnapshotIds (u .«snapshot_ids»)) st r) ⌝ }
+{
+    let asked = u.snapshot_ids;
+    let held = tables::snapshots::held(t, asked);
+    let mut e = u;
+    e.snapshot_ids = held;
+    decided(ACCEPTED, held.count > 0, b, e)
 }

@@ -1,56 +1,24 @@
--- The choice is made of the state's last added and current ids, and the builder that comes back has the chosen one.
-use mathlib.Core.Path.{_≡_, refl, ap, _∙_}
-use mathlib.Core.Option.{Option}
+-- The answer is that of the choice, and the entry is the update with the id that the choice logs.
+use mathlib.Core.Path.{_≡_, ap}
 use borrow.Author.Needs.{needs}
-use lib.IntN.{ℤ}
-use Rattle.records.specs.declared.«sort_order».SortOrders.{SortOrders}
-use Rattle.rules.specs.Words.{eqZ}
-use Rattle.rules.specs.Register.{withDefaultOrder, onFields}
-use Rattle.rules.specs.Register.Update.{SetDefaultSortOrder}
-use Rattle.rules.specs.SchemaUpdates.{chosen, choiceLogged}
-use Rattle.rules.specs.OrderUpdates.{holdsOrder, setDefaultSortOrderChecks, setDefaultSortOrder}
-use Rattle.rules.specs.Layout.{readSortOrders, laidFields}
-use Rattle.rules.specs.Kinds.{laidUpdate}
-use Rattle.rules.proofs.Reread.{reread-sort-orders}
-use Rattle.builder.specs.declared.builder.TableMetadataBuilder.{TableMetadataBuilder}
-use Rattle.builder.specs.Pieces.{laidBuilder}
-use Rattle.builder.proofs.Steps.{stepped-unless}
-use Rattle.builder.proofs.Choices.{given-back, choice}
-use Rattle.order_updates.specs.Orders.{addedOrder}
+use lib.ListN.{length}
+use Rattle.rules.specs.Updates.{checks, effect}
+use Rattle.rules.specs.Kinds.{withSortOrderId}
+use Rattle.builder.proofs.Steps.{entry-as}
+use Rattle.builder.proofs.Entries.{of-kind, read-kind}
 use Rattle.order_updates.proofs.set_default_sort_order.Statement.{statement}
 use Rattle.order_updates.proofs.set_default_sort_order.Tie as tie
 
+long : (s : tie.Start) → length (s .args .u .uuid) ≡ 16
+long s = search needs
+
 returns : tie.Need-returns
-unfolding setDefaultSortOrderChecks setDefaultSortOrder laidBuilder laidFields laidUpdate
-returns c st p q =
-    let h = c .before .before .before in
-    let f = h .before .before in
-    let a = f .before .before .before .before .args in
-    let id : ℤ = a .id .0 in
-    let last : Option ℤ = st .added .order in
-    let current : ℤ = st .metadata .fields .defaultOrder in
-    let x : ℤ = chosen id last in
-    let k =
-    choice id (a .b .«has_order») (a .b .«last_added_order_id» .0)
-    (ap (λ (b : TableMetadataBuilder). addedOrder b) p ∙ given-back last)
-    (ap (λ (b : TableMetadataBuilder). b .fields .«default_sort_order_id» .0) p)
-    (ap holdsOrder (ap (λ (t : SortOrders). readSortOrders t) q ∙ reread-sort-orders (st .metadata .orders)))
-    (f .before .same-order .ensures) (f .chosen-order .ensures) (h .before .same-order2 .ensures) (h .holds .ensures) (c .before .before .choose .ensures) (c .before .choose2 .ensures) (c .logged-order .ensures) in
-    let new : f .chosen-order .result ≡ record { 0 = x } = λ i. record { 0 = k .takes i } in
-    let put : c .logged-order .result ≡ record { 0 = choiceLogged x last } = λ i. record { 0 = k .logs i } in (
-      k .checked,
-      λ z. rw (k .unchanged, put, new, p) (stepped-unless (eqZ x current) st (onFields (withDefaultOrder x) st) (SetDefaultSortOrder (choiceLogged x last)) _ _ refl refl refl),
-    )
+unfolding checks effect
+returns c terms st p q =
+    let x = c .before .before .before in
+    let s = x .before in
+    let u = s .args .u in
+    rw (c .decided .ensures, read-kind u (long s) (s .pre .1 .0) 13 (s .pre .1 .1)) (entry-as (x .order-choice .ensures st p q) (ap (withSortOrderId (x .order-choice .result .«order_id»)) (of-kind u (long s) (s .pre .1 .0) 13 (s .pre .1 .1))))
 
 pub set-default-sort-order-spec : {M : Type 1} → statement M
-set-default-sort-order-spec =
-    tie.close
-    (tie.spec
-    (λ c κs. search needs)
-    (λ c κs. search needs)
-    (λ c κs. search needs)
-    (λ c κs. search needs)
-    (λ c κs. search needs)
-    (λ c κs. search needs)
-    (λ c κs. search needs)
-    returns)
+set-default-sort-order-spec = tie.close (tie.spec (λ c κs. search needs) (λ c κs. search needs) returns)

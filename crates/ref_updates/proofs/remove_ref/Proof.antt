@@ -1,38 +1,77 @@
 -- Each return is one of the rule's three cases, on the refs that are read of the table.
-use mathlib.Core.Path.{_≡_, sym, ap, _∙_}
-use mathlib.Core.List.{List}
-use mathlib.Core.Bool.{not}
+use Prim.Native.Nat.{ℕ}
+use mathlib.Core.Path.{_≡_, refl, sym, ap, _∙_}
+use mathlib.Core.Bool.{Bool, true, false, false≢true, true≢false}
+use mathlib.Core.List.{List, [], _∷_, _++_}
+use mathlib.Core.Option.{none}
 use borrow.Author.Needs.{needs}
-use borrow.Author.Tests.{lt-ltb, le-ltb}
 use lib.Dec.{ltb}
-use lib.ListN.{getD}
-use Rattle.records.specs.declared.reference.Refs.{Refs}
+use lib.ListN.{length, getD}
 use Rattle.records.specs.Blanks.{noRef}
-use Rattle.records.specs.declared.text.RefName.{RefName}
-use Rattle.rules.specs.Words.{isSome, keep}
-use Rattle.rules.specs.Register.{State, NamedRef}
-use Rattle.rules.specs.RefUpdates.{hasName, refNamed}
+use Rattle.records.specs.declared.reference.Refs.{Refs}
+use Rattle.records.specs.declared.update.TableUpdate.{TableUpdate}
+use Rattle.rules.specs.Words.{isSome}
+use Rattle.rules.specs.Names.{isMain}
+use Rattle.rules.specs.Register.{State, RemoveRef, withCurrent, onFields, logged}
+use Rattle.rules.specs.RefUpdates.{refNamed, withoutRef, removeRef}
+use Rattle.rules.specs.Updates.{checks, effect}
 use Rattle.rules.specs.Layout.{given, readRefName, readRef, readRefs, laidRefs}
+use Rattle.rules.specs.Kinds.{readUpdate, laidUpdate}
 use Rattle.rules.proofs.Relaid.{flag-given}
 use Rattle.rules.proofs.Reread.{reread-refs}
+use Rattle.builder.specs.declared.builder.TableMetadataBuilder.{TableMetadataBuilder}
+use Rattle.builder.specs.Pieces.{laidBuilder, Stepped}
+use Rattle.builder.proofs.Entries.{of-kind, read-kind}
 use Rattle.ref_updates.proofs.Named.{named}
-use Rattle.ref_updates.proofs.Removals.{main-gone, ref-gone, none-gone}
 use Rattle.ref_updates.proofs.remove_ref.Statement.{statement}
 use Rattle.ref_updates.proofs.remove_ref.Tie as tie
 
-its-refs : {t : Refs} (st : State) → t ≡ laidRefs (st .metadata .refs) → readRefs t ≡ st .metadata .refs
-its-refs st e = ap readRefs e ∙ reread-refs (st .metadata .refs)
+-- ---- the rule's cases
 
-left : {t : Refs} (st : State) (name : RefName) → t ≡ laidRefs (st .metadata .refs)
-    → laidRefs (keep (λ r. not (hasName (readRefName name) r)) (readRefs t)) ≡ laidRefs (keep (λ r. not (hasName (readRefName name) r)) (st .metadata .refs))
-left st name e = ap (λ (l : List NamedRef). laidRefs (keep (λ r. not (hasName (readRefName name) r)) l)) (its-refs st e)
+module _ (name : List ℕ) (st : State) {b : TableMetadataBuilder} {e : TableUpdate} (laid : e ≡ laidUpdate (RemoveRef name)) where
+  main-gone : isMain name ≡ true → b ≡ laidBuilder (onFields (withCurrent none) st) → Stepped st (removeRef name st) true b e
+  unfolding removeRef laidBuilder
+  main-gone m p = record { took = λ _. record { builder = p ∙ rw m; update = RemoveRef name; log = rw m; laid = laid }; left = λ f. absurd (true≢false f) }
 
-its-name : (c : tie.After-find) (st : State) → let s = c .before .before in
-    s .args .t ≡ laidRefs (st .metadata .refs) →
-    refNamed (readRefName (s .args .name)) (st .metadata .refs) ≡ given (ltb (c .find .result) (s .args .t .count)) (readRef (getD (s .args .t .items) (c .find .result) noRef))
-its-name c st r =
-    let s = c .before .before in
-    ap (refNamed (readRefName (s .args .name))) (sym (its-refs st r)) ∙ named (s .pre .0) (readRefName (s .args .name)) noRef (c .find .ensures)
+  other-gone : isMain name ≡ false → (held : Bool) → isSome (refNamed name (st .metadata .refs)) ≡ held → b ≡ laidBuilder st → Stepped st (removeRef name st) held b e
+  unfolding removeRef laidBuilder
+  other-gone m true h p = record { took = λ _. record { builder = p ∙ rw (m, h); update = RemoveRef name; log = rw (m, h); laid = laid }; left = λ f. absurd (true≢false f) }
+  other-gone m false h p = record { took = λ f. absurd (false≢true f); left = λ _. rw (m, h) }
+
+-- ---- the update
+
+module _ (s : tie.Start) where
+  long : length (s .args .u .uuid) ≡ 16
+  long = search needs
+
+  read : readUpdate (s .args .u) ≡ RemoveRef (readRefName (s .args .u .«ref_name»))
+  read = read-kind (s .args .u) long (s .pre .1 .1 .0) 8 (s .pre .1 .1 .1)
+
+  entry : s .args .u ≡ laidUpdate (RemoveRef (readRefName (s .args .u .«ref_name»)))
+  unfolding laidUpdate
+  entry = of-kind (s .args .u) long (s .pre .1 .1 .0) 8 (s .pre .1 .1 .1) ∙ rw (s .pre .1 .0 .back)
+
+-- the name is held exactly if the place is within the count
+is-named : (c : tie.After-find) (st : State) → let s = c .before .before .before in
+    s .args .t ≡ laidRefs (st .metadata .refs) → isSome (refNamed (readRefName (s .args .u .«ref_name»)) (st .metadata .refs)) ≡ ltb (c .find .result) (s .args .t .count)
+is-named c st r =
+    let s = c .before .before .before in
+    let n = readRefName (s .args .u .«ref_name») in
+    ap isSome (ap (refNamed n) (sym (ap (λ (t : Refs). readRefs t) r ∙ reread-refs (st .metadata .refs))) ∙ named (s .pre .0) n noRef (c .find .ensures)) ∙ flag-given (ltb (c .find .result) (s .args .t .count)) (readRef (getD (s .args .t .items) (c .find .result) noRef))
+
+returns : tie.Need-returns
+unfolding checks effect
+returns c terms st p q =
+    let k = c .before .before .before in
+    let s = k .before .before .before in
+    rw (c .decided .ensures, read s) (refl, λ z. main-gone (readRefName (s .args .u .«ref_name»)) st (entry s) (sym (k .before .is-main-name .ensures) ∙ c .before .before .if1 .taken) (c .before .without-current .ensures st p))
+
+returns-2 : tie.Need-returns-2
+unfolding checks effect
+returns-2 c terms st p q =
+    let k = c .before .before in
+    let s = k .before .before .before in
+    rw (c .decided2 .ensures, read s) (refl, λ z. other-gone (readRefName (s .args .u .«ref_name»)) st (entry s) (sym (k .before .is-main-name .ensures) ∙ c .before .if1 .left) (ltb (k .find .result) (s .args .t .count)) (is-named k st q) p)
 
 pub remove-ref-spec : {M : Type 1} → statement M
 remove-ref-spec =
@@ -42,15 +81,6 @@ remove-ref-spec =
     (λ c κs. search needs)
     (λ c κs. search needs)
     (λ c κs. search needs)
-    (λ c st e r. let k = c .before .before .before in
-    let a = k .before .before .args in
-    main-gone st (readRefName (a .name)) (c .before .without .ensures ∙ left st (a .name) r) (sym (k .before .is-main-name .ensures) ∙ c .before .before .if1 .taken) (c .without-current .ensures st e))
-    (λ c st e r. let k = c .before .before in
-    let s = k .before .before in
-    none-gone st (readRefName (s .args .name)) (sym (k .before .is-main-name .ensures) ∙ c .before .if1 .left) (its-name k st r ∙ rw (le-ltb _ _ (c .if2 .taken))) e r)
+    returns
     (λ c κs. search needs)
-    (λ c st e r. let k = c .before .before .before in
-    let s = k .before .before in
-    ref-gone st (readRefName (s .args .name)) (c .without2 .ensures ∙ left st (s .args .name) r) (sym (k .before .is-main-name .ensures) ∙ c .before .before .if1 .left)
-    (ap isSome (its-name k st r) ∙ flag-given (ltb (k .find .result) (s .args .t .count)) (readRef (getD (s .args .t .items) (k .find .result) noRef)) ∙ lt-ltb _ _ (c .before .if2 .left))
-    e))
+    returns-2)

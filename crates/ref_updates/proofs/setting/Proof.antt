@@ -1,7 +1,7 @@
 -- Every record but the name and the ref is blank, and the name is tidy.
 use borrow.Author.Needs.{needs, length-unmapped}
 use Prim.Native.Nat.{ℕ}
-use Rattle.ref_updates.proofs.Halves.{set}
+use Rattle.builder.proofs.Halves.{set}
 use Rattle.ref_updates.proofs.setting.Statement.{statement}
 use Rattle.ref_updates.proofs.setting.Tie as tie
 

@@ -1,948 +1,1128 @@
--- `run` meets its contract: between two updates the pieces are those of a state, from which the rest of the list leads where the whole list leads from the start.
-use Prim.Native.Nat.{_+_, _-_, _≤_, _<_}
-use mathlib.Core.Path.{_≡_, refl, sym, ap, _∙_}
-use mathlib.Core.Bool.{true, false, not, cond, _||_}
-use mathlib.Core.Logic.{_⊎_, inl, inr, ⊎-elim}
-use mathlib.Core.List.{List, [], _∷_}
+-- `run` meets its contract: in every turn the pieces stand for a state, from which the rest of the list leads where the whole list leads from the start, or the refusal is known.
+use Prim.Native.Nat.{ℕ, _+_, _*_, _-_, _≤_, _<_}
 use native.Mathlib.Omega.{arith}
+use mathlib.Core.Path.{_≡_, refl, sym, ap, _∙_}
+use mathlib.Core.Bool.{Bool, true, false, not, cond, _&&_, _||_, true≢false, false≢true}
+use mathlib.Core.Logic.{⊎-elim}
+use mathlib.Core.List.{List, [], _∷_}
 use borrow.Author.Needs.{needs, sfits-of}
+use borrow.Author.Tests.{not-true, not-false, eqb-true, eqb-false, eq-eqb, ne-eqb, ltb-true, ltb-false}
+use borrow.Table.Steps.{cases}
 use mir.Syntax.{w64}
 use mir.Val.{toZ, ofZ}
 use mir.Facts.{toZ-ofZ}
-use borrow.Author.Tests.{not-true, not-false, eqb-true, eqb-false}
-use borrow.Table.Steps.{cases}
 use lib.Dec.{eqb, ltb}
 use lib.IntN.{ℤ, pos}
 use lib.ListN.{length, getD, set, drop, take, length-map}
-use Rattle.records.specs.Blanks.{noSnapshot, noReference}
+use Rattle.records.specs.Blanks.{noSnapshot}
+use Rattle.records.specs.declared.run.Answer.{Answer}
+use Rattle.records.specs.declared.snapshot.Snapshots.{Snapshots}
+use Rattle.records.specs.declared.snapshot.SnapshotLog.{SnapshotLog}
 use Rattle.records.specs.declared.update.TableUpdate.{TableUpdate}
-use Rattle.records.specs.declared.snapshot.Snapshot.{Snapshot}
-use Rattle.rules.specs.Register as plain
-use Rattle.rules.specs.Register.{State, Terms, withOwn}
-use Rattle.rules.specs.WellFormed.{updateFormed, snapshotBelow, refBelow}
-use Rattle.rules.specs.Words.{isIn, eqZ, firstOf, put}
-use Rattle.rules.specs.SnapshotUpdates.{addSnapshotChecks}
+use Rattle.rules.specs.Words.{total, eqZ, firstOf, put}
 use Rattle.rules.specs.Names.{isMain}
-use Rattle.rules.specs.RefUpdates.{isTag, committed, sameReference, isHeldRef, setRefChecks, ownAfter}
-use Rattle.builder.specs.Pieces.{lastTime, laidBuilder, idsOf, isAbove}
-use Rattle.rules.specs.Layout.{given, pad, readSnapshot, laidSnapshot, readSnapshots, laidSnapshots, readSnapshotIds, readRefName, readReference, laidReference, readRefs, laidRefs}
-use Rattle.records.specs.declared.text.RefName.{RefName}
-use Rattle.rules.specs.Register.Update.{AddSnapshot, SetRef}
-use Rattle.rules.proofs.Tables.{keep-length}
-use Rattle.rules.specs.Run.{weight}
-use Rattle.rules.specs.Kinds.{readUpdate, readUpdates, laidUpdate}
-use Rattle.rules.specs.Answer.{readTerms}
-use Rattle.standing.specs.Standing.{startNumber, Standing}
-use Rattle.standing.proofs.Reading.{formed-tidy, formed-kind, is-field, is-schema-9, is-schema-11, read-4, read-5, read-6, read-7, read-8, snapshot-kind, here, weight-read, counts, group-field, group-9, group-11, group-12}
-use Rattle.standing.proofs.Started.{starts, refused-start, sum-counts}
-use Rattle.standing.proofs.Effects.{group}
-use Rattle.standing.proofs.Moving.{fits, ends}
-use Rattle.standing.proofs.Beginning.{standing-start, start-snapshots, laid-snapshots, laid-refs, laid-schemas, laid-orders, location-fits, snapshots-ascend, schemas-ascend, orders-formed, schema-held, read-refs, refs-ascend}
-use Rattle.standing.proofs.Taken.{asked-laid, name-5, name-7, name-8, snapshot-back, reference-back, removal-entry, gone-entry, laid-of, holds-some, holds-none}
-use Rattle.standing.proofs.Added.{entries-within, last-some, last-none, has-room, stored-last, id-last, put-new, put-laid, put-tables, put-ids, addition-done}
-use Rattle.standing.proofs.Setting.{Adds, add-refused, Midway, set-midway, commit-tagged, commit-midway}
-use Rattle.standing.proofs.Pointing.{Sought, Aimed, old-held, old-none, old-back, same-held, other-held, none-held, set-number, spot-held, ref-room, log-room, own-added, own-kept, ref-replaced, ref-put, settled, set-other, set-main}
-use Rattle.standing.proofs.Closed.{held-ids, held-fits, held-within, held-slice, adds-within, added-slice, adds-most, mains-most}
-use Rattle.standing.proofs.Groups.{removed-none, removed-some, gone-none, gone-some, not-formed-refused, check-refused, nothing-changed, fields-changed, schemas-changed, orders-changed}
-use Rattle.register.proofs.run.Statement.{statement}
-use Rattle.register.proofs.run.Tie as tie
-use Rattle.register.proofs.run.Reads as reads
+use Rattle.rules.specs.Register as plain
+use Rattle.rules.specs.WellFormed.{updateFormed, snapshotBelow}
+use Rattle.rules.specs.SnapshotUpdates.{addSnapshotChecks}
+use Rattle.rules.specs.RefUpdates.{isTag}
+use Rattle.rules.specs.Run.{weight, listSum}
+use Rattle.rules.specs.Layout.{pad, readSnapshot, laidSnapshot, laidSnapshots, readSnapshotIds, readSchemaIds, readRefName, readReference, readRefs, readMetadata}
+use Rattle.rules.specs.Kinds.{isTidyUpdate, readUpdate, readUpdates}
+use Rattle.rules.specs.Run.{close}
+use Rattle.rules.specs.Answer.{laidOutcome}
+use Rattle.rules.specs.Register.Outcome.{Refused}
+use Rattle.close.specs.Answers.{HistoryOf, FilesOf}
+use Rattle.rules.proofs.Checks.{and-left, and-right, by-either, neither}
 use Rattle.tables.specs.Laid.{LaidName}
 use Rattle.tables.specs.Places.{indexOf}
-use Rattle.records.specs.declared.snapshot.SnapshotLog.{SnapshotLog}
-use Rattle.ref_updates.proofs.Named.{named-within}
-use Rattle.ref_updates.proofs.WantedRefs.{wanted-read, wanted-laid, laid-ref}
+use Rattle.builder.specs.declared.decision.Decision.{Decision}
+use Rattle.builder.specs.Pieces.{idsOf, isAbove}
+use Rattle.builder.proofs.Entries.{not-first, only-one}
+use Rattle.snapshot_updates.specs.Snapshots.{SnapshotDecided}
+use Rattle.ref_updates.specs.Refs.{askedRef, RefSet}
+use Rattle.start.specs.Start.{startNumber}
+use Rattle.start.proofs.Reading.{formed-tidy, formed-kind, known, kinds, read-6, read-7, read-8, read-11, here, all-read, weight-read, counts}
+use Rattle.start.proofs.Started.{refused-start}
+use Rattle.laws.specs.Standing.{Given, termsOf, answerOf, Held, Changes, Pieces, Standing, Represents}
+use Rattle.laws.specs.Turns.{nothing, updateAt, nameAt, Midway, Stands, Decided, Turn}
+use Rattle.laws.proofs.Beginning.{start-snapshots, start-log, start-short, standing-start, laid-snapshots, laid-refs, laid-log, laid-schemas, laid-orders, location-fits, snapshots-ascend, schemas-ascend, refs-ascend, orders-formed, schema-held, order-held}
+use Rattle.laws.proofs.Closed.{firstThree, held-ids, held-fits, held-within, held-slice, adds-within, added-slice, mains-within, main-slice, adds-most, mains-most, told, handed, files-laid, filed, limit-least, close-refused, files-refused, close-accepted}
+use Rattle.laws.proofs.Moving.{fits, ends}
+use Rattle.laws.proofs.Deciding.{whole, entry-room, not-formed-decided, fields-decided, refs-decided, schemas-decided, orders-decided, refs-left, schemas-left, schemas-grown, orders-grown}
+use Rattle.laws.proofs.Removing.{left-laid, removed-decided}
+use Rattle.laws.proofs.Adding.{has-room, stored-last, id-last, put-new, put-laid, put-tables, put-ids, add-refused, adds-fine, add-decided}
+use Rattle.laws.proofs.Setting.{faced, set-midway, set-decides, main-room, other-decided, main-decided}
+use Rattle.laws.proofs.Taken.{snapshot-back, reference-back, asked-laid, schema-ids-laid, name-5, name-7, name-8}
+use Rattle.laws.proofs.Effects.{group}
+use Rattle.laws.proofs.Turning.{undivided, unformed, at-the-end, decides, refuses, goes-on, is-uuid, is-version, is-location, is-ref-removal, is-schema, is-schema-choice, is-schema-removal, is-order, is-order-choice}
+use Rattle.register.proofs.run.Statement.{statement}
+use Rattle.register.proofs.run.Tie as tie
 
+or-second : (a b : Bool) → a ≡ false → (a || b) ≡ true → b ≡ true
+or-second a b e h = rw e at h
+
+and-second : (a b : Bool) → a ≡ true → (a && b) ≡ false → b ≡ false
+and-second a b e h = rw e at h
+
+-- ---- the two loops
+
+-- the sum of the updates passed, and of the rest of a list that is not too long, make the list's sum
 abbrev Inv-loop : tie.InvT-loop
-Inv-loop m terms limit us number n clock b₀ t₀ ids₀ r₀ log₀ s₀ o₀ none entries₀ c₀ added₀ adds₀ mained₀ mains₀ removal₀ i₀ b t ids r log s o entries c added adds mained mains removal i = (i ≤ n) × Standing m us terms limit i b t ids r log s o entries c added adds mained mains removal
+Inv-loop metadata terms text updates first clock listed added mained adds mains removal sum₀ number entries builder decision snapshots ids refs log last schemas orders count place₀ waits half begun sum place =
+    (place ≤ 64) × (sum ≤ 2 * place) × (listed ≤ 64 → (place ≤ listed) × (sum + total weight (drop place (readUpdates updates)) ≡ listSum (readUpdates updates)))
 
 abbrev μ-loop : tie.MeasureT-loop
-μ-loop m terms limit us number n clock b₀ t₀ ids₀ r₀ log₀ s₀ o₀ none entries₀ c₀ added₀ adds₀ mained₀ mains₀ removal₀ i₀ b t ids r log s o entries c added adds mained mains removal i = n - i
+μ-loop metadata terms text updates first clock listed added mained adds mains removal sum₀ number entries builder decision snapshots ids refs log last schemas orders count place₀ waits half begun sum place = 64 - place
 
--- what the logic reads past the end of an array
-abbrev nothing : TableUpdate
-nothing = record { kind = 0; uuid = []; «format_version» = 0; location = record { bytes = []; len = 0 }; snapshot = noSnapshot; «snapshot_ids» = record { items = []; count = 0 }; «ref_name» = record { bytes = []; len = 0 }; reference = noReference; schema = record { «schema_id» = record { 0 = pos 0 }; items = []; count = 0 }; «schema_id» = record { 0 = pos 0 }; «schema_ids» = record { items = []; count = 0 }; «sort_order» = record { «order_id» = record { 0 = pos 0 }; items = []; count = 0 }; «sort_order_id» = record { 0 = pos 0 } }
+abbrev Inv-loop2 : tie.InvT-loop2
+Inv-loop2 metadata terms text updates first clock listed added₀ mained₀ adds₀ mains₀ removal₀ sum number₀ entries₀ builder₀ decision₀ snapshots₀ ids₀ refs₀ log₀ last₀ schemas₀ orders₀ count₀ place₀ waits₀ half₀ begun₀ added mained adds mains removal number entries builder decision snapshots ids refs log last schemas orders count place waits half begun =
+    Turn (record { metadata = metadata; updates = updates; terms = terms; text = text }) number place waits half
+    (record {
+      held = record { builder = builder; snapshots = snapshots; ids = ids; refs = refs; log = log; last = last; schemas = schemas; orders = orders };
+      changes = record { entries = entries; count = count; added = added; adds = adds; mained = mained; mains = mains; removal = removal };
+    })
+    decision
 
--- ---- the start
+-- of each update four turns at most are left: to decide, to store, and both again for the second half of a branch commit
+abbrev turns : Bool → Bool → ℕ
+turns waits half = cond waits (cond half 3 1) (cond half 2 4)
 
-abbrev Start : Type 0
-Start = tie.Start Inv-loop μ-loop
+abbrev μ-loop2 : tie.MeasureT-loop2
+μ-loop2 metadata terms text updates first clock listed added₀ mained₀ adds₀ mains₀ removal₀ sum number₀ entries₀ builder₀ decision₀ snapshots₀ ids₀ refs₀ log₀ last₀ schemas₀ orders₀ count₀ place₀ waits₀ half₀ begun₀ added mained adds mains removal number entries builder decision snapshots ids refs log last schemas orders count place waits half begun =
+    cond (eqb number 0) (4 * (listed - place) + turns waits half) 0
 
--- the number of the start is 0
-zero : (c : tie.Else1 Inv-loop μ-loop) → startNumber (c .before .before .before .args .m) (c .before .before .before .args .t2) (c .before .before .before .args .terms) ≡ 0
-zero c = sym (c .before .start-number .ensures) ∙ c .if1 .left
+-- ---- before the loops
 
--- from before the loop
-abbrev else1 : tie.After-blank Inv-loop μ-loop → tie.Else1 Inv-loop μ-loop
-else1 c = c .before .before .before .before .before .before .before .before .before .before
+abbrev begin : tie.After-orders Inv-loop μ-loop Inv-loop2 μ-loop2 → tie.Start Inv-loop μ-loop Inv-loop2 μ-loop2
+begin c = c .before .before .before .before .before .before .before .before .before .before .before .before .before
 
-abbrev begin : tie.After-blank Inv-loop μ-loop → Start
-begin c = else1 c .before .before .before
+-- what the run is given
+abbrev G : tie.After-orders Inv-loop μ-loop Inv-loop2 μ-loop2 → Given
+G c = record { metadata = begin c .args .metadata; updates = begin c .args .t2; terms = begin c .args .terms; text = begin c .args .text .now }
 
-abbrev told : tie.After-blank Inv-loop μ-loop → Terms
-told c = readTerms (begin c .args .terms) (begin c .args .limit .now)
+long : (c : tie.After-orders Inv-loop μ-loop Inv-loop2 μ-loop2) → length (G c .updates .items) ≡ 64
+long c = sym (length-map (G c .updates .items) _) ∙ begin c .good .1 .0 .1 .1 .0 .1 .0 .1
 
-long : (c : Start) → length (c .args .t2 .items) ≡ 64
-long c = sym (length-map (c .args .t2 .items) _) ∙ c .good .1 .0 .1 .1 .0 .1 .0 .1
+-- ---- the sum
 
-short : (c : tie.After-blank Inv-loop μ-loop) → begin c .args .t2 .count ≤ 64
-short c = omega (arith, starts (begin c .args .m) (begin c .args .t2) (begin c .args .terms) (zero (else1 c)) .sum, sum-counts (begin c .args .t2))
+module _ (c : tie.In-loop Inv-loop μ-loop Inv-loop2 μ-loop2) where
+  abbrev sumAt : tie.At-loop Inv-loop μ-loop Inv-loop2 μ-loop2
+  sumAt = c .before
+
+  summed : sumAt .loop .place < begin (sumAt .before) .args .t2 .count
+  summed = ltb-true _ _ (and-left (ltb (sumAt .loop .place) (begin (sumAt .before) .args .t2 .count)) (ltb (sumAt .loop .place) 64) (c .loop-test .taken))
+
+  slotted : sumAt .loop .place < 64
+  slotted = ltb-true _ _ (and-right (ltb (sumAt .loop .place) (begin (sumAt .before) .args .t2 .count)) (ltb (sumAt .loop .place) 64) (c .loop-test .taken))
+
+  more-summed : {s : ℕ} → s ≡ weight (readUpdate (updateAt (G (sumAt .before)) (sumAt .loop .place))) → G (sumAt .before) .updates .count ≤ 64
+      → (sumAt .loop .place + 1 ≤ G (sumAt .before) .updates .count) × (sumAt .loop .sum + s + total weight (drop (sumAt .loop .place + 1) (readUpdates (G (sumAt .before) .updates))) ≡ listSum (readUpdates (G (sumAt .before) .updates)))
+  more-summed q h =
+      let us = G (sumAt .before) .updates in
+      let k = sumAt .loop .inv .2 h in
+      let w = here us (sumAt .loop .place) nothing summed (omega (arith, long (sumAt .before))) in
+      let e : total weight (drop (sumAt .loop .place) (readUpdates us)) ≡ weight (readUpdate (updateAt (G (sumAt .before)) (sumAt .loop .place))) + total weight (drop (sumAt .loop .place + 1) (readUpdates us)) = ap (total weight) w in
+      (omega (arith, summed), omega (arith, k .1))
+
+-- the sum of the whole list
+whole-sum : (c : tie.After-loop Inv-loop μ-loop Inv-loop2 μ-loop2) → G (c .before .before) .updates .count ≤ 64 → c .before .loop .sum ≡ listSum (readUpdates (G (c .before .before) .updates))
+whole-sum c h =
+    let us = G (c .before .before) .updates in
+    let l = c .before .loop in
+    let k = l .inv .2 h in
+    let e : us .count ≤ l .place = cases (ltb (l .place) (us .count)) (λ t. omega (arith, ltb-false (l .place) 64 (and-second (ltb (l .place) (us .count)) (ltb (l .place) 64) t (c .loop-test .left)))) (λ f. ltb-false (l .place) (us .count) f) in
+    let z : total weight (drop (l .place) (readUpdates us)) ≡ 0 = ap (total weight) (all-read us (l .place) e) in
+    omega (arith, k .1)
 
 -- ---- a turn
 
--- the update of this turn
-abbrev U : tie.At-loop Inv-loop μ-loop → TableUpdate
-U c = getD (begin (c .before) .args .t2 .items) (c .loop .i) nothing
+-- what the run is given, and the pieces at the loop
+module _ (a : tie.At-loop2 Inv-loop μ-loop Inv-loop2 μ-loop2) where
+  abbrev given : Given
+  given = G (a .before .before .before .before)
 
--- it stands first in what is left of the list
-turn : (c : tie.In-loop Inv-loop μ-loop) → drop (c .before .loop .i) (readUpdates (begin (c .before .before) .args .t2)) ≡ readUpdate (U (c .before)) ∷ drop (c .before .loop .i + 1) (readUpdates (begin (c .before .before) .args .t2))
-turn c =
-    let us = begin (c .before .before) .args .t2 in
-    let i = c .before .loop .i in
-    here us i nothing (c .loop-test .taken) (omega (arith, long (begin (c .before .before)), short (c .before .before)))
+  abbrev here-pieces : Pieces
+  here-pieces =
+      record {
+        held = record { builder = a .loop2 .builder; snapshots = a .loop2 .snapshots; ids = a .loop2 .ids; refs = a .loop2 .refs; log = a .loop2 .log; last = a .loop2 .last; schemas = a .loop2 .schemas; orders = a .loop2 .orders };
+        changes = record { entries = a .loop2 .entries; count = a .loop2 .count; added = a .loop2 .added; adds = a .loop2 .adds; mained = a .loop2 .mained; mains = a .loop2 .mains; removal = a .loop2 .removal };
+      }
 
-one : (c : tie.At-loop Inv-loop μ-loop) → 1 ≤ weight (readUpdate (U c))
-one c = omega (arith, weight-read (U c), counts (U c .kind) .0)
+  -- the update at hand
+  abbrev U : TableUpdate
+  U = updateAt given (a .loop2 .place)
 
--- an entry has room
-room : (c : tie.In-loop Inv-loop μ-loop) → c .before .loop .c < 64
-room c = omega (arith, fits (c .before .loop .inv .1) (readUpdate (U (c .before))) (turn c), c .before .loop .inv .1 .ended .logs .count, one (c .before))
+module _ (c : tie.In-loop2 Inv-loop μ-loop Inv-loop2 μ-loop2) where
+  zero : c .before .loop2 .number ≡ 0
+  zero = eqb-true _ _ (and-left (eqb (c .before .loop2 .number) 0) (c .before .loop2 .waits || ltb (c .before .loop2 .place) (given (c .before) .updates .count)) (c .loop2-test .taken))
+
+  short : given (c .before) .updates .count ≤ 64
+  short = c .before .loop2 .inv .short zero
+
+-- ---- a turn that stores
+
+module _ (c : tie.Then1 Inv-loop μ-loop Inv-loop2 μ-loop2) where
+  abbrev stored-at : tie.At-loop2 Inv-loop μ-loop Inv-loop2 μ-loop2
+  stored-at = c .before .before
+
+  waiting : (stored-at .loop2 .place < given stored-at .updates .count) × Decided (given stored-at) (stored-at .loop2 .place) (stored-at .loop2 .half) (here-pieces stored-at) (stored-at .loop2 .decision)
+  waiting = stored-at .loop2 .inv .waits (zero (c .before)) (c .if1 .taken)
+
+-- a turn more is done
+stored-less : (number listed place next : ℕ) (half : Bool) {waits : Bool} → number ≡ 0 → waits ≡ true → place < listed → next ≡ cond half place (place + 1) → (n : ℕ) → n ≡ 0 → cond (eqb n 0) (4 * (listed - next) + turns false half) 0 < cond (eqb number 0) (4 * (listed - place) + turns waits half) 0
+stored-less number listed place next half {waits} z w l q n y = rw (z, w, y, q) (cases half (λ t. rw t (omega arith)) (λ f. rw f (omega arith)))
+
+refused-less : (number listed place : ℕ) (half waits : Bool) → number ≡ 0 → (n : ℕ) (next : ℕ) (a b : Bool) → (n ≡ 0 → ⊥) → cond (eqb n 0) (4 * (listed - next) + turns a b) 0 < cond (eqb number 0) (4 * (listed - place) + turns waits half) 0
+refused-less number listed place half waits z n next a b y = rw (z, ne-eqb n 0 y) (cases waits (λ t. cases half (λ u. rw (t, u) (omega arith)) (λ u. rw (t, u) (omega arith))) (λ t. cases half (λ u. rw (t, u) (omega arith)) (λ u. rw (t, u) (omega arith))))
+
+-- ---- a turn that decides
+
+module _ (c : tie.Else1 Inv-loop μ-loop Inv-loop2 μ-loop2) where
+  abbrev decided-at : tie.At-loop2 Inv-loop μ-loop Inv-loop2 μ-loop2
+  decided-at = c .before .before
+
+  below : decided-at .loop2 .place < given decided-at .updates .count
+  below = ltb-true _ _ (or-second (decided-at .loop2 .waits) (ltb (decided-at .loop2 .place) (given decided-at .updates .count)) (c .if1 .left) (and-right (eqb (decided-at .loop2 .number) 0) (decided-at .loop2 .waits || ltb (decided-at .loop2 .place) (given decided-at .updates .count)) (c .before .loop2-test .taken)))
+
+  stands : Stands (given decided-at) (decided-at .loop2 .place) (decided-at .loop2 .half) (here-pieces decided-at)
+  stands = decided-at .loop2 .inv .stands (zero (c .before)) (c .if1 .left)
+
+  at : drop (decided-at .loop2 .place) (readUpdates (given decided-at .updates)) ≡ readUpdate (U decided-at) ∷ drop (decided-at .loop2 .place + 1) (readUpdates (given decided-at .updates))
+  at = here (given decided-at .updates) (decided-at .loop2 .place) nothing below (omega (arith, long (decided-at .before .before .before .before), short (c .before)))
+
+  one : 1 ≤ weight (readUpdate (U decided-at))
+  one = omega (arith, weight-read (U decided-at), counts (U decided-at .kind) .0)
+
+  -- the decision waits to be stored
+  waits-now : {half : Bool} {p : Pieces} {d : Decision} → Decided (given decided-at) (decided-at .loop2 .place) half p d → Turn (given decided-at) (decided-at .loop2 .number) (decided-at .loop2 .place) true half p d
+  waits-now D = decides (zero (c .before)) (short (c .before)) below D
+
+decided-less : (number listed place : ℕ) (half : Bool) {waits : Bool} → number ≡ 0 → waits ≡ false → cond (eqb number 0) (4 * (listed - place) + turns true false) 0 < cond (eqb number 0) (4 * (listed - place) + turns waits half) 0
+decided-less number listed place half z w = rw (z, w) (cases half (λ t. rw t (omega arith)) (λ f. rw f (omega arith)))
+
+-- the same where the first half of a branch commit may be decided
+halved-less : (number listed place : ℕ) (half now : Bool) {waits : Bool} → number ≡ 0 → waits ≡ false → (now ≡ true → half ≡ false) → cond (eqb number 0) (4 * (listed - place) + turns true now) 0 < cond (eqb number 0) (4 * (listed - place) + turns waits half) 0
+halved-less number listed place half now z w h = rw (z, w) (cases now (λ t. rw (t, h t) (omega arith)) (λ f. rw f (cases half (λ t. rw t (omega arith)) (λ u. rw u (omega arith)))))
 
 -- the update is well formed
-formed : (c : tie.Else2 Inv-loop μ-loop) → updateFormed (readUpdate (U (c .before .before .before .before))) ≡ true
-formed c = sym (c .before .is-formed .ensures) ∙ not-false (c .before .is-formed .result) (c .if2 .left)
+module _ (c : tie.Else4 Inv-loop μ-loop Inv-loop2 μ-loop2) where
+  abbrev deciding : tie.Else1 Inv-loop μ-loop Inv-loop2 μ-loop2
+  deciding = c .before .before .before
 
-abbrev in-schemas : tie.After-update-schemas Inv-loop μ-loop → tie.In-loop Inv-loop μ-loop
-in-schemas c = c .before .before .before .before .before .before .before .before .before
+  abbrev loop-at : tie.At-loop2 Inv-loop μ-loop Inv-loop2 μ-loop2
+  loop-at = decided-at deciding
 
-schema-group : (c : tie.Joined10 Inv-loop μ-loop) → group (readUpdate (U (c .before .before .before .before .before .before .before .before .before))) ≡ 2
-schema-group c =
-    let e = c .before .before .before .before .before in
-    let u = U (e .before .before .before .before) in
-    ⊎-elim (λ w. group-9 u (formed e) (w .taken)) (λ w. group-11 u (formed e) (eqb-true (u .kind) 11 (w .1 .taken))) (c .if10 .came)
+  formed : updateFormed (readUpdate (U loop-at)) ≡ true
+  formed = sym (c .before .is-formed .ensures) ∙ not-false (c .before .is-formed .result) (c .if4 .left)
 
-abbrev in-orders : tie.After-update-orders Inv-loop μ-loop → tie.In-loop Inv-loop μ-loop
-in-orders c = c .before .before .before .before .before .before .before .before .before .before .before
+  tidy : isTidyUpdate (U loop-at) ≡ true
+  tidy = formed-tidy (U loop-at) formed
 
-abbrev in-removal : tie.After-struct-known Inv-loop μ-loop → tie.In-loop Inv-loop μ-loop
-in-removal c = c .before .before .before .before .before .before .before .before .before .before .before .before .before
+  -- of another kind than a branch commit: the pieces stand for a state
+  standing : (k : ℕ) → U loop-at .kind ≡ k → (k ≡ 5 → ⊥) → Standing (given loop-at) (loop-at .loop2 .place) (here-pieces loop-at)
+  standing k e n = undivided (stands deciding) (λ (q : U loop-at .kind ≡ 5). n (sym e ∙ q))
 
-abbrev in-ref : tie.After-remove-ref Inv-loop μ-loop → tie.In-loop Inv-loop μ-loop
-in-ref c = c .before .before .before .before .before .before .before .before .before
+-- a kind that leaves the snapshots alone
+module _ (e : tie.Else4 Inv-loop μ-loop Inv-loop2 μ-loop2) (k : ℕ) (q : U (loop-at e) .kind ≡ k) (n : k ≡ 5 → ⊥) where
+  S : Standing (given (loop-at e)) (loop-at e .loop2 .place) (here-pieces (loop-at e))
+  S = standing e k q n
 
--- ---- an addition
+-- an addition, or the first half of a branch commit
+module _ (c : tie.Then8 Inv-loop μ-loop Inv-loop2 μ-loop2) where
+  abbrev adding : tie.Else4 Inv-loop μ-loop Inv-loop2 μ-loop2
+  adding = c .before .before .before .before
 
-abbrev in-pair : tie.After-name2 Inv-loop μ-loop → tie.In-loop Inv-loop μ-loop
-in-pair c = c .before .before .before .before .before .before .before .before .before .before .before
+  abbrev adding-kind : ℕ
+  adding-kind = U (loop-at adding) .kind
 
-abbrev standing : (c : tie.After-name2 Inv-loop μ-loop) → State
-standing c = in-pair c .before .loop .inv .1 .state
+  either-kind : (eqb adding-kind 4 || eqb adding-kind 5) ≡ true
+  either-kind =
+      by-either (eqb adding-kind 4) (eqb adding-kind 5 && not (loop-at adding .loop2 .half))
+      (λ y. rw y) (λ y. rw (and-left (eqb adding-kind 5) (not (loop-at adding .loop2 .half)) y) (or-true (eqb adding-kind 4))) (c .if8 .taken)
+    where
+      or-true : (b : Bool) → (b || true) ≡ true
+      or-true true = refl
+      or-true false = refl
 
-formed-pair : (c : tie.After-name2 Inv-loop μ-loop) → updateFormed (readUpdate (U (in-pair c .before))) ≡ true
-formed-pair c = formed (c .before .before .before .before .before .before .before .before)
+  adding-standing : Standing (given (loop-at adding)) (loop-at adding .loop2 .place) (here-pieces (loop-at adding))
+  adding-standing =
+      by-either (eqb adding-kind 4) (eqb adding-kind 5 && not (loop-at adding .loop2 .half))
+      (λ y. standing adding 4 (eqb-true adding-kind 4 y) (λ (z : 4 ≡ 5). omega arith))
+      (λ y. stands (deciding adding) .whole (not-true (loop-at adding .loop2 .half) (and-right (eqb adding-kind 5) (not (loop-at adding .loop2 .half)) y)))
+      (c .if8 .taken)
 
--- what is left of the kinds
-kind-5 : (c : tie.After-name2 Inv-loop μ-loop) → (U (in-pair c .before) .kind ≡ 7 → ⊥) → (U (in-pair c .before) .kind ≡ 4 → ⊥) → U (in-pair c .before) .kind ≡ 5
-kind-5 c =
-    let e = c .before in
-    let f = e .before .before .before .before .before in
-    let u = U (in-pair c .before) in
-    snapshot-kind u (formed-pair c) (sym (f .before .is-field-kind .ensures) ∙ f .if3 .left) (e .before .before .before .before .if6 .left) (e .before .before .before .if8 .left) (e .before .before .if10 .left) (eqb-false (u .kind) 11 (e .before .if11 .left)) (e .if14 .left)
+  -- a half is decided only where none was before
+  first-half : eqb adding-kind 5 ≡ true → loop-at adding .loop2 .half ≡ false
+  first-half y =
+      by-either (eqb adding-kind 4) (eqb adding-kind 5 && not (loop-at adding .loop2 .half))
+      (λ z. absurd (let a : _≡_ {A = ℕ} 4 5 = sym (eqb-true adding-kind 4 z) ∙ eqb-true adding-kind 5 y in omega arith))
+      (λ z. not-true (loop-at adding .loop2 .half) (and-right (eqb adding-kind 5) (not (loop-at adding .loop2 .half)) z))
+      (c .if8 .taken)
 
-abbrev pair : tie.After-struct-told Inv-loop μ-loop → tie.After-name2 Inv-loop μ-loop
-pair c = c .before .before .before .before
+module _ (c : tie.After-add-snapshot Inv-loop μ-loop Inv-loop2 μ-loop2) where
+  abbrev adds-at : tie.Then8 Inv-loop μ-loop Inv-loop2 μ-loop2
+  adds-at = c .before .before .before
 
-abbrev X : tie.After-name2 Inv-loop μ-loop → Snapshot
-X c = U (in-pair c .before) .snapshot
+  add-says : SnapshotDecided (c .before .before .commits-on-tag .result) (readSnapshot (U (loop-at (adding adds-at)) .snapshot)) (adding-standing adds-at .state) (c .add-snapshot .result)
+  add-says = let E = adding-standing adds-at .stands in c .add-snapshot .ensures (adding-standing adds-at .state) (E .tables .builder) (held-ids E) (E .tables .last)
 
--- its snapshot's id, from its bits
-key-back : (c : tie.After-struct-told Inv-loop μ-loop) → toZ w64 (ofZ w64 (X (pair c) .«snapshot_id» .0)) ≡ X (pair c) .«snapshot_id» .0
+-- where it is not refused
+module _ (c : tie.Else9 Inv-loop μ-loop Inv-loop2 μ-loop2) where
+  abbrev added-call : tie.After-add-snapshot Inv-loop μ-loop Inv-loop2 μ-loop2
+  added-call = c .before .before
+
+  abbrev add-kind : tie.Then8 Inv-loop μ-loop Inv-loop2 μ-loop2
+  add-kind = adds-at added-call
+
+  add-zero : added-call .add-snapshot .result .number ≡ 0
+  add-zero = eqb-true _ _ (sym (add-says added-call .grows) ∙ not-false (added-call .add-snapshot .result .grows) (c .if9 .left))
+
+  add-fine : firstOf (addSnapshotChecks (readSnapshot (U (loop-at (adding add-kind)) .snapshot)) (adding-standing add-kind .state)) ≡ 0
+  add-fine = adds-fine (adding-standing add-kind) (at (deciding (adding add-kind))) (one (deciding (adding add-kind))) (formed (adding add-kind)) (either-kind add-kind) (added-call .before .before .commits-on-tag .ensures) (add-says added-call) add-zero
+
+  add-back : laidSnapshot (readSnapshot (U (loop-at (adding add-kind)) .snapshot)) ≡ U (loop-at (adding add-kind)) .snapshot
+  add-back = snapshot-back (U (loop-at (adding add-kind))) (formed (adding add-kind))
+
+  add-room : loop-at (adding add-kind) .loop2 .snapshots .count < 64
+  add-room = has-room (adding-standing add-kind .stands) (U (loop-at (adding add-kind)) .snapshot) add-back add-fine
+
+  adds-room : loop-at (adding add-kind) .loop2 .adds < 64
+  adds-room = omega (arith, adds-most (adding-standing add-kind .stands), fits (adding-standing add-kind) (readUpdate (U (loop-at (adding add-kind)))) (at (deciding (adding add-kind))), one (deciding (adding add-kind)))
+
+-- the snapshot's id, from its bits
+key-back : (c : tie.After-struct-told Inv-loop μ-loop Inv-loop2 μ-loop2) → toZ w64 (ofZ w64 (U (loop-at (adding (add-kind (c .before .before .before)))) .snapshot .«snapshot_id» .0)) ≡ U (loop-at (adding (add-kind (c .before .before .before)))) .snapshot .«snapshot_id» .0
 key-back c = toZ-ofZ (sfits-of (c .struct-told .given .0 .1))
 
--- a branch commit comes here on no tag only
-no-tag : (c : tie.Joined18 Inv-loop μ-loop) → U (in-pair (pair (c .before)) .before) .kind ≡ 5 → isTag (readRefName (U (in-pair (pair (c .before)) .before) .«ref_name»)) (standing (pair (c .before)) .metadata .refs) ≡ false
-no-tag c k =
-    let a = pair (c .before) in
-    let l = in-pair a .before in
+abbrev to-else9 : tie.After-is-last Inv-loop μ-loop Inv-loop2 μ-loop2 → tie.Else9 Inv-loop μ-loop Inv-loop2 μ-loop2
+to-else9 c = c .before .before .before .before .before
+
+-- the table and the ids with one snapshot more
+grown-tables : (c : tie.Joined10 Inv-loop μ-loop Inv-loop2 μ-loop2) → let e = to-else9 (c .before) in let x = readSnapshot (U (loop-at (adding (add-kind e))) .snapshot) in
+    (c .if10 .snapshots ≡ laidSnapshots (put snapshotBelow x (adding-standing (add-kind e) .state .metadata .snapshots))) × (c .if10 .ids ≡ pad 64 (pos 0) (idsOf (put snapshotBelow x (adding-standing (add-kind e) .state .metadata .snapshots))))
+grown-tables c =
+    let e = to-else9 (c .before) in
+    let t = add-kind e in
+    let E = adding-standing t .stands in
+    let x = U (loop-at (adding t)) .snapshot in
+    let p = here-pieces (loop-at (adding t)) in
+    let k = key-back (c .before .before .before) in
     ⊎-elim
-    (λ w. ap (λ (x : List plain.NamedRef). isTag (readRefName (U l .«ref_name»)) x) (sym (read-refs (l .loop .inv .1 .ended))) ∙ sym (w .1 .ensures) ∙ w .2 .left)
-    (λ w. absurd (w .left k))
-    (c .if18 .came)
-
--- an addition, or a branch commit on no tag
-adds : (c : tie.Joined18 Inv-loop μ-loop) → Adds (readUpdate (U (in-pair (pair (c .before)) .before))) (readRefName (U (in-pair (pair (c .before)) .before) .«ref_name»)) (readSnapshot (X (pair (c .before)))) (standing (pair (c .before)))
-adds c =
-    let a = pair (c .before) in
-    let l = in-pair a .before in
-    let u = U l in
-    let E = l .loop .inv .1 .ended in
-    ⊎-elim
-    (λ w. inr (read-5 u (formed-pair a) (w .0 .taken), no-tag c (w .0 .taken)))
-    (λ w. inl (read-4 u (formed-pair a) (cases (eqb (u .kind) 4) (eqb-true (u .kind) 4) (λ q. absurd (w .left (kind-5 a (c .before .before .before .before .if17 .taken) (eqb-false (u .kind) 4 q)))))))
-    (c .if18 .came)
-
--- the time of the last entry of the snapshot log
-last-time : (c : tie.Joined20 Inv-loop μ-loop) → given (ltb 0 (in-pair (pair (c .before .before)) .before .loop .log .count)) (c .if20 .last .0) ≡ lastTime (standing (pair (c .before .before)) .metadata .snapshotLog)
-last-time c =
-    let E = in-pair (pair (c .before .before)) .before .loop .inv .1 .ended in
-    ⊎-elim (λ w. last-some E _ (w .0 .taken) (w .3)) (λ w. last-none E _ (w .0 .left)) (c .if20 .came)
-
--- its number
-add-number : (c : tie.After-add-snapshot-number Inv-loop μ-loop) → c .add-snapshot-number .result ≡ firstOf (addSnapshotChecks (readSnapshot (X (pair (c .before .before .before .before)))) (standing (pair (c .before .before .before .before))))
-add-number c =
-    let j = c .before .before in
-    let S = in-pair (pair (j .before .before)) .before .loop .inv .1 in
-    c .add-snapshot-number .ensures (S .state) (S .ended .tables .builder) (held-ids (S .ended)) (last-time j)
-
-entries-fit : (c : tie.Joined18 Inv-loop μ-loop) → in-pair (pair (c .before)) .before .loop .log .count ≤ 128
-entries-fit c = entries-within (in-pair (pair (c .before)) .before .loop .inv .1 .ended)
-
-abbrev checked : tie.Else21 Inv-loop μ-loop → tie.After-name2 Inv-loop μ-loop
-checked c = pair (c .before .before .before .before .before)
-
-add-zero : (c : tie.Else21 Inv-loop μ-loop) → firstOf (addSnapshotChecks (readSnapshot (X (checked c))) (standing (checked c))) ≡ 0
-add-zero c = sym (add-number (c .before)) ∙ c .if21 .left
-
-snapshot-room : (c : tie.Else21 Inv-loop μ-loop) → in-pair (checked c) .before .loop .t .count < 64
-snapshot-room c = has-room (in-pair (checked c) .before .loop .inv .1 .ended) (X (checked c)) (snapshot-back (U (in-pair (checked c) .before)) (formed-pair (checked c))) (add-zero c)
-
-snapshot-held : (c : tie.Else21 Inv-loop μ-loop) → laidSnapshot (readSnapshot (X (checked c))) ≡ X (checked c)
-snapshot-held c = snapshot-back (U (in-pair (checked c) .before)) (formed-pair (checked c))
-
--- the snapshots and their ids after it
-grown : (c : tie.Joined22 Inv-loop μ-loop) → (c .if22 .t ≡ laidSnapshots (put snapshotBelow (readSnapshot (X (checked (c .before .before .before .before)))) (standing (checked (c .before .before .before .before)) .metadata .snapshots))) × (c .if22 .ids ≡ pad 64 (pos 0) (idsOf (put snapshotBelow (readSnapshot (X (checked (c .before .before .before .before)))) (standing (checked (c .before .before .before .before)) .metadata .snapshots))))
-grown c =
-    let e = c .before .before .before .before in
-    let a = checked e in
-    let E = in-pair a .before .loop .inv .1 .ended in
-    let B = snapshot-held e in
-    let N = add-zero e in
-    ⊎-elim
-    (λ w. let A : isAbove (take (in-pair a .before .loop .t .count) (in-pair a .before .loop .ids)) (X a .«snapshot_id» .0) ≡ true = ap (isAbove (take (in-pair a .before .loop .t .count) (in-pair a .before .loop .ids))) (sym (key-back (e .before .before .before .before .before))) ∙ sym (c .before .is-last .ensures) ∙ w .0 .taken in (w .1 ∙ stored-last E (X a) B N A _ refl refl, w .2 ∙ id-last E (X a) B N A _ (key-back (e .before .before .before .before .before))))
-    (λ w. (w .3 ∙ put-tables E (X a) B N (w .1 .ensures), w .4 ∙ put-ids E (X a) B N (w .1 .ensures) (w .2 .ensures)))
-    (c .if22 .came)
-
-adds-room : (c : tie.In-loop Inv-loop μ-loop) → c .before .loop .adds < 64
-adds-room c = omega (arith, adds-most (c .before .loop .inv .1 .ended), c .before .loop .inv .1 .ended .logs .count, room c)
-
--- the kinds that add
-kind-45 : (c : tie.After-struct-told Inv-loop μ-loop) → (eqb (U (in-pair (pair c) .before) .kind) 4 || eqb (U (in-pair (pair c) .before) .kind) 5) ≡ true
-kind-45 c =
-    let u = U (in-pair (pair c) .before) in
-    cases (eqb (u .kind) 4) (λ q. rw q) (λ q. rw (kind-5 (pair c) (c .before .before .before .if17 .taken) (eqb-false (u .kind) 4 q)))
-
--- what is logged of it
-addition-entry : (c : tie.After-addition Inv-loop μ-loop) → c .addition .result ≡ laidUpdate (AddSnapshot (readSnapshot (X (checked (c .before .before .before .before .before)))))
-addition-entry c =
-    let e = c .before .before .before .before .before in
-    let a = checked e in
-    c .addition .ensures (kind-45 (e .before .before .before .before .before)) (formed-tidy (U (in-pair a .before)) (formed-pair a))
+    (λ w. let A : isAbove (take (p .held .snapshots .count) (p .held .ids)) (x .«snapshot_id» .0) ≡ true = ap (isAbove (take (p .held .snapshots .count) (p .held .ids))) (sym k) ∙ sym (c .before .is-last .ensures) ∙ w .0 .taken in
+    (w .1 ∙ stored-last E x (add-back e) (add-fine e) A _ refl refl, w .2 ∙ id-last E x (add-back e) (add-fine e) A k))
+    (λ w. (w .3 ∙ put-tables E x (add-back e) (add-fine e) (w .1 .ensures), w .4 ∙ put-ids E x (add-back e) (add-fine e) (w .1 .ensures) (w .2 .ensures (put-laid E x (add-back e) (add-fine e) (w .1 .ensures)))))
+    (c .if10 .came)
 
 -- ---- a set ref, or the second half of a branch commit
 
-abbrev N : tie.After-name2 Inv-loop μ-loop → RefName
-N c = U (in-pair c .before) .«ref_name»
+module _ (c : tie.Then11 Inv-loop μ-loop Inv-loop2 μ-loop2) where
+  abbrev setting : tie.Else4 Inv-loop μ-loop Inv-loop2 μ-loop2
+  setting = c .before .before .before .before .before
 
--- the ref that is asked for
-abbrev asked : tie.After-name2 Inv-loop μ-loop → plain.Reference
-asked c = cond (eqb (U (in-pair c .before) .kind) 7) (readReference (U (in-pair c .before) .reference)) (committed (readRefName (N c)) (X c .«snapshot_id» .0) (readRefs (in-pair c .before .loop .r)))
+  abbrev setting-kind : ℕ
+  setting-kind = U (loop-at setting) .kind
 
-name-laid : (c : tie.Joined17 Inv-loop μ-loop) → LaidName (N (c .before))
-name-laid c =
-    let u = U (in-pair (c .before) .before) in
-    ⊎-elim (λ w. name-5 u (formed-pair (c .before)) (kind-5 (c .before) (w .0 .taken) (w .14 .left))) (λ w. name-7 u (formed-pair (c .before)) (w .0 .left)) (c .if17 .came)
+  midway : Midway (given (loop-at setting)) (loop-at setting .loop2 .place) (here-pieces (loop-at setting))
+  midway =
+      by-either (eqb setting-kind 5) (eqb setting-kind 7)
+      (λ y. stands (deciding setting) .midway (not-false (loop-at setting .loop2 .half) (and-second (eqb setting-kind 5) (not (loop-at setting .loop2 .half)) y (neither (eqb setting-kind 4) (eqb setting-kind 5 && not (loop-at setting .loop2 .half)) (c .before .if8 .left) .1))))
+      (λ y. let q = eqb-true setting-kind 7 y in set-midway (standing setting 7 q (λ (z : 7 ≡ 5). omega arith)) (readUpdate (U (loop-at setting))) (at (deciding setting)) (one (deciding setting)) (formed setting) (read-7 (U (loop-at setting)) (formed setting) q) q)
+      (c .if11 .taken)
 
--- where the ways meet, the pieces are those of a state in which the ref is to be set
-midway : (c : tie.Joined17 Inv-loop μ-loop) → Midway (begin (in-pair (c .before) .before .before) .args .m) (begin (in-pair (c .before) .before .before) .args .t2) (begin (in-pair (c .before) .before .before) .args .terms) (begin (in-pair (c .before) .before .before) .args .limit .now) (in-pair (c .before) .before .loop .i) (c .if17 .b) (c .if17 .t) (c .if17 .ids) (in-pair (c .before) .before .loop .r) (in-pair (c .before) .before .loop .log) (in-pair (c .before) .before .loop .s) (in-pair (c .before) .before .loop .o) (c .if17 .entries) (c .if17 .c) (c .if17 .added) (c .if17 .adds) (in-pair (c .before) .before .loop .mained) (in-pair (c .before) .before .loop .mains) (in-pair (c .before) .before .loop .removal) (readRefName (N (c .before))) (asked (c .before))
-midway c =
-    let a = c .before in
-    let n = in-pair a in
-    let u = U (n .before) in
-    let S = n .before .loop .inv .1 in
-    ⊎-elim
-    (λ w.
-    let t : tie.Joined18 Inv-loop μ-loop = record { before = record { before = record { before = record { before = record { before = a; if17 = w .0 }; x = w .1 }; id = w .2 }; struct-told = w .3 }; if18 = w .4 } in
-    let e : tie.Else21 Inv-loop μ-loop = record { before = record { before = record { before = record { before = t; if20 = w .5 }; ids = w .6 }; add-snapshot-number = w .7 }; if21 = w .8 } in
-    let j : tie.Joined22 Inv-loop μ-loop = record { before = record { before = record { before = record { before = e; add-snapshot-builder = w .9 }; ids2 = w .10 }; is-last = w .11 }; if22 = w .12 } in
-    let d : tie.After-addition Inv-loop μ-loop = record { before = j; addition = w .13 } in
-    let k : u .kind ≡ 5 = kind-5 a (w .0 .taken) (w .14 .left) in
-    rw (w .15, w .16, w .17, w .18, w .19, w .20, w .21, k, read-refs (S .ended))
-    (commit-midway S (readUpdate u) (turn n) (formed-pair a) (readRefName (u .«ref_name»)) (readSnapshot (u .snapshot)) (read-5 u (formed-pair a) k) (no-tag t k) (add-zero e) (w .9 .ensures (S .state) (S .ended .tables .builder) (add-zero e)) (grown j .0) (grown j .1) (addition-entry d) _ (key-back (t .before))))
-    (λ w. rw (w .1, w .2, w .3, w .4, w .5, w .6, w .7, w .0 .left) (set-midway S (readUpdate u) (turn n) (formed-pair a) (readRefName (u .«ref_name»)) (readReference (u .reference)) (read-7 u (formed-pair a) (w .0 .left)) (one (n .before))))
-    (c .if17 .came)
-
-kind-57 : (c : tie.Joined17 Inv-loop μ-loop) → (eqb (U (in-pair (c .before) .before) .kind) 5 || eqb (U (in-pair (c .before) .before) .kind) 7) ≡ true
-kind-57 c = ⊎-elim (λ w. rw (kind-5 (c .before) (w .0 .taken) (w .14 .left))) (λ w. rw (w .0 .left)) (c .if17 .came)
-
--- the ref of that name, if there is one
-sought : (c : tie.Joined24 Inv-loop μ-loop) → Sought (in-pair (c .before .before .before .before) .before .loop .r) (N (c .before .before .before .before)) (c .before .before .find .result) (c .if24 .old)
-sought c =
-    let f = c .before .before in
-    let E = midway (f .before) .ended in
-    ⊎-elim (λ w. old-held E (N (f .before .before)) (f .find .ensures) _ (w .2)) (λ w. old-none E (N (f .before .before)) (f .find .ensures) _ (w .0 .left)) (c .if24 .came)
-
-target : (c : tie.After-wanted Inv-loop μ-loop) → readReference (c .wanted .result) ≡ asked (c .before .before .before .before .before)
-target c =
-    let a = c .before .before .before .before .before in
-    rw (c .wanted .ensures) (wanted-read (U (in-pair a .before)) _ (c .before .if24 .old) (readRefName (N a)) (readRefs (in-pair a .before .loop .r)) (sought (c .before) .known))
-
-target-laid : (c : tie.After-wanted Inv-loop μ-loop) → laidReference (readReference (c .wanted .result)) ≡ c .wanted .result
-target-laid c =
-    let j = c .before .before .before .before in
-    rw (c .wanted .ensures) (wanted-laid (U (in-pair (j .before) .before)) _ (c .before .if24 .old) (reference-back (U (in-pair (j .before) .before)) (formed-pair (j .before))) (old-back (midway j .ended) (sought (c .before))))
-
--- from where the ref is known to be another
-abbrev at-wanted : tie.Joined25 Inv-loop μ-loop → tie.After-wanted Inv-loop μ-loop
-at-wanted c = c .before .before
-
-abbrev at-set : tie.Joined25 Inv-loop μ-loop → tie.Joined17 Inv-loop μ-loop
-at-set c = c .before .before .before .before .before .before
-
-unheld : (c : tie.Joined25 Inv-loop μ-loop) → isHeldRef (readRefName (N (at-set c .before))) (asked (at-set c .before)) (midway (at-set c) .state .metadata .refs) ≡ false
-unheld c =
-    let o = at-wanted c in
-    let E = midway (at-set c) .ended in
-    ⊎-elim
-    (λ w. other-held E (sought (o .before)) (asked (at-set c .before)) (w .0 .taken) (ap (sameReference (readReference (o .before .if24 .old .reference))) (sym (target o)) ∙ sym (w .1 .ensures) ∙ w .2 .left))
-    (λ w. none-held E (sought (o .before)) (asked (at-set c .before)) (w .left))
-    (c .if25 .came)
+  set-name : LaidName (U (loop-at setting) .«ref_name»)
+  set-name = by-either (eqb setting-kind 5) (eqb setting-kind 7) (λ y. name-5 (U (loop-at setting)) (formed setting) (eqb-true setting-kind 5 y)) (λ y. name-7 (U (loop-at setting)) (formed setting) (eqb-true setting-kind 7 y)) (c .if11 .taken)
 
 -- the snapshot's id, from its bits
-target-key : (c : tie.After-struct-told2 Inv-loop μ-loop) → toZ w64 (ofZ w64 (at-wanted (c .before .before) .wanted .result .«snapshot_id» .0)) ≡ asked (at-set (c .before .before) .before) .snapshot
-target-key c = toZ-ofZ (sfits-of (c .struct-told2 .given .0 .1)) ∙ ap (λ (x : plain.Reference). x .snapshot) (target (at-wanted (c .before .before)))
+target-key : (c : tie.After-struct-told2 Inv-loop μ-loop Inv-loop2 μ-loop2) → toZ w64 (ofZ w64 (c .before .target .result .0)) ≡ midway (c .before .before) .wanted .snapshot
+target-key c =
+    let W = midway (c .before .before) in
+    toZ-ofZ (sfits-of (c .struct-told2 .given .0 .1)) ∙ c .before .target .ensures (W .state .metadata .refs) ∙ ap (λ (x : plain.Reference). x .snapshot) (sym (W .asks))
 
-abbrev aim : tie.After-position Inv-loop μ-loop → tie.Joined25 Inv-loop μ-loop
-aim c = c .before .before .before .before
+module _ (c : tie.After-set-ref Inv-loop μ-loop Inv-loop2 μ-loop2) where
+  abbrev sought : tie.Joined12 Inv-loop μ-loop Inv-loop2 μ-loop2
+  sought = c .before .before .before
 
-aimed : (c : tie.After-position Inv-loop μ-loop) → Aimed (midway (at-set (aim c)) .state) (at-set (aim c) .if17 .t) (at-set (aim c) .if17 .ids) (in-pair (at-set (aim c) .before) .before .loop .r) (N (at-set (aim c) .before)) (at-wanted (aim c) .before .before .before .find .result) (at-wanted (aim c) .before .if24 .old) (asked (at-set (aim c) .before)) (c .position .result)
-aimed c =
-    let j = at-set (aim c) in
-    record {
-      sought = sought (at-wanted (aim c) .before);
-      other = unheld (aim c);
-      spot = c .position .ensures ∙ ap (λ (y : ℤ). indexOf (λ x. eqZ x y) (take (j .if17 .t .count) (j .if17 .ids))) (target-key (c .before .before));
-    }
+  abbrev set-at : tie.Then11 Inv-loop μ-loop Inv-loop2 μ-loop2
+  set-at = sought .before .before .before .before .before
 
-set-ref-is : (c : tie.After-set-ref-number Inv-loop μ-loop) → c .set-ref-number .result ≡ firstOf (setRefChecks (readRefName (N (at-set (aim (c .before .before)) .before))) (asked (at-set (aim (c .before .before)) .before)) (midway (at-set (aim (c .before .before))) .state))
-set-ref-is c = c .set-ref-number .ensures ∙ set-number (midway (at-set (aim (c .before .before))) .ended) (aimed (c .before .before)) (c .before .is-main-name .ensures)
+  set-says : RefSet (termsOf (given (loop-at (setting set-at)))) (midway set-at .state) (nameAt (given (loop-at (setting set-at))) (loop-at (setting set-at) .loop2 .place)) (midway set-at .wanted) (c .set-ref .result)
+  set-says =
+      let W = midway set-at in
+      let k = target-key (sought .before .before .before) in
+      set-decides W (c .set-ref .ensures)
+      (faced (W .stands) (W .wanted)
+      (sought .before .position .ensures ∙ ap (λ (y : ℤ). indexOf (λ x. eqZ x y) (take (loop-at (setting set-at) .loop2 .snapshots .count) (loop-at (setting set-at) .loop2 .ids))) k)
+      (c .before .position2 .ensures ∙ ap (λ (y : ℤ). indexOf (λ x. eqZ x y) (take (loop-at (setting set-at) .loop2 .adds) (loop-at (setting set-at) .loop2 .added))) k)
+      noSnapshot
+      (λ l. ⊎-elim (λ w. w .3) (λ w. absurd (omega (arith, w .0 .left))) (sought .if12 .came)))
 
--- from where the ref is set
-abbrev at-place : tie.Else27 Inv-loop μ-loop → tie.After-position Inv-loop μ-loop
-at-place c = c .before .before .before
+-- whether `main` is set
+module _ (c : tie.After-is-main-name Inv-loop μ-loop Inv-loop2 μ-loop2) where
+  abbrev set-call : tie.After-set-ref Inv-loop μ-loop Inv-loop2 μ-loop2
+  set-call = c .before .before
 
-abbrev to-set : tie.Else27 Inv-loop μ-loop → tie.Joined17 Inv-loop μ-loop
-to-set c = at-set (aim (at-place c))
+  abbrev set-kind : tie.Then11 Inv-loop μ-loop Inv-loop2 μ-loop2
+  set-kind = set-at set-call
 
-set-zero : (c : tie.Else27 Inv-loop μ-loop) → firstOf (setRefChecks (readRefName (N (to-set c .before))) (asked (to-set c .before)) (midway (to-set c) .state)) ≡ 0
-set-zero c = sym (set-ref-is (c .before)) ∙ c .if27 .left
+  main-is : c .is-main-name .result ≡ isMain (nameAt (given (loop-at (setting set-kind))) (loop-at (setting set-kind) .loop2 .place))
+  main-is = c .is-main-name .ensures
 
-within-snapshots : (c : tie.Else27 Inv-loop μ-loop) → at-place c .position .result < 64
-within-snapshots c = omega (arith, spot-held (midway (to-set c) .ended) (aimed (at-place c)) (set-zero c), held-fits (midway (to-set c) .ended))
+-- it is
+module _ (c : tie.Else13 Inv-loop μ-loop Inv-loop2 μ-loop2) where
+  abbrev named : tie.After-is-main-name Inv-loop μ-loop Inv-loop2 μ-loop2
+  named = c .before .before
 
-own-after : (c : tie.Joined28 Inv-loop μ-loop) → c .if28 .b ≡ laidBuilder (withOwn (ownAfter (asked (to-set (c .before .before .before) .before) .snapshot) (midway (to-set (c .before .before .before)) .state)) (midway (to-set (c .before .before .before)) .state))
-own-after c =
-    let e = c .before .before .before in
-    let j = to-set e in
-    let E = midway j .ended in
-    let Q = c .before .position2 .ensures ∙ ap (λ (y : ℤ). indexOf (λ x. eqZ x y) (take (j .if17 .adds) (j .if17 .added))) (target-key (at-place e .before .before)) in
-    ⊎-elim (λ w. w .3 ∙ own-added E (aimed (at-place e)) (set-zero e) Q (w .0 .taken) _ refl) (λ w. w .1 ∙ own-kept E (aimed (at-place e)) (set-zero e) Q (w .0 .left)) (c .if28 .came)
+  sets-main : (set-call named .set-ref .result .grows && named .is-main-name .result) ≡ true
+  sets-main = not-false (set-call named .set-ref .result .grows && named .is-main-name .result) (c .if13 .left)
 
-abbrev settling : tie.Joined28 Inv-loop μ-loop → tie.Else27 Inv-loop μ-loop
-settling c = c .before .before .before
+  set-grows : set-call named .set-ref .result .grows ≡ true
+  set-grows = and-left (set-call named .set-ref .result .grows) (named .is-main-name .result) sets-main
 
-is-main : (c : tie.Then29 Inv-loop μ-loop) → isMain (readRefName (N (to-set (settling (c .before)) .before))) ≡ true
-is-main c = sym (settling (c .before) .before .before .is-main-name .ensures) ∙ c .if29 .taken
+  set-main : isMain (nameAt (given (loop-at (setting (set-kind named)))) (loop-at (setting (set-kind named)) .loop2 .place)) ≡ true
+  set-main = sym (main-is named) ∙ and-right (set-call named .set-ref .result .grows) (named .is-main-name .result) sets-main
 
-history-room : (c : tie.Then29 Inv-loop μ-loop) → in-pair (to-set (settling (c .before)) .before) .before .loop .log .count < 128
-history-room c =
-    let e = settling (c .before) in
-    log-room (midway (to-set e) .ended) (aimed (at-place e)) (set-zero e) (is-main c)
+  log-room : loop-at (setting (set-kind named)) .loop2 .log .count < 128
+  log-room = main-room (midway (set-kind named)) (set-says (set-call named)) set-grows set-main
 
-mains-room : (c : tie.Then29 Inv-loop μ-loop) → in-pair (to-set (settling (c .before)) .before) .before .loop .mains < 64
-mains-room c =
-    let W = midway (to-set (settling (c .before))) in
-    omega (arith, mains-most (W .ended), W .more)
+  mains-room : loop-at (setting (set-kind named)) .loop2 .mains < 64
+  mains-room = omega (arith, mains-most (midway (set-kind named) .stands), midway (set-kind named) .more)
 
--- the refs after it
-refs-after : (c : tie.Joined30 Inv-loop μ-loop) → c .if30 .r ≡ laidRefs (put refBelow (record { name = readRefName (N (to-set (settling (c .before .before)) .before)); reference = asked (to-set (settling (c .before .before)) .before) }) (midway (to-set (settling (c .before .before))) .state .metadata .refs))
-refs-after c =
-    let e = settling (c .before .before) in
-    let j = to-set e in
-    let o = at-wanted (aim (at-place e)) in
-    let E = midway j .ended in
-    ⊎-elim
-    (λ w. w .1 ∙ ref-replaced E (sought (o .before)) (asked (j .before)) (o .wanted .result) (target-laid o) (target o) (w .0 .taken) _ refl refl)
-    (λ w. w .2 ∙ ref-put E (sought (o .before)) (asked (j .before)) (o .wanted .result) (target o) (w .1 .ensures))
-    (c .if30 .came)
+-- ---- the last kind
 
--- what is logged of it
-setting-entry : (c : tie.After-setting Inv-loop μ-loop) → c .setting .result ≡ laidUpdate (SetRef (readRefName (N (to-set (settling (c .before .before .before)) .before))) (asked (to-set (settling (c .before .before .before)) .before)))
-setting-entry c =
-    let e = settling (c .before .before .before) in
-    let j = to-set e in
-    let a = j .before in
-    let o = at-wanted (aim (at-place e)) in
-    c .setting .ensures (kind-57 j) (formed-tidy (U (in-pair a .before)) (formed-pair a)) (name-laid j .fits) (target-laid o)
-    ∙ ap (λ (x : plain.Reference). laidUpdate (SetRef (readRefName (N a)) x)) (target o)
+last-kind : (c : tie.Else19 Inv-loop μ-loop Inv-loop2 μ-loop2) → U (loop-at (c .before .before .before .before .before .before .before .before .before .before .before)) .kind ≡ 13
+last-kind c =
+    let e18 = c .before in
+    let e17 = e18 .before in
+    let e16 = e17 .before in
+    let e15 = e16 .before in
+    let e14 = e15 .before in
+    let e11 = e14 .before in
+    let e8 = e11 .before in
+    let e7 = e8 .before in
+    let e6 = e7 .before in
+    let e5 = e6 .before in
+    let e4 = e5 .before in
+    let u = U (loop-at e4) in
+    let k = u .kind in
+    let four = neither (eqb k 4) (eqb k 5 && not (loop-at e4 .loop2 .half)) (e8 .if8 .left) in
+    let five = neither (eqb k 5) (eqb k 7) (e11 .if11 .left) in
+    only-one k 13
+    (not-first k 12 (13 ∷ []) (c .if19 .left)
+    (not-first k 11 (12 ∷ 13 ∷ []) (e18 .if18 .left)
+    (not-first k 10 (11 ∷ 12 ∷ 13 ∷ []) (e17 .if17 .left)
+    (not-first k 9 (10 ∷ 11 ∷ 12 ∷ 13 ∷ []) (e16 .if16 .left)
+    (not-first k 8 (9 ∷ 10 ∷ 11 ∷ 12 ∷ 13 ∷ []) (e15 .if15 .left)
+    (not-first k 7 (8 ∷ 9 ∷ 10 ∷ 11 ∷ 12 ∷ 13 ∷ []) (eqb-false k 7 (five .1))
+    (not-first k 6 (7 ∷ 8 ∷ 9 ∷ 10 ∷ 11 ∷ 12 ∷ 13 ∷ []) (e14 .if14 .left)
+    (not-first k 5 (6 ∷ 7 ∷ 8 ∷ 9 ∷ 10 ∷ 11 ∷ 12 ∷ 13 ∷ []) (eqb-false k 5 (five .0))
+    (not-first k 4 (5 ∷ 6 ∷ 7 ∷ 8 ∷ 9 ∷ 10 ∷ 11 ∷ 12 ∷ 13 ∷ []) (eqb-false k 4 (four .0))
+    (not-first k 3 (4 ∷ 5 ∷ 6 ∷ 7 ∷ 8 ∷ 9 ∷ 10 ∷ 11 ∷ 12 ∷ 13 ∷ []) (e7 .if7 .left)
+    (not-first k 2 (3 ∷ 4 ∷ 5 ∷ 6 ∷ 7 ∷ 8 ∷ 9 ∷ 10 ∷ 11 ∷ 12 ∷ 13 ∷ []) (e6 .if6 .left)
+    (not-first k 1 (2 ∷ 3 ∷ 4 ∷ 5 ∷ 6 ∷ 7 ∷ 8 ∷ 9 ∷ 10 ∷ 11 ∷ 12 ∷ 13 ∷ []) (e5 .if5 .left) (known u (formed e4))))))))))))))
 
-entry-room : (c : tie.Joined17 Inv-loop μ-loop) → c .if17 .c < 64
-entry-room c = omega (arith, midway c .more, midway c .ended .logs .count)
+-- ---- the close
 
-start-number-requires : tie.Need-start-number-requires Inv-loop μ-loop
-start-number-requires c κs = search needs
+module _ (c : tie.Else20 Inv-loop μ-loop Inv-loop2 μ-loop2) where
+  abbrev end-at : tie.At-loop2 Inv-loop μ-loop Inv-loop2 μ-loop2
+  end-at = c .before .before
 
-refused-requires : tie.Need-refused-requires Inv-loop μ-loop
-refused-requires c κs = search needs
+  over : (end-at .loop2 .waits || ltb (end-at .loop2 .place) (given end-at .updates .count)) ≡ false
+  over = and-second (eqb (end-at .loop2 .number) 0) (end-at .loop2 .waits || ltb (end-at .loop2 .place) (given end-at .updates .count)) (eq-eqb _ _ (c .if20 .left)) (c .before .loop2-test .left)
 
-returns : tie.Need-returns Inv-loop μ-loop
-returns c =
-    let a = c .before .before .before .before .args in
-    c .refused .ensures ∙ refused-start (a .m) (a .t2) (a .terms) _ _ (sym (c .before .before .start-number .ensures)) (c .before .if1 .taken)
+  passed : given end-at .updates .count ≤ end-at .loop2 .place
+  passed = ltb-false _ _ (neither (end-at .loop2 .waits) (ltb (end-at .loop2 .place) (given end-at .updates .count)) over .1)
 
-new-from-metadata-requires : tie.Need-new-from-metadata-requires Inv-loop μ-loop
-new-from-metadata-requires c κs = search needs
+  -- the place is the list's length
+  end-place : end-at .loop2 .place ≡ given end-at .updates .count
+  end-place = omega (arith, passed, end-at .loop2 .inv .within)
 
-ids-of-requires : tie.Need-ids-of-requires Inv-loop μ-loop
-ids-of-requires c κs = start-snapshots _ _ _ [] (zero (c .before .before .before .before))
+  end : Standing (given end-at) (end-at .loop2 .place) (here-pieces end-at)
+  end = at-the-end (end-at .loop2 .inv .stands (c .if20 .left) (neither (end-at .loop2 .waits) (ltb (end-at .loop2 .place) (given end-at .updates .count)) over .0)) passed
 
-blank-requires : tie.Need-blank-requires Inv-loop μ-loop
+  -- a refusal of the close
+  end-refused : (n : ℕ) {x : Answer} → x ≡ laidOutcome (given end-at .metadata) (Refused n (end-at .loop2 .place)) → laidOutcome (given end-at .metadata) (Refused n (given end-at .updates .count)) ≡ laidOutcome (given end-at .metadata) (close (termsOf (given end-at)) (given end-at .updates .count) (end .state .log) (end .state)) → x ≡ answerOf (given end-at)
+  end-refused n q w = q ∙ ap (λ (k : ℕ). laidOutcome (given end-at .metadata) (Refused n k)) end-place ∙ w ∙ ends end passed
+
+module _ (c : tie.After-close-number Inv-loop μ-loop Inv-loop2 μ-loop2) where
+  abbrev closing : tie.Else20 Inv-loop μ-loop Inv-loop2 μ-loop2
+  closing = c .before .before .before .before .before .before
+
+  history : HistoryOf (end closing .state .log) (end closing .state .metadata) (c .before .close-log .result)
+  history = c .before .close-log .ensures .0 (end closing .state .log) (end closing .state .metadata) (told (end closing .stands))
+
+  numbered : c .close-number .result ≡ firstOf (firstThree (end closing .stands))
+  numbered = c .close-number .ensures (end closing .state .log) (end closing .state .metadata) history (handed (end closing .stands))
+
+module _ (c : tie.After-files Inv-loop μ-loop Inv-loop2 μ-loop2) where
+  abbrev counted-at : tie.After-close-number Inv-loop μ-loop Inv-loop2 μ-loop2
+  counted-at = c .before .before .before
+
+  none-fails : firstOf (firstThree (end (closing counted-at) .stands)) ≡ 0
+  none-fails = sym (numbered counted-at) ∙ c .before .before .if21 .left
+
+  filed-so : FilesOf (termsOf (given (end-at (closing counted-at)))) (end (closing counted-at) .state .metadata) (c .files .result)
+  filed-so = c .files .ensures (termsOf (given (end-at (closing counted-at)))) (end (closing counted-at) .state .metadata) (filed (end (closing counted-at) .stands) (c .before .limit .ensures))
+
+blank-requires : tie.Need-blank-requires Inv-loop μ-loop Inv-loop2 μ-loop2
 blank-requires c κs = search needs
 
-loop-holds : tie.Need-loop-holds Inv-loop μ-loop
-loop-holds c = (omega arith, standing-start _ _ _ _ (zero (else1 c)) (c .before .before .before .before .before .before .before .new-from-metadata .ensures) (c .before .before .before .before .before .ids-of .ensures) (c .blank .ensures))
+new-from-metadata-requires : tie.Need-new-from-metadata-requires Inv-loop μ-loop Inv-loop2 μ-loop2
+new-from-metadata-requires c κs = search needs
 
-mul-u : tie.Need-mul-u Inv-loop μ-loop
-mul-u c = omega (arith, short (c .before .before), c .loop-test .taken)
+decided-requires : tie.Need-decided-requires Inv-loop μ-loop Inv-loop2 μ-loop2
+decided-requires c κs = search needs
 
-element-copy-out-u : tie.Need-element-copy-out-u Inv-loop μ-loop
-element-copy-out-u c = omega (arith, short (c .before .before), c .loop-test .taken)
+ids-of-requires : tie.Need-ids-of-requires Inv-loop μ-loop Inv-loop2 μ-loop2
+ids-of-requires c κs = search needs
 
-add-i : tie.Need-add-i Inv-loop μ-loop
-add-i c = omega (arith, short (c .before .before .before), c .before .loop-test .taken)
+last-time-requires : tie.Need-last-time-requires Inv-loop μ-loop Inv-loop2 μ-loop2
+last-time-requires c κs = search needs
 
-is-formed-requires : tie.Need-is-formed-requires Inv-loop μ-loop
+loop-holds : tie.Need-loop-holds Inv-loop μ-loop Inv-loop2 μ-loop2
+unfolding listSum
+loop-holds c = (omega arith, omega arith, λ h. (omega arith, omega arith))
+
+mul-weight : tie.Need-mul-weight Inv-loop μ-loop Inv-loop2 μ-loop2
+mul-weight c = omega (arith, slotted c)
+
+element-copy-out-weight : tie.Need-element-copy-out-weight Inv-loop μ-loop Inv-loop2 μ-loop2
+element-copy-out-weight c = slotted c
+
+weight-requires : tie.Need-weight-requires Inv-loop μ-loop Inv-loop2 μ-loop2
+weight-requires c κs = search needs
+
+add-sum : tie.Need-add-sum Inv-loop μ-loop Inv-loop2 μ-loop2
+add-sum c = omega (arith, c .weight .ensures, counts (updateAt (G (c .before .before .before)) (c .before .before .loop .place) .kind) .1, slotted (c .before), c .before .before .loop .inv .1)
+
+add-place : tie.Need-add-place Inv-loop μ-loop Inv-loop2 μ-loop2
+add-place c = omega (arith, slotted (c .before))
+
+loop-less : tie.Need-loop-less Inv-loop μ-loop Inv-loop2 μ-loop2
+loop-less c = omega (arith, slotted (c .before))
+
+loop-again : tie.Need-loop-again Inv-loop μ-loop Inv-loop2 μ-loop2
+loop-again c = (omega (arith, slotted (c .before)), omega (arith, c .weight .ensures, counts (updateAt (G (c .before .before .before)) (c .before .before .loop .place) .kind) .1, c .before .before .loop .inv .1), more-summed (c .before) (c .weight .ensures ∙ sym (weight-read (updateAt (G (c .before .before .before)) (c .before .before .loop .place)))))
+
+start-number-requires : tie.Need-start-number-requires Inv-loop μ-loop Inv-loop2 μ-loop2
+start-number-requires c κs = search needs
+
+loop2-holds : tie.Need-loop2-holds Inv-loop μ-loop Inv-loop2 μ-loop2
+loop2-holds c =
+    let a = c .before .before .before in
+    let g = G a in
+    let n : c .start-number .result ≡ startNumber (g .metadata) (g .updates) (g .terms) = c .start-number .ensures (g .updates) refl (whole-sum (c .before)) in
+    record {
+      within = omega arith;
+      short = λ z. start-short g (sym n ∙ z);
+      refused = λ z. refused-start (g .metadata) (g .updates) (g .terms) (g .text) _ (sym n) z;
+      stands = λ z _. whole (standing-start g (sym n ∙ z) (a .before .before .before .before .before .before .before .before .new-from-metadata .ensures) (a .before .before .before .before .before .ids-of .ensures (start-snapshots g (sym n ∙ z))) (a .before .before .last-time .ensures (start-log g (sym n ∙ z))) (a .before .before .before .before .before .before .before .before .before .before .before .blank .ensures));
+      waits = λ _ f. absurd (false≢true f);
+    }
+
+loop2-less : tie.Need-loop2-less Inv-loop μ-loop Inv-loop2 μ-loop2
+loop2-less c =
+    let t = c .before in
+    refused-less (stored-at t .loop2 .number) (given (stored-at t) .updates .count) (stored-at t .loop2 .place) (stored-at t .loop2 .half) (stored-at t .loop2 .waits) (zero (t .before)) _ _ false (stored-at t .loop2 .half) (c .if2 .taken)
+
+loop2-again : tie.Need-loop2-again Inv-loop μ-loop Inv-loop2 μ-loop2
+loop2-again c =
+    let t = c .before in
+    refuses (waiting t .0) (waiting t .1) (short (t .before)) (c .if2 .taken)
+
+after-requires : tie.Need-after-requires Inv-loop μ-loop Inv-loop2 μ-loop2
+after-requires c κs = omega (arith, waiting (c .before) .0, short (c .before .before))
+
+loop2-less-2 : tie.Need-loop2-less-2 Inv-loop μ-loop Inv-loop2 μ-loop2
+loop2-less-2 c =
+    let f = c .before .before in
+    let t = f .before .before in
+    stored-less (stored-at t .loop2 .number) (given (stored-at t) .updates .count) (stored-at t .loop2 .place) _ (stored-at t .loop2 .half) (zero (t .before)) (t .if1 .taken) (waiting t .0) (f .after .ensures) _ (f .before .if2 .left)
+
+loop2-again-2 : tie.Need-loop2-again-2 Inv-loop μ-loop Inv-loop2 μ-loop2
+loop2-again-2 c =
+    let f = c .before .before in
+    let t = f .before .before in
+    goes-on (waiting t .0) (waiting t .1) (short (t .before)) (f .before .if2 .left) (f .after .ensures) (waiting t .1 .stays (f .before .if2 .left) (not-true (stored-at t .loop2 .decision .logs) (c .if3 .taken)))
+
+mul-entries : tie.Need-mul-entries Inv-loop μ-loop Inv-loop2 μ-loop2
+mul-entries c =
+    let f = c .before .before .before .before in
+    let t = f .before .before in
+    omega (arith, waiting t .1 .room (f .before .if2 .left))
+
+array-set-from-entries : tie.Need-array-set-from-entries Inv-loop μ-loop Inv-loop2 μ-loop2
+array-set-from-entries c =
+    let f = c .before .before .before .before in
+    let t = f .before .before in
+    omega (arith, waiting t .1 .room (f .before .if2 .left))
+
+add-count : tie.Need-add-count Inv-loop μ-loop Inv-loop2 μ-loop2
+add-count c =
+    let f = c .before .before .before .before in
+    let t = f .before .before in
+    omega (arith, waiting t .1 .room (f .before .if2 .left))
+
+loop2-less-3 : tie.Need-loop2-less-3 Inv-loop μ-loop Inv-loop2 μ-loop2
+loop2-less-3 c =
+    let f = c .before .before .before .before in
+    let t = f .before .before in
+    stored-less (stored-at t .loop2 .number) (given (stored-at t) .updates .count) (stored-at t .loop2 .place) _ (stored-at t .loop2 .half) (zero (t .before)) (t .if1 .taken) (waiting t .0) (f .after .ensures) _ (f .before .if2 .left)
+
+loop2-again-3 : tie.Need-loop2-again-3 Inv-loop μ-loop Inv-loop2 μ-loop2
+loop2-again-3 c =
+    let f = c .before .before .before .before in
+    let t = f .before .before in
+    goes-on (waiting t .0) (waiting t .1) (short (t .before)) (f .before .if2 .left) (f .after .ensures) (waiting t .1 .logs (f .before .if2 .left) (not-false (stored-at t .loop2 .decision .logs) (c .before .before .if3 .left)))
+
+mul-update : tie.Need-mul-update Inv-loop μ-loop Inv-loop2 μ-loop2
+mul-update c = omega (arith, below c, short (c .before))
+
+element-copy-out-update : tie.Need-element-copy-out-update Inv-loop μ-loop Inv-loop2 μ-loop2
+element-copy-out-update c = omega (arith, below c, short (c .before))
+
+is-formed-requires : tie.Need-is-formed-requires Inv-loop μ-loop Inv-loop2 μ-loop2
 is-formed-requires c κs = search needs
 
-refused-requires-2 : tie.Need-refused-requires-2 Inv-loop μ-loop
-refused-requires-2 c κs = search needs
+decided-requires-2 : tie.Need-decided-requires-2 Inv-loop μ-loop Inv-loop2 μ-loop2
+decided-requires-2 c κs = search needs
 
-returns-2 : tie.Need-returns-2 Inv-loop μ-loop
-returns-2 c =
-    let n = c .before .before .before .before in
-    not-formed-refused (n .before .loop .inv .1) (readUpdate (U (n .before))) (turn n) (sym (c .before .before .is-formed .ensures) ∙ not-true (c .before .before .is-formed .result) (c .before .if2 .taken)) (zero (else1 (n .before .before))) _ (c .refused2 .ensures)
-
-is-field-kind-requires : tie.Need-is-field-kind-requires Inv-loop μ-loop
-is-field-kind-requires c κs = search needs
-
-update-fields-requires : tie.Need-update-fields-requires Inv-loop μ-loop
-update-fields-requires c κs =
-    let q = c .before .before in
-    let l = q .before .before .before .before in
-    let E = l .loop .inv .1 .ended in
-    (location-fits E, (laid-schemas E, (laid-orders E, (formed-tidy (U l) (formed q), (formed-kind (U l) (formed q), is-field (U l) (formed q) (sym (c .before .is-field-kind .ensures) ∙ c .if3 .taken))))))
-
-refused-requires-3 : tie.Need-refused-requires-3 Inv-loop μ-loop
-refused-requires-3 c κs = search needs
-
-returns-3 : tie.Need-returns-3 Inv-loop μ-loop
-returns-3 c =
-    let q = c .before .before .before in
-    let n = q .before .before .before .before .before in
-    let S = n .before .loop .inv .1 in
-    let T = S .ended .tables in
-    check-refused S (readUpdate (U (n .before))) (turn n) (formed (q .before .before)) (zero (else1 (n .before .before))) _ (c .before .before .update-fields .ensures (told (n .before .before)) (S .state) (T .builder) (T .schemas) (T .orders) .0) (c .before .if4 .taken) _ (c .refused3 .ensures)
-
-mul-entries : tie.Need-mul-entries Inv-loop μ-loop
-mul-entries c = omega (arith, room (c .before .before .before .before .before .before .before .before .before .before))
-
-array-set-from-entries : tie.Need-array-set-from-entries Inv-loop μ-loop
-array-set-from-entries c = omega (arith, room (c .before .before .before .before .before .before .before .before .before .before))
-
-add-c : tie.Need-add-c Inv-loop μ-loop
-add-c c = omega (arith, room (c .before .before .before .before .before .before .before .before .before .before))
-
-loop-less : tie.Need-loop-less Inv-loop μ-loop
-loop-less c = omega (arith, c .before .before .before .before .before .before .before .before .before .before .loop-test .taken)
-
-loop-again : tie.Need-loop-again Inv-loop μ-loop
-loop-again c =
-    let f = c .before .before .before .before in
-    let q = f .before in
-    let n = q .before .before .before .before .before in
-    let S = n .before .loop .inv .1 in
-    let T = S .ended .tables in
-    (omega (arith, n .loop-test .taken), fields-changed S (readUpdate (U (n .before))) (turn n) (formed (q .before .before)) (f .update-fields .ensures (told (n .before .before)) (S .state) (T .builder) (T .schemas) (T .orders)) (c .before .before .before .if4 .left) (c .before .before .if5 .taken) (one (n .before)) (group-field (U (n .before)) (formed (q .before .before)) (sym (q .before .is-field-kind .ensures) ∙ q .if3 .taken)))
-
-loop-less-2 : tie.Need-loop-less-2 Inv-loop μ-loop
-loop-less-2 c = omega (arith, c .before .before .before .before .before .before .before .before .loop-test .taken)
-
-loop-again-2 : tie.Need-loop-again-2 Inv-loop μ-loop
-loop-again-2 c =
-    let f = c .before .before in
-    let q = f .before in
-    let n = q .before .before .before .before .before in
-    let S = n .before .loop .inv .1 in
-    let T = S .ended .tables in
-    (omega (arith, n .loop-test .taken), nothing-changed S (readUpdate (U (n .before))) (turn n) (formed (q .before .before)) (f .update-fields .ensures (told (n .before .before)) (S .state) (T .builder) (T .schemas) (T .orders)) (c .before .if4 .left) (c .if5 .left))
-
-remove-snapshots-requires : tie.Need-remove-snapshots-requires Inv-loop μ-loop
-remove-snapshots-requires c κs =
+loop2-less-4 : tie.Need-loop2-less-4 Inv-loop μ-loop Inv-loop2 μ-loop2
+loop2-less-4 c =
     let e = c .before .before .before .before in
-    let l = e .before .before .before .before in
-    let E = l .loop .inv .1 .ended in
-    (laid-snapshots E, (laid-refs E, (asked-laid (U l) (formed e) (c .before .if6 .taken), snapshots-ascend E)))
+    decided-less (decided-at e .loop2 .number) (given (decided-at e) .updates .count) (decided-at e .loop2 .place) (decided-at e .loop2 .half) (zero (e .before)) (e .if1 .left)
 
-ids-of-requires-2 : tie.Need-ids-of-requires-2 Inv-loop μ-loop
-ids-of-requires-2 c κs =
+loop2-again-4 : tie.Need-loop2-again-4 Inv-loop μ-loop Inv-loop2 μ-loop2
+loop2-again-4 c =
     let f = c .before .before in
-    let l = f .before .before .before .before .before .before .before .before .before in
-    laid-of _ (omega (arith, keep-length (λ s. not (isIn (readSnapshotIds (U l .«snapshot_ids»)) (s .id))) (readSnapshots (l .loop .t)), laid-snapshots (l .loop .inv .1 .ended) .fits)) (f .remove-snapshots .ensures .snapshots)
+    let e = f .before .before in
+    let n : updateFormed (readUpdate (U (decided-at e))) ≡ false = sym (f .is-formed .ensures) ∙ not-true (f .is-formed .result) (c .before .if4 .taken) in
+    waits-now e (not-formed-decided (unformed (stands e) n) (readUpdate (U (decided-at e))) (at e) (one e) n false (ap (λ (d : Decision). d .number) (c .decided2 .ensures)))
 
-mul-entries-2 : tie.Need-mul-entries-2 Inv-loop μ-loop
-mul-entries-2 c = omega (arith, room (in-removal (c .before)))
+assign-uuid-requires : tie.Need-assign-uuid-requires Inv-loop μ-loop Inv-loop2 μ-loop2
+assign-uuid-requires c κs = (tidy (c .before), c .if5 .taken)
 
-array-set-from-entries-2 : tie.Need-array-set-from-entries-2 Inv-loop μ-loop
-array-set-from-entries-2 c = omega (arith, room (in-removal (c .before)))
+loop2-less-5 : tie.Need-loop2-less-5 Inv-loop μ-loop Inv-loop2 μ-loop2
+loop2-less-5 c =
+    let e = deciding (c .before .before) in
+    decided-less (decided-at e .loop2 .number) (given (decided-at e) .updates .count) (decided-at e .loop2 .place) (decided-at e .loop2 .half) (zero (e .before)) (e .if1 .left)
 
-add-c-2 : tie.Need-add-c-2 Inv-loop μ-loop
-add-c-2 c = omega (arith, room (in-removal (c .before)))
+loop2-again-5 : tie.Need-loop2-again-5 Inv-loop μ-loop Inv-loop2 μ-loop2
+loop2-again-5 c =
+    let e = c .before .before in
+    let q = c .before .if5 .taken in
+    let s = S e 1 q (λ (z : 1 ≡ 5). omega arith) in
+    let T = s .stands .tables in
+    let u = U (loop-at e) in
+    let k = is-uuid u (formed e) q in
+    waits-now (deciding e) (fields-decided s (readUpdate u) (at (deciding e)) (one (deciding e)) (formed e) (λ (z : group (readUpdate u) ≡ 0). omega arith) (c .assign-uuid .result) (c .assign-uuid .ensures (termsOf (given (loop-at e))) (s .state) (T .builder)) k)
 
-loop-less-3 : tie.Need-loop-less-3 Inv-loop μ-loop
-loop-less-3 c = omega (arith, in-removal (c .before) .loop-test .taken)
+upgrade-format-version-requires : tie.Need-upgrade-format-version-requires Inv-loop μ-loop Inv-loop2 μ-loop2
+upgrade-format-version-requires c κs = (tidy (c .before .before), c .if6 .taken)
 
-loop-again-3 : tie.Need-loop-again-3 Inv-loop μ-loop
-loop-again-3 c =
-    let k = c .before in
-    let f = k .before .before .before .before .before in
-    let n = in-removal k in
-    let S = n .before .loop .inv .1 in
-    let e = f .before .before .before .before .before in
-    (omega (arith, n .loop-test .taken), removed-some S (readUpdate (U (n .before))) (turn n) (formed e) _ (read-6 (U (n .before)) (formed e) (f .before .before .if6 .taken)) (f .remove-snapshots .ensures .snapshots) (k .before .before .ids-of2 .ensures) (f .remove-snapshots .ensures .refs) (holds-some _ (f .remove-snapshots .ensures .ids) (c .if7 .taken)) (one (n .before)) (removal-entry _ (n .before .before .blank .ensures) (f .remove-snapshots .ensures .ids)))
+loop2-less-6 : tie.Need-loop2-less-6 Inv-loop μ-loop Inv-loop2 μ-loop2
+loop2-less-6 c =
+    let e = deciding (c .before .before .before) in
+    decided-less (decided-at e .loop2 .number) (given (decided-at e) .updates .count) (decided-at e .loop2 .place) (decided-at e .loop2 .half) (zero (e .before)) (e .if1 .left)
 
-loop-less-4 : tie.Need-loop-less-4 Inv-loop μ-loop
-loop-less-4 c = omega (arith, in-removal (c .before) .loop-test .taken)
+loop2-again-6 : tie.Need-loop2-again-6 Inv-loop μ-loop Inv-loop2 μ-loop2
+loop2-again-6 c =
+    let e = c .before .before .before in
+    let q = c .before .if6 .taken in
+    let s = S e 2 q (λ (z : 2 ≡ 5). omega arith) in
+    let T = s .stands .tables in
+    let u = U (loop-at e) in
+    let k = is-version u (formed e) q in
+    waits-now (deciding e) (fields-decided s (readUpdate u) (at (deciding e)) (one (deciding e)) (formed e) (λ (z : group (readUpdate u) ≡ 0). omega arith) (c .upgrade-format-version .result) (c .upgrade-format-version .ensures (termsOf (given (loop-at e))) (s .state) (T .builder)) k)
 
-loop-again-4 : tie.Need-loop-again-4 Inv-loop μ-loop
-loop-again-4 c =
-    let k = c .before in
-    let f = k .before .before .before .before .before in
-    let n = in-removal k in
-    let S = n .before .loop .inv .1 in
-    let e = f .before .before .before .before .before in
-    (omega (arith, n .loop-test .taken), removed-none S (readUpdate (U (n .before))) (turn n) (formed e) _ (read-6 (U (n .before)) (formed e) (f .before .before .if6 .taken)) (f .remove-snapshots .ensures .snapshots) (k .before .before .ids-of2 .ensures) (f .remove-snapshots .ensures .refs) (holds-none _ (f .remove-snapshots .ensures .ids) (c .if7 .left)))
+set-location-requires : tie.Need-set-location-requires Inv-loop μ-loop Inv-loop2 μ-loop2
+set-location-requires c κs = let e = c .before .before .before in (location-fits (S e 3 (c .if7 .taken) (λ (z : 3 ≡ 5). omega arith) .stands), (tidy e, (formed-kind (U (loop-at e)) (formed e), c .if7 .taken)))
 
-remove-ref-requires : tie.Need-remove-ref-requires Inv-loop μ-loop
-remove-ref-requires c κs =
-    let e = c .before .before .before .before .before in
-    let l = e .before .before .before .before in
-    let E = l .loop .inv .1 .ended in
-    (laid-refs E, name-8 (U l) (formed e) (c .before .if8 .taken))
+loop2-less-7 : tie.Need-loop2-less-7 Inv-loop μ-loop Inv-loop2 μ-loop2
+loop2-less-7 c =
+    let e = deciding (c .before .before .before .before) in
+    decided-less (decided-at e .loop2 .number) (given (decided-at e) .updates .count) (decided-at e .loop2 .place) (decided-at e .loop2 .half) (zero (e .before)) (e .if1 .left)
 
-mul-entries-3 : tie.Need-mul-entries-3 Inv-loop μ-loop
-mul-entries-3 c = omega (arith, room (in-ref (c .before .before .before)))
+loop2-again-7 : tie.Need-loop2-again-7 Inv-loop μ-loop Inv-loop2 μ-loop2
+loop2-again-7 c =
+    let e = c .before .before .before .before in
+    let q = c .before .if7 .taken in
+    let s = S e 3 q (λ (z : 3 ≡ 5). omega arith) in
+    let T = s .stands .tables in
+    let u = U (loop-at e) in
+    let k = is-location u (formed e) q in
+    waits-now (deciding e) (fields-decided s (readUpdate u) (at (deciding e)) (one (deciding e)) (formed e) (λ (z : group (readUpdate u) ≡ 0). omega arith) (c .set-location .result) (c .set-location .ensures (termsOf (given (loop-at e))) (s .state) (T .builder)) k)
 
-array-set-from-entries-3 : tie.Need-array-set-from-entries-3 Inv-loop μ-loop
-array-set-from-entries-3 c = omega (arith, room (in-ref (c .before .before .before)))
+commits-on-tag-requires : tie.Need-commits-on-tag-requires Inv-loop μ-loop Inv-loop2 μ-loop2
+commits-on-tag-requires c κs = let e = adding c in (laid-refs (adding-standing c .stands), λ q. name-5 (U (loop-at e)) (formed e) q)
 
-add-c-3 : tie.Need-add-c-3 Inv-loop μ-loop
-add-c-3 c = omega (arith, room (in-ref (c .before .before .before)))
+array-share-prefix-ids : tie.Need-array-share-prefix-ids Inv-loop μ-loop Inv-loop2 μ-loop2
+array-share-prefix-ids c = held-within (adding-standing (c .before) .stands)
 
-loop-less-5 : tie.Need-loop-less-5 Inv-loop μ-loop
-loop-less-5 c = omega (arith, in-ref (c .before .before .before) .loop-test .taken)
+slice-aggregate-add-snapshot : tie.Need-slice-aggregate-add-snapshot Inv-loop μ-loop Inv-loop2 μ-loop2
+slice-aggregate-add-snapshot c = held-slice (adding-standing (c .before .before) .stands)
 
-loop-again-5 : tie.Need-loop-again-5 Inv-loop μ-loop
-loop-again-5 c =
-    let f = c .before .before .before in
-    let e = f .before .before .before .before .before .before in
-    let n = in-ref f in
-    let S = n .before .loop .inv .1 in
-    let T = S .ended .tables in
-    let G = f .remove-ref .ensures (S .state) (T .builder) (T .refs) in
-    let k = f .before .before .if8 .taken in
-    (omega (arith, n .loop-test .taken), gone-some S (readUpdate (U (n .before))) (turn n) (formed e) _ (read-8 (U (n .before)) (formed e) k) (G .took (c .before .before .if9 .taken)) (G .builder) (G .refs) (gone-entry _ (n .before .before .blank .ensures) (sym (name-8 (U (n .before)) (formed e) k .back))) (one (n .before)))
+add-snapshot-requires : tie.Need-add-snapshot-requires Inv-loop μ-loop Inv-loop2 μ-loop2
+add-snapshot-requires c κs = let t = c .before .before in (tidy (adding t), either-kind t)
 
-loop-less-6 : tie.Need-loop-less-6 Inv-loop μ-loop
-loop-less-6 c = omega (arith, in-ref (c .before) .loop-test .taken)
+loop2-less-8 : tie.Need-loop2-less-8 Inv-loop μ-loop Inv-loop2 μ-loop2
+loop2-less-8 c =
+    let t = adds-at (c .before .before) in
+    let e = deciding (adding t) in
+    halved-less (decided-at e .loop2 .number) (given (decided-at e) .updates .count) (decided-at e .loop2 .place) (decided-at e .loop2 .half) _ (zero (e .before)) (e .if1 .left) (first-half t)
 
-loop-again-6 : tie.Need-loop-again-6 Inv-loop μ-loop
-loop-again-6 c =
-    let f = c .before in
-    let e = f .before .before .before .before .before .before in
-    let n = in-ref f in
-    let S = n .before .loop .inv .1 in
-    let T = S .ended .tables in
-    (omega (arith, n .loop-test .taken), gone-none S (readUpdate (U (n .before))) (turn n) (formed e) _ (read-8 (U (n .before)) (formed e) (f .before .before .if8 .taken)) (f .remove-ref .ensures (S .state) (T .builder) (T .refs) .left (c .if9 .left)))
+loop2-again-8 : tie.Need-loop2-again-8 Inv-loop μ-loop Inv-loop2 μ-loop2
+loop2-again-8 c =
+    let a = c .before .before in
+    let t = adds-at a in
+    let e = adding t in
+    let n : a .add-snapshot .result .number ≡ 0 → ⊥ = eqb-false _ _ (sym (add-says a .grows) ∙ not-true (a .add-snapshot .result .grows) (c .if9 .taken)) in
+    waits-now (deciding e) (add-refused (adding-standing t) (at (deciding e)) (one (deciding e)) (formed e) (either-kind t) (a .before .before .commits-on-tag .ensures) (add-says a) (eqb (adding-kind t) 5) n)
 
-update-schemas-requires : tie.Need-update-schemas-requires Inv-loop μ-loop
-update-schemas-requires c κs =
-    let e = c .before .before .before .before .before in
-    let l = e .before .before .before .before in
-    let E = l .loop .inv .1 .ended in
-    (laid-schemas E, (schemas-ascend E, (formed-tidy (U l) (formed e), (formed-kind (U l) (formed e), ⊎-elim (λ w. is-schema-9 (U l) (formed e) (w .taken)) (λ w. is-schema-11 (U l) (formed e) (eqb-true (U l .kind) 11 (w .1 .taken))) (c .if10 .came)))))
+array-share-prefix-ids-2 : tie.Need-array-share-prefix-ids-2 Inv-loop μ-loop Inv-loop2 μ-loop2
+array-share-prefix-ids-2 c = held-within (adding-standing (add-kind (c .before .before .before)) .stands)
 
-refused-requires-4 : tie.Need-refused-requires-4 Inv-loop μ-loop
-refused-requires-4 c κs = search needs
+slice-aggregate-is-last : tie.Need-slice-aggregate-is-last Inv-loop μ-loop Inv-loop2 μ-loop2
+slice-aggregate-is-last c = held-slice (adding-standing (add-kind (c .before .before .before .before)) .stands)
 
-returns-4 : tie.Need-returns-4 Inv-loop μ-loop
-returns-4 c =
-    let e = c .before .before .before .before .before .before .before .before in
-    let n = e .before .before .before in
-    let S = n .before .loop .inv .1 in
-    let T = S .ended .tables in
-    check-refused S (readUpdate (U (n .before))) (turn n) (formed e) (zero (else1 (n .before .before))) _ (c .before .before .update-schemas .ensures (told (n .before .before)) (S .state) (T .builder) (T .schemas) .0 .0) (c .before .if12 .taken) _ (c .refused4 .ensures)
-
-mul-entries-4 : tie.Need-mul-entries-4 Inv-loop μ-loop
-mul-entries-4 c = omega (arith, room (in-schemas (c .before .before .before .before .before)))
-
-array-set-from-entries-4 : tie.Need-array-set-from-entries-4 Inv-loop μ-loop
-array-set-from-entries-4 c = omega (arith, room (in-schemas (c .before .before .before .before .before)))
-
-add-c-4 : tie.Need-add-c-4 Inv-loop μ-loop
-add-c-4 c = omega (arith, room (in-schemas (c .before .before .before .before .before)))
-
-loop-less-7 : tie.Need-loop-less-7 Inv-loop μ-loop
-loop-less-7 c = omega (arith, in-schemas (c .before .before .before .before .before) .loop-test .taken)
-
-loop-again-7 : tie.Need-loop-again-7 Inv-loop μ-loop
-loop-again-7 c =
-    let f = c .before .before .before .before .before in
-    let e = f .before .before .before .before .before .before in
-    let n = in-schemas f in
-    let S = n .before .loop .inv .1 in
-    let T = S .ended .tables in
-    let A = f .update-schemas .ensures (told (n .before .before)) (S .state) (T .builder) (T .schemas) in
-    (omega (arith, n .loop-test .taken), schemas-changed S (readUpdate (U (n .before))) (turn n) (formed e) (A .0) (c .before .before .before .before .if12 .left) (c .before .before .before .if13 .taken) (one (n .before)) (schema-group (f .before)) (A .1 (c .before .before .before .before .if12 .left) (c .before .before .before .if13 .taken)))
-
-loop-less-8 : tie.Need-loop-less-8 Inv-loop μ-loop
-loop-less-8 c = omega (arith, in-schemas (c .before .before) .loop-test .taken)
-
-loop-again-8 : tie.Need-loop-again-8 Inv-loop μ-loop
-loop-again-8 c =
-    let f = c .before .before in
-    let e = f .before .before .before .before .before .before in
-    let n = in-schemas f in
-    let S = n .before .loop .inv .1 in
-    let T = S .ended .tables in
-    (omega (arith, n .loop-test .taken), nothing-changed S (readUpdate (U (n .before))) (turn n) (formed e) (f .update-schemas .ensures (told (n .before .before)) (S .state) (T .builder) (T .schemas) .0) (c .before .if12 .left) (c .if13 .left))
-
-update-orders-requires : tie.Need-update-orders-requires Inv-loop μ-loop
-update-orders-requires c κs =
-    let e = c .before .before .before .before .before .before .before in
-    let l = e .before .before .before .before in
-    let E = l .loop .inv .1 .ended in
-    (laid-schemas E, (schema-held E, (laid-orders E, (orders-formed E, (formed-tidy (U l) (formed e), (formed-kind (U l) (formed e), c .if14 .taken))))))
-
-refused-requires-5 : tie.Need-refused-requires-5 Inv-loop μ-loop
-refused-requires-5 c κs = search needs
-
-returns-5 : tie.Need-returns-5 Inv-loop μ-loop
-returns-5 c =
-    let f = c .before .before in
-    let e = f .before .before .before .before .before .before .before .before in
-    let n = in-orders f in
-    let S = n .before .loop .inv .1 in
-    let T = S .ended .tables in
-    check-refused S (readUpdate (U (n .before))) (turn n) (formed e) (zero (else1 (n .before .before))) _ (f .update-orders .ensures (told (n .before .before)) (S .state) (T .builder) (T .schemas) (T .orders) .0 .0) (c .before .if15 .taken) _ (c .refused5 .ensures)
-
-mul-entries-5 : tie.Need-mul-entries-5 Inv-loop μ-loop
-mul-entries-5 c = omega (arith, room (in-orders (c .before .before .before .before .before)))
-
-array-set-from-entries-5 : tie.Need-array-set-from-entries-5 Inv-loop μ-loop
-array-set-from-entries-5 c = omega (arith, room (in-orders (c .before .before .before .before .before)))
-
-add-c-5 : tie.Need-add-c-5 Inv-loop μ-loop
-add-c-5 c = omega (arith, room (in-orders (c .before .before .before .before .before)))
-
-loop-less-9 : tie.Need-loop-less-9 Inv-loop μ-loop
-loop-less-9 c = omega (arith, in-orders (c .before .before .before .before .before) .loop-test .taken)
-
-loop-again-9 : tie.Need-loop-again-9 Inv-loop μ-loop
-loop-again-9 c =
-    let f = c .before .before .before .before .before in
-    let e = f .before .before .before .before .before .before .before .before in
-    let n = in-orders f in
-    let S = n .before .loop .inv .1 in
-    let T = S .ended .tables in
-    let A = f .update-orders .ensures (told (n .before .before)) (S .state) (T .builder) (T .schemas) (T .orders) in
-    (omega (arith, n .loop-test .taken), orders-changed S (readUpdate (U (n .before))) (turn n) (formed e) (A .0) (c .before .before .before .before .if15 .left) (c .before .before .before .if16 .taken) (one (n .before)) (group-12 (U (n .before)) (formed e) (f .before .if14 .taken)) (A .1 (c .before .before .before .before .if15 .left) (c .before .before .before .if16 .taken)))
-
-loop-less-10 : tie.Need-loop-less-10 Inv-loop μ-loop
-loop-less-10 c = omega (arith, in-orders (c .before .before) .loop-test .taken)
-
-loop-again-10 : tie.Need-loop-again-10 Inv-loop μ-loop
-loop-again-10 c =
-    let f = c .before .before in
-    let e = f .before .before .before .before .before .before .before .before in
-    let n = in-orders f in
-    let S = n .before .loop .inv .1 in
-    let T = S .ended .tables in
-    (omega (arith, n .loop-test .taken), nothing-changed S (readUpdate (U (n .before))) (turn n) (formed e) (f .update-orders .ensures (told (n .before .before)) (S .state) (T .builder) (T .schemas) (T .orders) .0) (c .before .if15 .left) (c .if16 .left))
-
-is-tag-requires : tie.Need-is-tag-requires Inv-loop μ-loop
-is-tag-requires c κs =
-    let e = c .before .before .before .before .before .before .before .before .before .before .before .before .before in
-    let l = e .before .before .before .before in
-    let E = l .loop .inv .1 .ended in
-    (laid-refs E, name-5 (U l) (formed e) (c .if18 .taken))
-
-refused-requires-6 : tie.Need-refused-requires-6 Inv-loop μ-loop
-refused-requires-6 c κs = search needs
-
-returns-6 : tie.Need-returns-6 Inv-loop μ-loop
-returns-6 c =
-    let i = c .before .before in
-    let a = pair (i .before .before) in
-    let n = in-pair a in
-    let S = n .before .loop .inv .1 in
-    let u = U (n .before) in
-    commit-tagged S (readUpdate u) (turn n) (formed-pair a) (readRefName (u .«ref_name»)) (readSnapshot (u .snapshot)) (read-5 u (formed-pair a) (i .before .if18 .taken)) (ap (λ (x : List plain.NamedRef). isTag (readRefName (u .«ref_name»)) x) (sym (read-refs (S .ended))) ∙ sym (i .is-tag .ensures) ∙ c .before .if19 .taken) (zero (else1 (n .before .before))) _ (c .refused6 .ensures)
-
-sub-e : tie.Need-sub-e Inv-loop μ-loop
-sub-e c = omega (arith, c .if20 .taken)
-
-mul-e : tie.Need-mul-e Inv-loop μ-loop
-mul-e c = omega (arith, entries-fit (c .before))
-
-element-copy-out-e : tie.Need-element-copy-out-e Inv-loop μ-loop
-element-copy-out-e c = omega (arith, c .if20 .taken, entries-fit (c .before))
-
-array-share-prefix-ids : tie.Need-array-share-prefix-ids Inv-loop μ-loop
-array-share-prefix-ids c = held-within (in-pair (pair (c .before .before)) .before .loop .inv .1 .ended)
-
-slice-aggregate-add-snapshot-number : tie.Need-slice-aggregate-add-snapshot-number Inv-loop μ-loop
-slice-aggregate-add-snapshot-number c = held-slice (in-pair (pair (c .before .before .before)) .before .loop .inv .1 .ended)
-
-add-snapshot-number-requires : tie.Need-add-snapshot-number-requires Inv-loop μ-loop
-add-snapshot-number-requires c κs = search needs
-
-refused-requires-7 : tie.Need-refused-requires-7 Inv-loop μ-loop
-refused-requires-7 c κs = search needs
-
-returns-7 : tie.Need-returns-7 Inv-loop μ-loop
-returns-7 c =
-    let j = c .before .before .before .before .before in
-    let a = pair (j .before) in
-    let n = in-pair a in
-    add-refused (n .before .loop .inv .1) (readUpdate (U (n .before))) (turn n) (formed-pair a) _ _ (adds j) (zero (else1 (n .before .before))) _ (add-number (c .before .before)) (c .before .if21 .taken) _ (c .refused7 .ensures)
-
-add-snapshot-builder-requires : tie.Need-add-snapshot-builder-requires Inv-loop μ-loop
-add-snapshot-builder-requires c κs = search needs
-
-array-share-prefix-ids-2 : tie.Need-array-share-prefix-ids-2 Inv-loop μ-loop
-array-share-prefix-ids-2 c = held-within (in-pair (checked (c .before)) .before .loop .inv .1 .ended)
-
-slice-aggregate-is-last : tie.Need-slice-aggregate-is-last Inv-loop μ-loop
-slice-aggregate-is-last c = held-slice (in-pair (checked (c .before .before)) .before .loop .inv .1 .ended)
-
-is-last-requires : tie.Need-is-last-requires Inv-loop μ-loop
+is-last-requires : tie.Need-is-last-requires Inv-loop μ-loop Inv-loop2 μ-loop2
 is-last-requires c κs = search needs
 
-mul-x : tie.Need-mul-x Inv-loop μ-loop
-mul-x c = omega (arith, snapshot-room (c .before .before .before .before))
+mul-snapshot : tie.Need-mul-snapshot Inv-loop μ-loop Inv-loop2 μ-loop2
+mul-snapshot c = omega (arith, add-room (to-else9 (c .before)))
 
-element-set-from-x : tie.Need-element-set-from-x Inv-loop μ-loop
-element-set-from-x c = omega (arith, snapshot-room (c .before .before .before .before))
+element-set-from-snapshot : tie.Need-element-set-from-snapshot Inv-loop μ-loop Inv-loop2 μ-loop2
+element-set-from-snapshot c = omega (arith, add-room (to-else9 (c .before)))
 
-add-t : tie.Need-add-t Inv-loop μ-loop
-add-t c = omega (arith, snapshot-room (c .before .before .before .before))
+add-snapshots : tie.Need-add-snapshots Inv-loop μ-loop Inv-loop2 μ-loop2
+add-snapshots c = omega (arith, add-room (to-else9 (c .before)))
 
-mul-ids : tie.Need-mul-ids Inv-loop μ-loop
-mul-ids c = omega (arith, snapshot-room (c .before .before .before .before))
+mul-ids : tie.Need-mul-ids Inv-loop μ-loop Inv-loop2 μ-loop2
+mul-ids c = omega (arith, add-room (to-else9 (c .before)))
 
-array-set-from-ids : tie.Need-array-set-from-ids Inv-loop μ-loop
-array-set-from-ids c = omega (arith, snapshot-room (c .before .before .before .before))
+array-set-from-ids : tie.Need-array-set-from-ids Inv-loop μ-loop Inv-loop2 μ-loop2
+array-set-from-ids c = omega (arith, add-room (to-else9 (c .before)))
 
-put-requires : tie.Need-put-requires Inv-loop μ-loop
+put-requires : tie.Need-put-requires Inv-loop μ-loop Inv-loop2 μ-loop2
 put-requires c κs =
-    let e = c .before .before .before .before in
-    let E = in-pair (checked e) .before .loop .inv .1 .ended in
-    (laid-snapshots E, (snapshot-held e, (snapshot-room e, put-new E (X (checked e)) (snapshot-held e) (add-zero e))))
+    let e = to-else9 (c .before) in
+    let E = adding-standing (add-kind e) .stands in
+    let x = U (loop-at (adding (add-kind e))) .snapshot in
+    (laid-snapshots E, (add-back e, (add-room e, put-new E x (add-back e) (add-fine e))))
 
-ids-of-requires-3 : tie.Need-ids-of-requires-3 Inv-loop μ-loop
-ids-of-requires-3 c κs =
-    let e = c .before .before .before .before .before in
-    put-laid (in-pair (checked e) .before .loop .inv .1 .ended) (X (checked e)) (snapshot-held e) (add-zero e) (c .put .ensures)
+ids-of-requires-2 : tie.Need-ids-of-requires-2 Inv-loop μ-loop Inv-loop2 μ-loop2
+ids-of-requires-2 c κs = search needs
 
-mul-added : tie.Need-mul-added Inv-loop μ-loop
-mul-added c = omega (arith, adds-room (in-pair (checked (c .before .before .before .before))))
+mul-added : tie.Need-mul-added Inv-loop μ-loop Inv-loop2 μ-loop2
+mul-added c = omega (arith, adds-room (to-else9 (c .before)))
 
-array-set-from-added : tie.Need-array-set-from-added Inv-loop μ-loop
-array-set-from-added c = omega (arith, adds-room (in-pair (checked (c .before .before .before .before))))
+array-set-from-added : tie.Need-array-set-from-added Inv-loop μ-loop Inv-loop2 μ-loop2
+array-set-from-added c = omega (arith, adds-room (to-else9 (c .before)))
 
-add-adds : tie.Need-add-adds Inv-loop μ-loop
-add-adds c = omega (arith, adds-room (in-pair (checked (c .before .before .before .before))))
+add-adds : tie.Need-add-adds Inv-loop μ-loop Inv-loop2 μ-loop2
+add-adds c = omega (arith, adds-room (to-else9 (c .before)))
 
-addition-requires : tie.Need-addition-requires Inv-loop μ-loop
-addition-requires c κs = search needs
+loop2-less-9 : tie.Need-loop2-less-9 Inv-loop μ-loop Inv-loop2 μ-loop2
+loop2-less-9 c =
+    let t = add-kind (to-else9 (c .before)) in
+    let e = deciding (adding t) in
+    halved-less (decided-at e .loop2 .number) (given (decided-at e) .updates .count) (decided-at e .loop2 .place) (decided-at e .loop2 .half) _ (zero (e .before)) (e .if1 .left) (first-half t)
 
-mul-entries-6 : tie.Need-mul-entries-6 Inv-loop μ-loop
-mul-entries-6 c = omega (arith, room (in-pair (checked (c .before .before .before .before .before))))
+loop2-again-9 : tie.Need-loop2-again-9 Inv-loop μ-loop Inv-loop2 μ-loop2
+loop2-again-9 c =
+    let w = to-else9 (c .before) in
+    let a = added-call w in
+    let t = add-kind w in
+    let e = adding t in
+    waits-now (deciding e) (add-decided (adding-standing t) (at (deciding e)) (one (deciding e)) (formed e) (either-kind t) (a .before .before .commits-on-tag .ensures) (add-says a) (add-zero w) (grown-tables c .0) (grown-tables c .1) (key-back (c .before .before .before)))
 
-array-set-from-entries-6 : tie.Need-array-set-from-entries-6 Inv-loop μ-loop
-array-set-from-entries-6 c = omega (arith, room (in-pair (checked (c .before .before .before .before .before))))
+target-requires : tie.Need-target-requires Inv-loop μ-loop Inv-loop2 μ-loop2
+target-requires c κs = search needs
 
-add-c-6 : tie.Need-add-c-6 Inv-loop μ-loop
-add-c-6 c = omega (arith, room (in-pair (checked (c .before .before .before .before .before))))
+array-share-prefix-ids-3 : tie.Need-array-share-prefix-ids-3 Inv-loop μ-loop Inv-loop2 μ-loop2
+array-share-prefix-ids-3 c = held-within (midway (c .before .before) .stands)
 
-loop-less-11 : tie.Need-loop-less-11 Inv-loop μ-loop
-loop-less-11 c = omega (arith, in-pair (checked (c .before .before .before .before .before .before)) .loop-test .taken)
+slice-aggregate-position : tie.Need-slice-aggregate-position Inv-loop μ-loop Inv-loop2 μ-loop2
+slice-aggregate-position c = held-slice (midway (c .before .before .before) .stands)
 
-loop-again-11 : tie.Need-loop-again-11 Inv-loop μ-loop
-loop-again-11 c =
-    let j = c .before .before in
-    let e = j .before .before .before .before in
-    let a = checked e in
-    let n = in-pair a in
-    let S = n .before .loop .inv .1 in
-    let u = U (n .before) in
-    (omega (arith, n .loop-test .taken), addition-done S (readUpdate u) (turn n) (formed-pair a) (readSnapshot (u .snapshot)) (read-4 u (formed-pair a) (c .if23 .taken)) (add-zero e) (one (n .before)) (j .before .before .before .add-snapshot-builder .ensures (S .state) (S .ended .tables .builder) (add-zero e)) (grown j .0) (grown j .1) (addition-entry (c .before)) _ (key-back (e .before .before .before .before .before)))
-
-find-requires : tie.Need-find-requires Inv-loop μ-loop
-find-requires c κs = (laid-refs (midway c .ended), name-laid c)
-
-blank-requires-2 : tie.Need-blank-requires-2 Inv-loop μ-loop
-blank-requires-2 c κs = search needs
-
-mul-old : tie.Need-mul-old Inv-loop μ-loop
-mul-old c = omega (arith, c .if24 .taken, named-within (laid-refs (midway (c .before .before .before) .ended)))
-
-element-copy-out-old : tie.Need-element-copy-out-old Inv-loop μ-loop
-element-copy-out-old c = omega (arith, c .if24 .taken, named-within (laid-refs (midway (c .before .before .before) .ended)))
-
-wanted-requires : tie.Need-wanted-requires Inv-loop μ-loop
-wanted-requires c κs = search needs
-
-same-reference-requires : tie.Need-same-reference-requires Inv-loop μ-loop
-same-reference-requires c κs = search needs
-
-loop-less-12 : tie.Need-loop-less-12 Inv-loop μ-loop
-loop-less-12 c = omega (arith, in-pair (c .before .before .before .before .before .before .before .before .before) .loop-test .taken)
-
-loop-again-12 : tie.Need-loop-again-12 Inv-loop μ-loop
-loop-again-12 c =
-    let q = c .before .before in
-    let o = q .before .before in
-    let j = o .before .before .before .before in
-    let W = midway j in
-    (omega (arith, in-pair (j .before) .loop-test .taken), settled W (same-held (W .ended) (sought (o .before)) (asked (j .before)) (q .if25 .taken) (ap (sameReference (readReference (o .before .if24 .old .reference))) (sym (target o)) ∙ sym (c .before .same-reference .ensures) ∙ c .if26 .taken)))
-
-array-share-prefix-ids-3 : tie.Need-array-share-prefix-ids-3 Inv-loop μ-loop
-array-share-prefix-ids-3 c = held-within (midway (at-set (c .before .before)) .ended)
-
-slice-aggregate-position : tie.Need-slice-aggregate-position Inv-loop μ-loop
-slice-aggregate-position c = held-slice (midway (at-set (c .before .before .before)) .ended)
-
-position-requires : tie.Need-position-requires Inv-loop μ-loop
+position-requires : tie.Need-position-requires Inv-loop μ-loop Inv-loop2 μ-loop2
 position-requires c κs = search needs
 
-is-main-name-requires : tie.Need-is-main-name-requires Inv-loop μ-loop
-is-main-name-requires c κs = name-laid (at-set (aim c))
+mul-snapshot-2 : tie.Need-mul-snapshot-2 Inv-loop μ-loop Inv-loop2 μ-loop2
+mul-snapshot-2 c = omega (arith, c .if12 .taken, held-fits (midway (c .before .before .before .before .before) .stands))
 
-set-ref-number-requires : tie.Need-set-ref-number-requires Inv-loop μ-loop
-set-ref-number-requires c κs = search needs
+element-copy-out-snapshot : tie.Need-element-copy-out-snapshot Inv-loop μ-loop Inv-loop2 μ-loop2
+element-copy-out-snapshot c = omega (arith, c .if12 .taken, held-fits (midway (c .before .before .before .before .before) .stands))
 
-refused-requires-8 : tie.Need-refused-requires-8 Inv-loop μ-loop
-refused-requires-8 c κs = search needs
+array-share-prefix-added : tie.Need-array-share-prefix-added Inv-loop μ-loop Inv-loop2 μ-loop2
+array-share-prefix-added c = adds-within (midway (c .before .before .before .before .before) .stands)
 
-returns-8 : tie.Need-returns-8 Inv-loop μ-loop
-returns-8 c =
-    let j = at-set (aim (c .before .before .before .before)) in
-    midway j .refuses (zero (else1 (in-pair (j .before) .before .before))) _ (set-ref-is (c .before .before)) (c .before .if27 .taken) _ (c .refused8 .ensures)
+slice-aggregate-position-2 : tie.Need-slice-aggregate-position-2 Inv-loop μ-loop Inv-loop2 μ-loop2
+slice-aggregate-position-2 c = added-slice (midway (c .before .before .before .before .before .before) .stands)
 
-array-share-prefix-added : tie.Need-array-share-prefix-added Inv-loop μ-loop
-array-share-prefix-added c = adds-within (midway (to-set c) .ended)
-
-slice-aggregate-position-2 : tie.Need-slice-aggregate-position-2 Inv-loop μ-loop
-slice-aggregate-position-2 c = added-slice (midway (to-set (c .before)) .ended)
-
-position-requires-2 : tie.Need-position-requires-2 Inv-loop μ-loop
+position-requires-2 : tie.Need-position-requires-2 Inv-loop μ-loop Inv-loop2 μ-loop2
 position-requires-2 c κs = search needs
 
-mul-y : tie.Need-mul-y Inv-loop μ-loop
-mul-y c = omega (arith, within-snapshots (c .before .before .before))
+set-ref-requires : tie.Need-set-ref-requires Inv-loop μ-loop Inv-loop2 μ-loop2
+set-ref-requires c κs =
+    let t = c .before .before .before .before .before .before .before in
+    let e = setting t in
+    (laid-refs (midway t .stands), (set-name t, (reference-back (U (loop-at e)) (formed e), (tidy e, c .before .before .before .before .before .before .before .if11 .taken))))
 
-element-copy-out-y : tie.Need-element-copy-out-y Inv-loop μ-loop
-element-copy-out-y c = omega (arith, within-snapshots (c .before .before .before))
+refs-after-requires : tie.Need-refs-after-requires Inv-loop μ-loop Inv-loop2 μ-loop2
+refs-after-requires c κs = let t = set-at c in (laid-refs (midway t .stands), (refs-ascend (midway t .stands), λ g. c .set-ref .ensures .new g))
 
-as-main-requires : tie.Need-as-main-requires Inv-loop μ-loop
-as-main-requires c κs = search needs
+is-main-name-requires : tie.Need-is-main-name-requires Inv-loop μ-loop Inv-loop2 μ-loop2
+is-main-name-requires c κs = set-name (set-at (c .before))
 
-mul-e-2 : tie.Need-mul-e-2 Inv-loop μ-loop
-mul-e-2 c = omega (arith, history-room (c .before .before .before))
+loop2-less-10 : tie.Need-loop2-less-10 Inv-loop μ-loop Inv-loop2 μ-loop2
+loop2-less-10 c =
+    let e = deciding (setting (set-kind (c .before .before))) in
+    decided-less (decided-at e .loop2 .number) (given (decided-at e) .updates .count) (decided-at e .loop2 .place) (decided-at e .loop2 .half) (zero (e .before)) (e .if1 .left)
 
-element-set-from-e : tie.Need-element-set-from-e Inv-loop μ-loop
-element-set-from-e c = omega (arith, history-room (c .before .before .before))
+loop2-again-10 : tie.Need-loop2-again-10 Inv-loop μ-loop Inv-loop2 μ-loop2
+loop2-again-10 c =
+    let m = c .before .before in
+    let t = set-kind m in
+    let n : (set-call m .set-ref .result .grows && isMain (nameAt (given (loop-at (setting t))) (loop-at (setting t) .loop2 .place))) ≡ false = ap (λ (b : Bool). set-call m .set-ref .result .grows && b) (sym (main-is m)) ∙ not-true (set-call m .set-ref .result .grows && m .is-main-name .result) (c .if13 .taken) in
+    waits-now (deciding (setting t)) (other-decided (midway t) (set-says (set-call m)) (m .before .refs-after .ensures) n)
 
-add-log : tie.Need-add-log Inv-loop μ-loop
-add-log c = omega (arith, history-room (c .before .before .before))
+main-entry-requires : tie.Need-main-entry-requires Inv-loop μ-loop Inv-loop2 μ-loop2
+main-entry-requires c κs = search needs
 
-mul-mained : tie.Need-mul-mained Inv-loop μ-loop
-mul-mained c = omega (arith, mains-room (c .before .before .before))
+mul-entry : tie.Need-mul-entry Inv-loop μ-loop Inv-loop2 μ-loop2
+mul-entry c = omega (arith, log-room (c .before .before))
 
-array-set-from-mained : tie.Need-array-set-from-mained Inv-loop μ-loop
-array-set-from-mained c = omega (arith, mains-room (c .before .before .before))
+element-set-from-entry : tie.Need-element-set-from-entry Inv-loop μ-loop Inv-loop2 μ-loop2
+element-set-from-entry c = omega (arith, log-room (c .before .before))
 
-add-mains : tie.Need-add-mains Inv-loop μ-loop
-add-mains c = omega (arith, mains-room (c .before .before .before))
+add-log : tie.Need-add-log Inv-loop μ-loop Inv-loop2 μ-loop2
+add-log c = omega (arith, log-room (c .before .before))
 
-mul-old-2 : tie.Need-mul-old-2 Inv-loop μ-loop
-mul-old-2 c = omega (arith, c .if30 .taken, named-within (laid-refs (midway (to-set (settling (c .before .before))) .ended)))
+mul-mained : tie.Need-mul-mained Inv-loop μ-loop Inv-loop2 μ-loop2
+mul-mained c = omega (arith, mains-room (c .before .before))
 
-element-set-from-old : tie.Need-element-set-from-old Inv-loop μ-loop
-element-set-from-old c = omega (arith, c .if30 .taken, named-within (laid-refs (midway (to-set (settling (c .before .before))) .ended)))
+array-set-from-mained : tie.Need-array-set-from-mained Inv-loop μ-loop Inv-loop2 μ-loop2
+array-set-from-mained c = omega (arith, mains-room (c .before .before))
 
-put-ref-requires : tie.Need-put-ref-requires Inv-loop μ-loop
-put-ref-requires c κs =
-    let e = settling (c .before .before) in
-    let j = to-set e in
-    let o = at-wanted (aim (at-place e)) in
-    let E = midway j .ended in
-    (laid-refs E, (laid-ref (N (j .before)) (o .wanted .result) (name-laid j) (target-laid o), ((λ x. ref-room E (aimed (at-place e)) (set-zero e) (c .if30 .left)), refs-ascend E)))
+add-mains : tie.Need-add-mains Inv-loop μ-loop Inv-loop2 μ-loop2
+add-mains c = omega (arith, mains-room (c .before .before))
 
-setting-requires : tie.Need-setting-requires Inv-loop μ-loop
-setting-requires c κs = search needs
+loop2-less-11 : tie.Need-loop2-less-11 Inv-loop μ-loop Inv-loop2 μ-loop2
+loop2-less-11 c =
+    let e = deciding (setting (set-kind (named (c .before .before)))) in
+    decided-less (decided-at e .loop2 .number) (given (decided-at e) .updates .count) (decided-at e .loop2 .place) (decided-at e .loop2 .half) (zero (e .before)) (e .if1 .left)
 
-mul-entries-7 : tie.Need-mul-entries-7 Inv-loop μ-loop
-mul-entries-7 c = omega (arith, entry-room (to-set (settling (c .before .before .before .before))))
+loop2-again-11 : tie.Need-loop2-again-11 Inv-loop μ-loop Inv-loop2 μ-loop2
+loop2-again-11 c =
+    let w = c .before .before in
+    let m = named w in
+    let t = set-kind m in
+    waits-now (deciding (setting t)) (main-decided (midway t) (set-says (set-call m)) (m .before .refs-after .ensures) (set-grows w) (set-main w) (c .before .main-entry .ensures) (log-room w) refl refl (target-key (sought (set-call m) .before .before .before)))
 
-array-set-from-entries-7 : tie.Need-array-set-from-entries-7 Inv-loop μ-loop
-array-set-from-entries-7 c = omega (arith, entry-room (to-set (settling (c .before .before .before .before))))
+remove-snapshots-requires : tie.Need-remove-snapshots-requires Inv-loop μ-loop Inv-loop2 μ-loop2
+remove-snapshots-requires c κs =
+    let e = c .before .before .before .before .before .before in
+    let q = c .if14 .taken in
+    let s = S e 6 q (λ (z : 6 ≡ 5). omega arith) in
+    let E = s .stands in
+    let T = E .tables in
+    let u = U (loop-at e) in
+    (laid-snapshots E, (snapshots-ascend E, (asked-laid u (formed e) q, (tidy e, q))))
 
-add-c-7 : tie.Need-add-c-7 Inv-loop μ-loop
-add-c-7 c = omega (arith, entry-room (to-set (settling (c .before .before .before .before))))
+without-requires : tie.Need-without-requires Inv-loop μ-loop Inv-loop2 μ-loop2
+without-requires c κs =
+    let e = c .before .before .before .before .before .before .before in
+    let q = c .before .if14 .taken in
+    let s = S e 6 q (λ (z : 6 ≡ 5). omega arith) in
+    let E = s .stands in
+    let T = E .tables in
+    let u = U (loop-at e) in
+    (laid-snapshots E, asked-laid u (formed e) q)
 
-loop-less-13 : tie.Need-loop-less-13 Inv-loop μ-loop
-loop-less-13 c = omega (arith, in-pair (to-set (settling (c .before .before .before .before)) .before) .loop-test .taken)
+pointing-requires : tie.Need-pointing-requires Inv-loop μ-loop Inv-loop2 μ-loop2
+pointing-requires c κs =
+    let e = c .before .before .before .before .before .before .before .before in
+    let q = c .before .before .if14 .taken in
+    let s = S e 6 q (λ (z : 6 ≡ 5). omega arith) in
+    let E = s .stands in
+    let T = E .tables in
+    let u = U (loop-at e) in
+    (laid-refs E, left-laid s (readUpdate u) (at (deciding e)) (one (deciding e)) (formed e) (readSnapshotIds (u .«snapshot_ids»)) (read-6 u (formed e) q) (c .without .ensures))
 
-loop-again-13 : tie.Need-loop-again-13 Inv-loop μ-loop
-loop-again-13 c =
-    let g = c .before .before .before in
-    let e = settling (g .before) in
-    let j = to-set e in
-    let W = midway j in
-    let o = at-wanted (aim (at-place e)) in
-    let Y = unheld (aim (at-place e)) in
-    let R = refs-after (c .before .before) in
-    let D = setting-entry (c .before) in (
-      omega (arith, in-pair (j .before) .loop-test .taken),
-      ⊎-elim
-          (λ w.
-          let m : tie.Then29 Inv-loop μ-loop = record { before = g .before; if29 = w .0 } in
-          set-main W Y (set-zero e) (own-after (g .before)) R D (is-main m) (o .wanted .result .«snapshot_id») (ap (λ (x : plain.Reference). x .snapshot) (target o)) (w .1 .ensures (withOwn (ownAfter (asked (j .before) .snapshot) (W .state)) (W .state)) (own-after (g .before))) (history-room m) (w .4) (g .if29 .log) (ap (λ (x : SnapshotLog). x .items) (w .5)) (ap (λ (x : SnapshotLog). x .count) (w .5)) (w .6 ∙ ap (set (in-pair (j .before) .before .loop .mained) (in-pair (j .before) .before .loop .mains)) (target-key (at-place e .before .before))) (w .7))
-          (λ w. rw (w .2, w .3, w .4) (set-other W Y (set-zero e) (w .1 ∙ own-after (g .before)) R D (sym (e .before .before .is-main-name .ensures) ∙ w .0 .left)))
-          (g .if29 .came),
-    )
+ids-of-requires-3 : tie.Need-ids-of-requires-3 Inv-loop μ-loop Inv-loop2 μ-loop2
+ids-of-requires-3 c κs = search needs
 
-ending-requires : tie.Need-ending-requires Inv-loop μ-loop
-ending-requires c κs =
-    let S = c .before .loop .inv .1 in
-    record { state = S .state; ended = S .ended }
+loop2-less-12 : tie.Need-loop2-less-12 Inv-loop μ-loop Inv-loop2 μ-loop2
+loop2-less-12 c =
+    let e = deciding (c .before .before .before .before .before .before .before .before .before .before .before) in
+    decided-less (decided-at e .loop2 .number) (given (decided-at e) .updates .count) (decided-at e .loop2 .place) (decided-at e .loop2 .half) (zero (e .before)) (e .if1 .left)
 
-returns-9 : tie.Need-returns-9 Inv-loop μ-loop
-returns-9 c =
-    let l = c .before .before in
-    let S = l .loop .inv .1 in
-    c .ending .ensures (S .state) (S .ended) ∙ ends S (c .before .loop-test .left) (zero (else1 (l .before)))
+loop2-again-12 : tie.Need-loop2-again-12 Inv-loop μ-loop Inv-loop2 μ-loop2
+loop2-again-12 c =
+    let e = c .before .before .before .before .before .before .before .before .before .before .before in
+    let q = c .before .before .before .before .before .if14 .taken in
+    let s = S e 6 q (λ (z : 6 ≡ 5). omega arith) in
+    let E = s .stands in
+    let T = E .tables in
+    let u = U (loop-at e) in
+    let l = c .before .before .before in
+    let R = removed-decided s (readUpdate u) (at (deciding e)) (one (deciding e)) (formed e) (readSnapshotIds (u .«snapshot_ids»)) (read-6 u (formed e) q) (l .before .remove-snapshots .ensures (s .state) (T .builder) (T .snapshots)) (l .without .ensures) (c .before .ids-of3 .ensures (left-laid s (readUpdate u) (at (deciding e)) (one (deciding e)) (formed e) (readSnapshotIds (u .«snapshot_ids»)) (read-6 u (formed e) q) (l .without .ensures))) (c .before .before .pointing .ensures) in
+    waits-now (deciding e) R
+
+remove-ref-requires : tie.Need-remove-ref-requires Inv-loop μ-loop Inv-loop2 μ-loop2
+remove-ref-requires c κs =
+    let e = c .before .before .before .before .before .before .before in
+    let q = c .if15 .taken in
+    let s = S e 8 q (λ (z : 8 ≡ 5). omega arith) in
+    let E = s .stands in
+    let T = E .tables in
+    let u = U (loop-at e) in
+    (laid-refs E, (name-8 u (formed e) q, (tidy e, q)))
+
+without-requires-2 : tie.Need-without-requires-2 Inv-loop μ-loop Inv-loop2 μ-loop2
+without-requires-2 c κs =
+    let e = c .before .before .before .before .before .before .before .before in
+    let q = c .before .if15 .taken in
+    let s = S e 8 q (λ (z : 8 ≡ 5). omega arith) in
+    let E = s .stands in
+    let T = E .tables in
+    let u = U (loop-at e) in
+    (laid-refs E, name-8 u (formed e) q)
+
+loop2-less-13 : tie.Need-loop2-less-13 Inv-loop μ-loop Inv-loop2 μ-loop2
+loop2-less-13 c =
+    let e = deciding (c .before .before .before .before .before .before .before .before .before) in
+    decided-less (decided-at e .loop2 .number) (given (decided-at e) .updates .count) (decided-at e .loop2 .place) (decided-at e .loop2 .half) (zero (e .before)) (e .if1 .left)
+
+loop2-again-13 : tie.Need-loop2-again-13 Inv-loop μ-loop Inv-loop2 μ-loop2
+loop2-again-13 c =
+    let e = c .before .before .before .before .before .before .before .before .before in
+    let q = c .before .before .if15 .taken in
+    let s = S e 8 q (λ (z : 8 ≡ 5). omega arith) in
+    let E = s .stands in
+    let T = E .tables in
+    let u = U (loop-at e) in
+    let k = is-ref-removal u (formed e) q in
+    waits-now (deciding e) (refs-decided s (readUpdate u) (at (deciding e)) (one (deciding e)) (formed e) (λ (z : group (readUpdate u) ≡ 0). omega arith) (c .before .remove-ref .result) (c .before .remove-ref .ensures (termsOf (given (loop-at e))) (s .state) (T .builder) (T .refs)) k (λ z. refs-left E (readUpdate u) (readRefName (u .«ref_name»)) (read-8 u (formed e) q) (c .without2 .ensures)))
+
+add-schema-requires : tie.Need-add-schema-requires Inv-loop μ-loop Inv-loop2 μ-loop2
+add-schema-requires c κs =
+    let e = c .before .before .before .before .before .before .before .before in
+    let q = c .if16 .taken in
+    let s = S e 9 q (λ (z : 9 ≡ 5). omega arith) in
+    let E = s .stands in
+    let T = E .tables in
+    let u = U (loop-at e) in
+    (laid-schemas E, (tidy e, (formed-kind u (formed e), q)))
+
+schemas-after-requires : tie.Need-schemas-after-requires Inv-loop μ-loop Inv-loop2 μ-loop2
+schemas-after-requires c κs =
+    let e = c .before .before .before .before .before .before .before .before .before in
+    let q = c .before .if16 .taken in
+    let s = S e 9 q (λ (z : 9 ≡ 5). omega arith) in
+    let E = s .stands in
+    let T = E .tables in
+    let u = U (loop-at e) in
+    (laid-schemas E, λ g. c .add-schema .ensures .new g)
+
+loop2-less-14 : tie.Need-loop2-less-14 Inv-loop μ-loop Inv-loop2 μ-loop2
+loop2-less-14 c =
+    let e = deciding (c .before .before .before .before .before .before .before .before .before .before) in
+    decided-less (decided-at e .loop2 .number) (given (decided-at e) .updates .count) (decided-at e .loop2 .place) (decided-at e .loop2 .half) (zero (e .before)) (e .if1 .left)
+
+loop2-again-14 : tie.Need-loop2-again-14 Inv-loop μ-loop Inv-loop2 μ-loop2
+loop2-again-14 c =
+    let e = c .before .before .before .before .before .before .before .before .before .before in
+    let q = c .before .before .if16 .taken in
+    let s = S e 9 q (λ (z : 9 ≡ 5). omega arith) in
+    let E = s .stands in
+    let T = E .tables in
+    let u = U (loop-at e) in
+    let k = is-schema u (formed e) q in
+    let D = c .before .add-schema in
+    waits-now (deciding e) (schemas-decided s (readUpdate u) (at (deciding e)) (one (deciding e)) (formed e) (λ (z : group (readUpdate u) ≡ 0). omega arith) (D .result) (D .ensures .answers (termsOf (given (loop-at e))) (s .state) (T .builder) (T .schemas)) k (λ z. schemas-grown E (D .result) (c .schemas-after .ensures) (D .ensures .table (termsOf (given (loop-at e))) (s .state) (T .schemas) z)))
+
+set-current-schema-requires : tie.Need-set-current-schema-requires Inv-loop μ-loop Inv-loop2 μ-loop2
+set-current-schema-requires c κs =
+    let e = c .before .before .before .before .before .before .before .before .before in
+    let q = c .if17 .taken in
+    let s = S e 10 q (λ (z : 10 ≡ 5). omega arith) in
+    let E = s .stands in
+    let T = E .tables in
+    let u = U (loop-at e) in
+    (laid-schemas E, (tidy e, q))
+
+loop2-less-15 : tie.Need-loop2-less-15 Inv-loop μ-loop Inv-loop2 μ-loop2
+loop2-less-15 c =
+    let e = deciding (c .before .before .before .before .before .before .before .before .before .before) in
+    decided-less (decided-at e .loop2 .number) (given (decided-at e) .updates .count) (decided-at e .loop2 .place) (decided-at e .loop2 .half) (zero (e .before)) (e .if1 .left)
+
+loop2-again-15 : tie.Need-loop2-again-15 Inv-loop μ-loop Inv-loop2 μ-loop2
+loop2-again-15 c =
+    let e = c .before .before .before .before .before .before .before .before .before .before in
+    let q = c .before .if17 .taken in
+    let s = S e 10 q (λ (z : 10 ≡ 5). omega arith) in
+    let E = s .stands in
+    let T = E .tables in
+    let u = U (loop-at e) in
+    let k = is-schema-choice u (formed e) q in
+    waits-now (deciding e) (fields-decided s (readUpdate u) (at (deciding e)) (one (deciding e)) (formed e) (λ (z : group (readUpdate u) ≡ 0). omega arith) (c .set-current-schema .result) (c .set-current-schema .ensures (termsOf (given (loop-at e))) (s .state) (T .builder) (T .schemas)) k)
+
+remove-schemas-requires : tie.Need-remove-schemas-requires Inv-loop μ-loop Inv-loop2 μ-loop2
+remove-schemas-requires c κs =
+    let e = c .before .before .before .before .before .before .before .before .before .before in
+    let q = c .if18 .taken in
+    let s = S e 11 q (λ (z : 11 ≡ 5). omega arith) in
+    let E = s .stands in
+    let T = E .tables in
+    let u = U (loop-at e) in
+    (laid-schemas E, (schemas-ascend E, (tidy e, (formed-kind u (formed e), q))))
+
+without-requires-3 : tie.Need-without-requires-3 Inv-loop μ-loop Inv-loop2 μ-loop2
+without-requires-3 c κs =
+    let e = c .before .before .before .before .before .before .before .before .before .before .before in
+    let q = c .before .if18 .taken in
+    let s = S e 11 q (λ (z : 11 ≡ 5). omega arith) in
+    let E = s .stands in
+    let T = E .tables in
+    let u = U (loop-at e) in
+    (laid-schemas E, schema-ids-laid u (formed e) q)
+
+loop2-less-16 : tie.Need-loop2-less-16 Inv-loop μ-loop Inv-loop2 μ-loop2
+loop2-less-16 c =
+    let e = deciding (c .before .before .before .before .before .before .before .before .before .before .before .before) in
+    decided-less (decided-at e .loop2 .number) (given (decided-at e) .updates .count) (decided-at e .loop2 .place) (decided-at e .loop2 .half) (zero (e .before)) (e .if1 .left)
+
+loop2-again-16 : tie.Need-loop2-again-16 Inv-loop μ-loop Inv-loop2 μ-loop2
+loop2-again-16 c =
+    let e = c .before .before .before .before .before .before .before .before .before .before .before .before in
+    let q = c .before .before .if18 .taken in
+    let s = S e 11 q (λ (z : 11 ≡ 5). omega arith) in
+    let E = s .stands in
+    let T = E .tables in
+    let u = U (loop-at e) in
+    let k = is-schema-removal u (formed e) q in
+    waits-now (deciding e) (schemas-decided s (readUpdate u) (at (deciding e)) (one (deciding e)) (formed e) (λ (z : group (readUpdate u) ≡ 0). omega arith) (c .before .remove-schemas .result) (c .before .remove-schemas .ensures (termsOf (given (loop-at e))) (s .state) (T .builder) (T .schemas)) k (λ z. schemas-left E (readUpdate u) (readSchemaIds (u .«schema_ids»)) (read-11 u (formed e) q) (c .without3 .ensures)))
+
+add-sort-order-requires : tie.Need-add-sort-order-requires Inv-loop μ-loop Inv-loop2 μ-loop2
+add-sort-order-requires c κs =
+    let e = c .before .before .before .before .before .before .before .before .before .before .before in
+    let q = c .if19 .taken in
+    let s = S e 12 q (λ (z : 12 ≡ 5). omega arith) in
+    let E = s .stands in
+    let T = E .tables in
+    let u = U (loop-at e) in
+    (laid-schemas E, (schema-held E, (laid-orders E, (orders-formed E, (tidy e, (formed-kind u (formed e), q))))))
+
+orders-after-requires : tie.Need-orders-after-requires Inv-loop μ-loop Inv-loop2 μ-loop2
+orders-after-requires c κs =
+    let e = c .before .before .before .before .before .before .before .before .before .before .before .before in
+    let q = c .before .if19 .taken in
+    let s = S e 12 q (λ (z : 12 ≡ 5). omega arith) in
+    let E = s .stands in
+    let T = E .tables in
+    let u = U (loop-at e) in
+    (laid-orders E, λ g. c .add-sort-order .ensures .new g)
+
+loop2-less-17 : tie.Need-loop2-less-17 Inv-loop μ-loop Inv-loop2 μ-loop2
+loop2-less-17 c =
+    let e = deciding (c .before .before .before .before .before .before .before .before .before .before .before .before .before) in
+    decided-less (decided-at e .loop2 .number) (given (decided-at e) .updates .count) (decided-at e .loop2 .place) (decided-at e .loop2 .half) (zero (e .before)) (e .if1 .left)
+
+loop2-again-17 : tie.Need-loop2-again-17 Inv-loop μ-loop Inv-loop2 μ-loop2
+loop2-again-17 c =
+    let e = c .before .before .before .before .before .before .before .before .before .before .before .before .before in
+    let q = c .before .before .if19 .taken in
+    let s = S e 12 q (λ (z : 12 ≡ 5). omega arith) in
+    let E = s .stands in
+    let T = E .tables in
+    let u = U (loop-at e) in
+    let k = is-order u (formed e) q in
+    let D = c .before .add-sort-order in
+    waits-now (deciding e) (orders-decided s (readUpdate u) (at (deciding e)) (one (deciding e)) (formed e) (λ (z : group (readUpdate u) ≡ 0). omega arith) (D .result) (D .ensures .answers (termsOf (given (loop-at e))) (s .state) (T .builder) (T .schemas) (T .orders)) k (λ z. orders-grown E (D .result) (c .orders-after .ensures) (D .ensures .table (termsOf (given (loop-at e))) (s .state) (T .orders) z)))
+
+set-default-sort-order-requires : tie.Need-set-default-sort-order-requires Inv-loop μ-loop Inv-loop2 μ-loop2
+set-default-sort-order-requires c κs =
+    let e = c .before .before .before .before .before .before .before .before .before .before .before in
+    let q = last-kind c in
+    let s = S e 13 q (λ (z : 13 ≡ 5). omega arith) in
+    let E = s .stands in
+    let T = E .tables in
+    let u = U (loop-at e) in
+    (laid-orders E, (tidy e, q))
+
+loop2-less-18 : tie.Need-loop2-less-18 Inv-loop μ-loop Inv-loop2 μ-loop2
+loop2-less-18 c =
+    let e = deciding (c .before .before .before .before .before .before .before .before .before .before .before .before) in
+    decided-less (decided-at e .loop2 .number) (given (decided-at e) .updates .count) (decided-at e .loop2 .place) (decided-at e .loop2 .half) (zero (e .before)) (e .if1 .left)
+
+loop2-again-18 : tie.Need-loop2-again-18 Inv-loop μ-loop Inv-loop2 μ-loop2
+loop2-again-18 c =
+    let e = c .before .before .before .before .before .before .before .before .before .before .before .before in
+    let q = last-kind (c .before) in
+    let s = S e 13 q (λ (z : 13 ≡ 5). omega arith) in
+    let E = s .stands in
+    let T = E .tables in
+    let u = U (loop-at e) in
+    let k = is-order-choice u (formed e) q in
+    waits-now (deciding e) (fields-decided s (readUpdate u) (at (deciding e)) (one (deciding e)) (formed e) (λ (z : group (readUpdate u) ≡ 0). omega arith) (c .set-default-sort-order .result) (c .set-default-sort-order .ensures (termsOf (given (loop-at e))) (s .state) (T .builder) (T .orders)) k)
+
+refused-requires : tie.Need-refused-requires Inv-loop μ-loop Inv-loop2 μ-loop2
+refused-requires c κs = search needs
+
+returns : tie.Need-returns Inv-loop μ-loop Inv-loop2 μ-loop2
+returns c = c .refused .ensures ∙ c .before .before .before .loop2 .inv .refused (c .before .if20 .taken)
+
+array-share-prefix-ids-4 : tie.Need-array-share-prefix-ids-4 Inv-loop μ-loop Inv-loop2 μ-loop2
+array-share-prefix-ids-4 c = held-within (end (c .before) .stands)
+
+slice-aggregate-close-log : tie.Need-slice-aggregate-close-log Inv-loop μ-loop Inv-loop2 μ-loop2
+slice-aggregate-close-log c = held-slice (end (c .before .before) .stands)
+
+array-share-prefix-added-2 : tie.Need-array-share-prefix-added-2 Inv-loop μ-loop Inv-loop2 μ-loop2
+array-share-prefix-added-2 c = adds-within (end (c .before .before) .stands)
+
+slice-aggregate-close-log-2 : tie.Need-slice-aggregate-close-log-2 Inv-loop μ-loop Inv-loop2 μ-loop2
+slice-aggregate-close-log-2 c = added-slice (end (c .before .before .before) .stands)
+
+array-share-prefix-mained : tie.Need-array-share-prefix-mained Inv-loop μ-loop Inv-loop2 μ-loop2
+array-share-prefix-mained c = mains-within (end (c .before .before .before) .stands)
+
+slice-aggregate-close-log-3 : tie.Need-slice-aggregate-close-log-3 Inv-loop μ-loop Inv-loop2 μ-loop2
+slice-aggregate-close-log-3 c = main-slice (end (c .before .before .before .before) .stands)
+
+close-log-requires : tie.Need-close-log-requires Inv-loop μ-loop Inv-loop2 μ-loop2
+close-log-requires c κs = laid-log (end (c .before .before .before .before) .stands)
+
+close-number-requires : tie.Need-close-number-requires Inv-loop μ-loop Inv-loop2 μ-loop2
+close-number-requires c κs = let E = end (c .before .before .before .before .before) .stands in (c .close-log .ensures .1, (laid-refs E, (laid-schemas E, (laid-orders E, (schema-held E, order-held E)))))
+
+refused-requires-2 : tie.Need-refused-requires-2 Inv-loop μ-loop Inv-loop2 μ-loop2
+refused-requires-2 c κs = search needs
+
+returns-2 : tie.Need-returns-2 Inv-loop μ-loop Inv-loop2 μ-loop2
+returns-2 c = let n = c .before .before in end-refused (closing n) (n .close-number .result) (c .refused2 .ensures) (close-refused (end (closing n) .stands) _ (numbered n) (c .before .if21 .taken))
+
+limit-requires : tie.Need-limit-requires Inv-loop μ-loop Inv-loop2 μ-loop2
+limit-requires c κs = search needs
+
+files-requires : tie.Need-files-requires Inv-loop μ-loop Inv-loop2 μ-loop2
+files-requires c κs = let E = end (closing (c .before .before)) .stands in (files-laid E, (E .kept .short, rw (c .limit .ensures) (limit-least _)))
+
+refused-requires-3 : tie.Need-refused-requires-3 Inv-loop μ-loop Inv-loop2 μ-loop2
+refused-requires-3 c κs = search needs
+
+returns-3 : tie.Need-returns-3 Inv-loop μ-loop Inv-loop2 μ-loop2
+returns-3 c = let f = c .before .before in let n = counted-at f in end-refused (closing n) 23 (c .refused3 .ensures) (files-refused (end (closing n) .stands) _ (none-fails f) (sym (filed-so f .tooMany) ∙ c .before .if22 .taken))
+
+last-update-requires : tie.Need-last-update-requires Inv-loop μ-loop Inv-loop2 μ-loop2
+last-update-requires c κs = search needs
+
+returns-4 : tie.Need-returns-4 Inv-loop μ-loop Inv-loop2 μ-loop2
+returns-4 c =
+    let l = c .before .before .before in
+    let f = l .before .before in
+    let n = counted-at f in
+    close-accepted (end (closing n) .stands) _ (none-fails f) (history n) (filed-so f) (l .before .if22 .left) (l .last-update .ensures (end (closing n) .state) (end (closing n) .stands .tables .builder)) ∙ ends (end (closing n)) (passed (closing n))
 
 pub run-spec : {M : Type 1} → statement M
 run-spec =
@@ -950,133 +1130,135 @@ run-spec =
     (tie.spec
     Inv-loop
     μ-loop
-    start-number-requires
-    refused-requires
-    returns
-    new-from-metadata-requires
-    ids-of-requires
+    Inv-loop2
+    μ-loop2
     blank-requires
+    new-from-metadata-requires
+    decided-requires
+    ids-of-requires
+    last-time-requires
     loop-holds
-    mul-u
-    element-copy-out-u
-    add-i
-    is-formed-requires
-    refused-requires-2
-    returns-2
-    is-field-kind-requires
-    update-fields-requires
-    refused-requires-3
-    returns-3
-    mul-entries
-    array-set-from-entries
-    add-c
+    mul-weight
+    element-copy-out-weight
+    weight-requires
+    add-sum
+    add-place
     loop-less
     loop-again
-    loop-less-2
-    loop-again-2
-    remove-snapshots-requires
-    ids-of-requires-2
-    mul-entries-2
-    array-set-from-entries-2
-    add-c-2
-    loop-less-3
-    loop-again-3
-    loop-less-4
-    loop-again-4
-    remove-ref-requires
-    mul-entries-3
-    array-set-from-entries-3
-    add-c-3
-    loop-less-5
-    loop-again-5
-    loop-less-6
-    loop-again-6
-    update-schemas-requires
-    refused-requires-4
-    returns-4
-    mul-entries-4
-    array-set-from-entries-4
-    add-c-4
-    loop-less-7
-    loop-again-7
-    loop-less-8
-    loop-again-8
-    update-orders-requires
-    refused-requires-5
-    returns-5
-    mul-entries-5
-    array-set-from-entries-5
-    add-c-5
-    loop-less-9
-    loop-again-9
-    loop-less-10
-    loop-again-10
-    is-tag-requires
-    refused-requires-6
-    returns-6
-    sub-e
-    mul-e
-    element-copy-out-e
+    start-number-requires
+    loop2-holds
+    loop2-less
+    loop2-again
+    after-requires
+    loop2-less-2
+    loop2-again-2
+    mul-entries
+    array-set-from-entries
+    add-count
+    loop2-less-3
+    loop2-again-3
+    mul-update
+    element-copy-out-update
+    is-formed-requires
+    decided-requires-2
+    loop2-less-4
+    loop2-again-4
+    assign-uuid-requires
+    loop2-less-5
+    loop2-again-5
+    upgrade-format-version-requires
+    loop2-less-6
+    loop2-again-6
+    set-location-requires
+    loop2-less-7
+    loop2-again-7
+    commits-on-tag-requires
     array-share-prefix-ids
-    slice-aggregate-add-snapshot-number
-    add-snapshot-number-requires
-    refused-requires-7
-    returns-7
-    add-snapshot-builder-requires
+    slice-aggregate-add-snapshot
+    add-snapshot-requires
+    loop2-less-8
+    loop2-again-8
     array-share-prefix-ids-2
     slice-aggregate-is-last
     is-last-requires
-    mul-x
-    element-set-from-x
-    add-t
+    mul-snapshot
+    element-set-from-snapshot
+    add-snapshots
     mul-ids
     array-set-from-ids
     put-requires
-    ids-of-requires-3
+    ids-of-requires-2
     mul-added
     array-set-from-added
     add-adds
-    addition-requires
-    mul-entries-6
-    array-set-from-entries-6
-    add-c-6
-    loop-less-11
-    loop-again-11
-    find-requires
-    blank-requires-2
-    mul-old
-    element-copy-out-old
-    wanted-requires
-    same-reference-requires
-    loop-less-12
-    loop-again-12
+    loop2-less-9
+    loop2-again-9
+    target-requires
     array-share-prefix-ids-3
     slice-aggregate-position
     position-requires
-    is-main-name-requires
-    set-ref-number-requires
-    refused-requires-8
-    returns-8
+    mul-snapshot-2
+    element-copy-out-snapshot
     array-share-prefix-added
     slice-aggregate-position-2
     position-requires-2
-    mul-y
-    element-copy-out-y
-    as-main-requires
-    mul-e-2
-    element-set-from-e
+    set-ref-requires
+    refs-after-requires
+    is-main-name-requires
+    loop2-less-10
+    loop2-again-10
+    main-entry-requires
+    mul-entry
+    element-set-from-entry
     add-log
     mul-mained
     array-set-from-mained
     add-mains
-    mul-old-2
-    element-set-from-old
-    put-ref-requires
-    setting-requires
-    mul-entries-7
-    array-set-from-entries-7
-    add-c-7
-    loop-less-13
-    loop-again-13
-    ending-requires
-    returns-9)
+    loop2-less-11
+    loop2-again-11
+    remove-snapshots-requires
+    without-requires
+    pointing-requires
+    ids-of-requires-3
+    loop2-less-12
+    loop2-again-12
+    remove-ref-requires
+    without-requires-2
+    loop2-less-13
+    loop2-again-13
+    add-schema-requires
+    schemas-after-requires
+    loop2-less-14
+    loop2-again-14
+    set-current-schema-requires
+    loop2-less-15
+    loop2-again-15
+    remove-schemas-requires
+    without-requires-3
+    loop2-less-16
+    loop2-again-16
+    add-sort-order-requires
+    orders-after-requires
+    loop2-less-17
+    loop2-again-17
+    set-default-sort-order-requires
+    loop2-less-18
+    loop2-again-18
+    refused-requires
+    returns
+    array-share-prefix-ids-4
+    slice-aggregate-close-log
+    array-share-prefix-added-2
+    slice-aggregate-close-log-2
+    array-share-prefix-mained
+    slice-aggregate-close-log-3
+    close-log-requires
+    close-number-requires
+    refused-requires-2
+    returns-2
+    limit-requires
+    files-requires
+    refused-requires-3
+    returns-3
+    last-update-requires
+    returns-4)

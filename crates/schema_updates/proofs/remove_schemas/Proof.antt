@@ -3,7 +3,6 @@ use mathlib.Core.Path.{_≡_, refl, ap, _∙_}
 use mathlib.Core.Bool.{not}
 use mathlib.Core.List.{List}
 use borrow.Author.Needs.{needs}
-use borrow.Author.Tests.{not-true}
 use lib.Dec.{ltb}
 use lib.IntN.{ℤ}
 use lib.ListN.{length, length-map}
@@ -42,23 +41,21 @@ module _ (s : tie.Start) where
 returns : tie.Need-returns
 unfolding checks effect removeSchemasChecks removeSchemas laidBuilder laidFields laidUpdate
 returns c terms st p q =
-    let r = c .before .before .before in
+    let h = c .before in
+    let r = h .before .before in
     let s = r .before .before .before .before in
     let u = s .args .u in
     let ids : List ℤ = readSchemaIds (u .«schema_ids») in
     let l : readSchemas (s .args .t) ≡ st .metadata .schemas = ap (λ (t : Schemas). readSchemas t) q ∙ reread-schemas (st .metadata .schemas) in
     let k : readUpdate u ≡ RemoveSchemas ids = read-kind u (long s) (s .pre .1 .1 .0) 11 (s .pre .1 .1 .1 .1) in
     let some : ltb 0 (u .«schema_ids» .count) ≡ not (isEmpty ids) = some-counted ids (u .«schema_ids» .count) (length-map (counted noSchemaId (u .«schema_ids» .items) (u .«schema_ids» .count)) (λ (x : SchemaId). x .0) ∙ length-counted noSchemaId (u .«schema_ids» .items) (u .«schema_ids» .count)) in
-    let held : c .before .held .result ≡ laidSchemaIds (heldSchemas ids (st .metadata .schemas)) = c .before .held .ensures ∙ ap (λ (x : List plain.Schema). laidSchemaIds (heldSchemas ids x)) l in
+    let held : h .held .result ≡ laidSchemaIds (heldSchemas ids (st .metadata .schemas)) = h .held .ensures ∙ ap (λ (x : List plain.Schema). laidSchemaIds (heldSchemas ids x)) l in
     let left : List plain.Schema = keep (λ (x : plain.Schema). not (isIn ids (x .id))) (st .metadata .schemas) in
-    let e : withSchemaIds (c .before .held .result) u ≡ laidUpdate (RemoveSchemas (heldSchemas ids (st .metadata .schemas))) =
-    ap (withSchemaIds (c .before .held .result)) (of-kind u (long s) (s .pre .1 .1 .0) 11 (s .pre .1 .1 .1 .1)) ∙ rw held in
-    rw (k, some) (
-      (
-        c .before .before .choose .ensures ∙ rw (r .has-schema .ensures, ap (λ (b : TableMetadataBuilder). b .fields .«current_schema_id» .0) p),
-        λ z. stepped-unless (isEmpty ids) st (withMetadata (withSchemas left (st .metadata)) st) (RemoveSchemas (heldSchemas ids (st .metadata .schemas))) _ _ refl p e,
-      ),
-      λ z t. c .without .ensures ∙ rw (l, not-true (isEmpty ids) t),
+    let e : withSchemaIds (h .held .result) u ≡ laidUpdate (RemoveSchemas (heldSchemas ids (st .metadata .schemas))) =
+    ap (withSchemaIds (h .held .result)) (of-kind u (long s) (s .pre .1 .1 .0) 11 (s .pre .1 .1 .1 .1)) ∙ rw held in
+    rw (c .decided .ensures, k, some) (
+      h .before .choose .ensures ∙ rw (r .has-schema .ensures, ap (λ (b : TableMetadataBuilder). b .fields .«current_schema_id» .0) p),
+      λ z. stepped-unless (isEmpty ids) st (withMetadata (withSchemas left (st .metadata)) st) (RemoveSchemas (heldSchemas ids (st .metadata .schemas))) _ _ refl p e,
     )
 
 pub remove-schemas-spec : {M : Type 1} → statement M
@@ -68,5 +65,5 @@ remove-schemas-spec =
     (λ c κs. laid-ids (c .before .before .before))
     (λ c κs. search needs)
     (λ c κs. let s = c .before .before .before .before .before in (s .pre .0, (laid-ids s, s .pre .1 .0)))
-    (λ c κs. let s = c .before .before .before .before .before .before in (s .pre .0, laid-ids s))
+    (λ c κs. search needs)
     returns)

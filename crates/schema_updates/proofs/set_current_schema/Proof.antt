@@ -1,55 +1,24 @@
--- The choice is made of the state's last added and current ids, and the builder that comes back has the chosen one.
-use mathlib.Core.Path.{_≡_, refl, ap, _∙_}
-use mathlib.Core.Option.{Option}
+-- The answer is that of the choice, and the entry is the update with the id that the choice logs.
+use mathlib.Core.Path.{_≡_, ap}
 use borrow.Author.Needs.{needs}
-use lib.IntN.{ℤ}
-use Rattle.records.specs.declared.schema.Schemas.{Schemas}
-use Rattle.rules.specs.Words.{eqZ}
-use Rattle.rules.specs.Register.{withCurrentSchema, onFields}
-use Rattle.rules.specs.Register.Update.{SetCurrentSchema}
-use Rattle.rules.specs.SchemaUpdates.{chosen, choiceLogged, holdsSchema, setCurrentSchemaChecks, setCurrentSchema}
-use Rattle.rules.specs.Layout.{readSchemas, laidFields}
-use Rattle.rules.specs.Kinds.{laidUpdate}
-use Rattle.rules.proofs.Reread.{reread-schemas}
-use Rattle.builder.specs.declared.builder.TableMetadataBuilder.{TableMetadataBuilder}
-use Rattle.builder.specs.Pieces.{laidBuilder}
-use Rattle.builder.proofs.Steps.{stepped-unless}
-use Rattle.builder.proofs.Choices.{given-back, choice}
-use Rattle.schema_updates.specs.Schemas.{addedSchema}
+use lib.ListN.{length}
+use Rattle.rules.specs.Updates.{checks, effect}
+use Rattle.rules.specs.Kinds.{withSchemaId}
+use Rattle.builder.proofs.Steps.{entry-as}
+use Rattle.builder.proofs.Entries.{of-kind, read-kind}
 use Rattle.schema_updates.proofs.set_current_schema.Statement.{statement}
 use Rattle.schema_updates.proofs.set_current_schema.Tie as tie
 
+long : (s : tie.Start) → length (s .args .u .uuid) ≡ 16
+long s = search needs
+
 returns : tie.Need-returns
-unfolding setCurrentSchemaChecks setCurrentSchema laidBuilder laidFields laidUpdate
-returns c st p q =
-    let h = c .before .before .before in
-    let f = h .before .before in
-    let a = f .before .before .before .before .args in
-    let id : ℤ = a .id .0 in
-    let last : Option ℤ = st .added .schema in
-    let current : ℤ = st .metadata .fields .currentSchema in
-    let x : ℤ = chosen id last in
-    let k =
-    choice id (a .b .«has_schema») (a .b .«last_added_schema_id» .0)
-    (ap (λ (b : TableMetadataBuilder). addedSchema b) p ∙ given-back last)
-    (ap (λ (b : TableMetadataBuilder). b .fields .«current_schema_id» .0) p)
-    (ap holdsSchema (ap (λ (t : Schemas). readSchemas t) q ∙ reread-schemas (st .metadata .schemas)))
-    (f .before .same-schema .ensures) (f .chosen-schema .ensures) (h .before .same-schema2 .ensures) (h .holds .ensures) (c .before .before .choose .ensures) (c .before .choose2 .ensures) (c .logged-schema .ensures) in
-    let new : f .chosen-schema .result ≡ record { 0 = x } = λ i. record { 0 = k .takes i } in
-    let put : c .logged-schema .result ≡ record { 0 = choiceLogged x last } = λ i. record { 0 = k .logs i } in (
-      k .checked,
-      λ z. rw (k .unchanged, put, new, p) (stepped-unless (eqZ x current) st (onFields (withCurrentSchema x) st) (SetCurrentSchema (choiceLogged x last)) _ _ refl refl refl),
-    )
+unfolding checks effect
+returns c terms st p q =
+    let x = c .before .before .before in
+    let s = x .before in
+    let u = s .args .u in
+    rw (c .decided .ensures, read-kind u (long s) (s .pre .1 .0) 10 (s .pre .1 .1)) (entry-as (x .schema-choice .ensures st p q) (ap (withSchemaId (x .schema-choice .result .«schema_id»)) (of-kind u (long s) (s .pre .1 .0) 10 (s .pre .1 .1))))
 
 pub set-current-schema-spec : {M : Type 1} → statement M
-set-current-schema-spec =
-    tie.close
-    (tie.spec
-    (λ c κs. search needs)
-    (λ c κs. search needs)
-    (λ c κs. search needs)
-    (λ c κs. search needs)
-    (λ c κs. search needs)
-    (λ c κs. search needs)
-    (λ c κs. search needs)
-    returns)
+set-current-schema-spec = tie.close (tie.spec (λ c κs. search needs) (λ c κs. search needs) returns)

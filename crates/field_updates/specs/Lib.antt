@@ -1,2 +1,0 @@
--- What the contracts of the updates of single fields cite beside the rules.
-pub mod Fields

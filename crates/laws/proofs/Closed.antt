@@ -1,0 +1,172 @@
+-- The close: what it is told, and what its answer makes of the run.
+use Prim.Native.Nat.{ℕ, _≤_}
+use native.Mathlib.Omega.{arith}
+use mathlib.Core.Path.{_≡_, refl, sym, ap, _∙_}
+use mathlib.Core.Bool.{Bool, true, false, cond, not}
+use mathlib.Core.List.{List, [], _∷_}
+use lib.Dec.{ltb}
+use lib.IntN.{ℤ, pos}
+use lib.ListN.{length, take, length-map}
+use borrow.Author.Tests.{ne-eqb}
+use Rattle.records.specs.declared.metadata.SingleFields.{SingleFields}
+use Rattle.records.specs.declared.counters.Time.{Time}
+use Rattle.records.specs.declared.snapshot.Snapshots.{Snapshots}
+use Rattle.records.specs.declared.run.Answer.{Answer}
+use Rattle.rules.specs.Words.{firstOf, orElse, Check}
+use Rattle.rules.specs.Capacities.{metadataLogRoom}
+use Rattle.rules.specs.Replies.{defaultOrderUnfit, logEndsElsewhere, mainDisagrees}
+use Rattle.rules.specs.Register.{State}
+use Rattle.rules.specs.Register.Outcome.{Refused, Accepted}
+use Rattle.rules.specs.WellFormed.{mainAgrees, metadataLogFormed, fileNameFormed}
+use Rattle.rules.specs.ChangeLog.{logsMain, mainTarget}
+use Rattle.rules.specs.Limit.{limitOf, isNumber, afterPlus}
+use Rattle.rules.proofs.Checks.{by-test}
+use Rattle.rules.specs.Close.{isDefaultUnfit, endsElsewhere, history, staying, expired, closeChecks, closed}
+use Rattle.rules.specs.Run.{close}
+use Rattle.rules.specs.Layout.{laidSnapshots, laidFields, laidMetadata}
+use Rattle.rules.specs.Kinds.{laidUpdates}
+use Rattle.rules.specs.Answer.{laidOutcome}
+use Rattle.rules.proofs.Reread.{reread-fields}
+use Rattle.rules.proofs.Tables.{log-fits}
+use Rattle.rules.specs.Register as plain
+use Rattle.builder.specs.declared.builder.TableMetadataBuilder.{TableMetadataBuilder}
+use Rattle.builder.specs.Pieces.{laidBuilder, idsOf}
+use Rattle.tables.specs.Laid.{LaidMetadataLog}
+use Rattle.close.specs.declared.history.History.{History}
+use Rattle.close.specs.declared.files.FileLogs.{FileLogs}
+use Rattle.close.specs.Facts.{addition, additions, Told}
+use Rattle.close.specs.Answers.{HistoryOf, Handed, Filed, FilesOf}
+use Rattle.laws.specs.Standing.{Given, Pieces, Represents, termsOf}
+use Rattle.laws.proofs.Slots.{pad-length, pad-front, collect-length}
+use Rattle.laws.proofs.Beginning.{read-fields, read-refs, read-log, read-schemas, read-orders, snapshots-fit}
+
+module _ {g : Given} {st : State} {p : Pieces} (E : Represents g st p) where
+  pub held-count : p .held .snapshots .count ≡ length (st .metadata .snapshots)
+  unfolding laidSnapshots
+  held-count = ap (λ (x : Snapshots). x .count) (E .tables .snapshots)
+
+  pub held-fits : p .held .snapshots .count ≤ 64
+  held-fits = omega (arith, held-count, snapshots-fit E)
+
+  -- no more snapshots are added or become current than there are entries
+  pub adds-most : p .changes .adds ≤ length (st .log)
+  unfolding additions
+  adds-most = omega (arith, E .logs .adds, collect-length addition (st .log))
+
+  pub mains-most : p .changes .mains ≤ length (st .log)
+  unfolding logsMain
+  mains-most = omega (arith, E .logs .mains, collect-length mainTarget (st .log))
+
+  adds-fit : p .changes .adds ≤ 64
+  adds-fit = omega (arith, adds-most, E .room)
+
+  mains-fit : p .changes .mains ≤ 64
+  mains-fit = omega (arith, mains-most, E .room)
+
+  pub held-ids : take (p .held .snapshots .count) (p .held .ids) ≡ idsOf (st .metadata .snapshots)
+  held-ids = rw (E .tables .ids, held-count, ← (length-map (st .metadata .snapshots) (λ (x : plain.Snapshot). x .id))) (pad-front (pos 0) 64 (idsOf (st .metadata .snapshots)))
+
+  pub added-ids : take (p .changes .adds) (p .changes .added) ≡ additions (st .log)
+  added-ids = rw (E .logs .added, E .logs .adds) (pad-front (pos 0) 64 (additions (st .log)))
+
+  pub main-ids : take (p .changes .mains) (p .changes .mained) ≡ logsMain (st .log)
+  main-ids = rw (E .logs .mained, E .logs .mains) (pad-front (pos 0) 64 (logsMain (st .log)))
+
+  pub fields-laid : p .held .builder .fields ≡ laidFields (st .metadata .fields)
+  unfolding laidBuilder
+  fields-laid = ap (λ (x : TableMetadataBuilder). x .fields) (E .tables .builder)
+
+  pub told : Told (st .log) (st .metadata) (p .held .log) (take (p .held .snapshots .count) (p .held .ids)) (p .held .builder .fields) (take (p .changes .adds) (p .changes .added)) (take (p .changes .mains) (p .changes .mained)) (p .changes .removal)
+  told =
+      record {
+        history = read-log E;
+        held = held-ids;
+        current = rw fields-laid (ap (λ (x : plain.SingleFields). x .current) (reread-fields (st .metadata .fields)));
+        adds = added-ids;
+        sets = main-ids;
+        removes = E .logs .removal;
+      }
+
+  pub handed : Handed (st .metadata) (p .held .builder .fields) (p .held .refs) (p .held .schemas) (p .held .orders)
+  handed = record { single = read-fields E; named = read-refs E; columns = read-schemas E; sorts = read-orders E }
+
+  pub files-laid : LaidMetadataLog (g .metadata .«metadata_log»)
+  unfolding metadataLogFormed
+  files-laid = record { back = E .kept .back; fits = rw (← (E .kept .files)) (log-fits metadataLogRoom (λ (e : plain.FileEntry). fileNameFormed (e .file)) (st .metadata .metadataLog) (E .sound .metadataLog)) }
+
+  pub filed : {limit : ℕ} → limit ≡ limitOf (g .text) → Filed (termsOf g) (st .metadata) (g .metadata .«metadata_log») (g .terms) (g .metadata .fields .«last_updated_ms») limit
+  filed e = record { entries = sym (E .kept .files); name = refl; time = sym (E .kept .old); most = e }
+
+  abbrev pub firstThree : List Check
+  firstThree = (isDefaultUnfit (st .metadata), defaultOrderUnfit) ∷ (endsElsewhere (st .log) (st .metadata), logEndsElsewhere) ∷ (not (mainAgrees (st .metadata)), mainDisagrees) ∷ []
+
+  -- the first three decide, or the fourth does
+  more : (d q w z : Bool) (n : ℕ) → n ≡ firstOf ((d, 20) ∷ (q, 21) ∷ (w, 22) ∷ []) → (n ≡ 0 → ⊥) → firstOf ((d, 20) ∷ (q, 21) ∷ (w, 22) ∷ (z, 23) ∷ []) ≡ n
+  more true q w z n e y = sym e
+  more false true w z n e y = sym e
+  more false false true z n e y = sym e
+  more false false false z n e y = absurd (y e)
+
+  last : (d q w z : Bool) → firstOf ((d, 20) ∷ (q, 21) ∷ (w, 22) ∷ []) ≡ 0 → firstOf ((d, 20) ∷ (q, 21) ∷ (w, 22) ∷ (z, 23) ∷ []) ≡ cond z 23 0
+  last true q w z e = absurd (let y : _≡_ {A = ℕ} 20 0 = e in omega arith)
+  last false true w z e = absurd (let y : _≡_ {A = ℕ} 21 0 = e in omega arith)
+  last false false true z e = absurd (let y : _≡_ {A = ℕ} 22 0 = e in omega arith)
+  last false false false z e = refl
+
+  abbrev tooMany : Bool
+  tooMany = ltb metadataLogRoom (length (staying (termsOf g) (st .metadata)))
+
+  pub close-refused : (place : ℕ) {n : ℕ} → n ≡ firstOf firstThree → (n ≡ 0 → ⊥) → laidOutcome (g .metadata) (Refused n place) ≡ laidOutcome (g .metadata) (close (termsOf g) place (st .log) st)
+  unfolding close closeChecks
+  close-refused place {n} e z =
+      let w = more (isDefaultUnfit (st .metadata)) (endsElsewhere (st .log) (st .metadata)) (not (mainAgrees (st .metadata))) tooMany n e z in
+      rw (w, ne-eqb n 0 z)
+
+  pub files-refused : (place : ℕ) → firstOf firstThree ≡ 0 → tooMany ≡ true → laidOutcome (g .metadata) (Refused 23 place) ≡ laidOutcome (g .metadata) (close (termsOf g) place (st .log) st)
+  unfolding close closeChecks
+  files-refused place e l =
+      let w = last (isDefaultUnfit (st .metadata)) (endsElsewhere (st .log) (st .metadata)) (not (mainAgrees (st .metadata))) tooMany e in
+      rw (w, l)
+
+  first-three : firstOf firstThree ≡ 0 → tooMany ≡ false → (place : ℕ) → close (termsOf g) place (st .log) st ≡ Accepted (closed (termsOf g) (st .log) st) (st .log) (expired (termsOf g) (st .metadata))
+  unfolding close closeChecks
+  first-three e l place =
+      let w = last (isDefaultUnfit (st .metadata)) (endsElsewhere (st .log) (st .metadata)) (not (mainAgrees (st .metadata))) tooMany e in
+      rw (w, l)
+
+  -- the single fields with another last update
+  abbrev pub updated : Time → SingleFields → SingleFields
+  updated x f = record { «format_version» = f .«format_version»; «table_uuid» = f .«table_uuid»; location = f .location; «last_updated_ms» = x; «last_sequence_number» = f .«last_sequence_number»; «next_row_id» = f .«next_row_id»; «last_column_id» = f .«last_column_id»; «has_current» = f .«has_current»; «current_snapshot_id» = f .«current_snapshot_id»; «current_schema_id» = f .«current_schema_id»; «default_sort_order_id» = f .«default_sort_order_id» }
+
+  pub close-accepted : (place : ℕ) → firstOf firstThree ≡ 0 → {y : History} → HistoryOf (st .log) (st .metadata) y → {z : FileLogs} → FilesOf (termsOf g) (st .metadata) z → z .«too_many» ≡ false → {x : Time} → x .0 ≡ orElse (st .own) (g .terms .«clock_ms» .0)
+      → _≡_ {A = Answer} (record { number = 0; place = 0; metadata = record { fields = updated x (p .held .builder .fields); snapshots = p .held .snapshots; refs = p .held .refs; «snapshot_log» = y .log; «metadata_log» = z .stay; schemas = p .held .schemas; «sort_orders» = p .held .orders }; changes = record { items = p .changes .entries; count = p .changes .count }; expired = z .expired })
+      (laidOutcome (g .metadata) (close (termsOf g) place (st .log) st))
+  unfolding laidOutcome closed laidMetadata laidFields laidUpdates
+  close-accepted place e {y} Y {z} Z n {x} u =
+      let T = E .tables in
+      let F : updated x (p .held .builder .fields) ≡ updated (record { 0 = orElse (st .own) (g .terms .«clock_ms» .0) }) (laidFields (st .metadata .fields)) = λ i. updated (record { 0 = u i }) (fields-laid i) in
+      (λ i. record { number = 0; place = 0; metadata = record { fields = F i; snapshots = T .snapshots i; refs = T .refs i; «snapshot_log» = Y .log i; «metadata_log» = Z .stay n i; schemas = T .schemas i; «sort_orders» = T .orders i }; changes = record { items = E .logs .entries i; count = E .logs .count i }; expired = Z .expired i })
+      ∙ ap (laidOutcome (g .metadata)) (sym (first-three e (sym (Z .tooMany) ∙ n) place))
+
+  -- the parts that are lent
+  pub held-within : p .held .snapshots .count ≤ length (p .held .ids)
+  held-within = omega (arith, held-fits, ap length (E .tables .ids) ∙ pad-length (pos 0) 64 (idsOf (st .metadata .snapshots)) (omega (arith, length-map (st .metadata .snapshots) (λ (x : plain.Snapshot). x .id), snapshots-fit E)))
+
+  pub adds-within : p .changes .adds ≤ length (p .changes .added)
+  adds-within = omega (arith, adds-fit, ap length (E .logs .added) ∙ pad-length (pos 0) 64 (additions (st .log)) (omega (arith, adds-fit, E .logs .adds)))
+
+  pub mains-within : p .changes .mains ≤ length (p .changes .mained)
+  mains-within = omega (arith, mains-fit, ap length (E .logs .mained) ∙ pad-length (pos 0) 64 (logsMain (st .log)) (omega (arith, mains-fit, E .logs .mains)))
+
+  pub held-slice : p .held .snapshots .count ≡ length (take (p .held .snapshots .count) (p .held .ids))
+  held-slice = held-count ∙ sym (ap length held-ids ∙ length-map (st .metadata .snapshots) (λ (x : plain.Snapshot). x .id))
+
+  pub added-slice : p .changes .adds ≡ length (take (p .changes .adds) (p .changes .added))
+  added-slice = E .logs .adds ∙ sym (ap length added-ids)
+
+  pub main-slice : p .changes .mains ≡ length (take (p .changes .mains) (p .changes .mained))
+  main-slice = E .logs .mains ∙ sym (ap length main-ids)
+
+pub limit-least : (text : List ℕ) → 1 ≤ limitOf text
+unfolding limitOf
+limit-least text = by-test (λ (n : ℕ). 1 ≤ n) (isNumber (afterPlus text)) (λ e. omega arith) (λ e. omega arith)

@@ -1,0 +1,95 @@
+-- A removal of snapshots, decided: the tables that are left, and the log with its entry, if there is one.
+use Prim.Native.Nat.{ℕ, _+_, _≤_}
+use native.Mathlib.Omega.{arith}
+use mathlib.Core.Path.{_≡_, refl, sym, ap, _∙_}
+use mathlib.Core.Bool.{Bool, true, false, not, _||_}
+use mathlib.Core.List.{List, [], _∷_}
+use lib.IntN.{ℤ, pos}
+use lib.ListN.{length, drop}
+use borrow.Author.Tests.{not-true, not-false}
+use Rattle.records.specs.declared.snapshot.Snapshots.{Snapshots}
+use Rattle.records.specs.declared.reference.Refs.{Refs}
+use Rattle.rules.specs.Words.{isIn, isEmpty, keep}
+use Rattle.rules.specs.Register as plain
+use Rattle.rules.specs.Register.{Update, State}
+use Rattle.rules.specs.Register.Update.{RemoveSnapshots}
+use Rattle.rules.specs.WellFormed.{updateFormed, pointsIn}
+use Rattle.rules.specs.SnapshotUpdates.{removeSnapshots, heldSnapshots, otherSnapshots}
+use Rattle.rules.specs.Updates.{checks, effect}
+use Rattle.rules.specs.Run.{weight}
+use Rattle.rules.specs.Layout.{pad, readSnapshots, laidSnapshots, readRefs, laidRefs}
+use Rattle.rules.specs.Kinds.{readUpdates}
+use Rattle.rules.proofs.Checks.{by-test}
+use Rattle.rules.proofs.Reread.{reread-snapshots}
+use Rattle.rules.proofs.Tables.{keep-length}
+use Rattle.tables.specs.Laid.{LaidSnapshots}
+use Rattle.builder.specs.declared.decision.Decision.{Decision}
+use Rattle.builder.specs.Pieces.{laidBuilder, idsOf}
+use Rattle.snapshot_updates.specs.Snapshots.{SnapshotsGone}
+use Rattle.laws.specs.Standing.{Given, termsOf, Held, Pieces, withBuilder, withRemoval, Tables, Standing}
+use Rattle.laws.specs.Turns.{Decided}
+use Rattle.laws.proofs.Logged.{push-removal}
+use Rattle.laws.proofs.Moving.{fits, next, accepted}
+use Rattle.laws.proofs.Beginning.{read-snapshots, read-refs, laid-snapshots}
+use Rattle.laws.proofs.Deciding.{whole, entry-room}
+
+-- snapshots that are laid out from no more than there is room for
+pub laid-of : (l : List plain.Snapshot) → length l ≤ 64 → {t : Snapshots} → t ≡ laidSnapshots l → LaidSnapshots t
+laid-of l h {t} e =
+    let q : readSnapshots t ≡ l = rw e (reread-snapshots l) in
+    record { back = rw q (sym e); fits = rw q h }
+
+or-nothing : (b : Bool) → (b || false) ≡ b
+or-nothing true = refl
+or-nothing false = refl
+
+-- the pieces with other snapshots and refs, and a removal that may be logged
+abbrev pub removed : Snapshots → List ℤ → Refs → Bool → Pieces → Pieces
+removed t is r b p =
+    record {
+      held = record { builder = p .held .builder; snapshots = t; ids = is; refs = r; log = p .held .log; last = p .held .last; schemas = p .held .schemas; orders = p .held .orders };
+      changes = withRemoval b (p .changes);
+    }
+
+module _ {g : Given} {i : ℕ} {p : Pieces} (S : Standing g i p) (v : Update) (at : drop i (readUpdates (g .updates)) ≡ v ∷ drop (i + 1) (readUpdates (g .updates))) (one : 1 ≤ weight v) (e : updateFormed v ≡ true) (xs : List ℤ) (w : v ≡ RemoveSnapshots xs) where
+  pub left-laid : {t : Snapshots} → t ≡ laidSnapshots (otherSnapshots xs (readSnapshots (p .held .snapshots))) → LaidSnapshots t
+  left-laid = laid-of (otherSnapshots xs (readSnapshots (p .held .snapshots))) (omega (arith, keep-length (λ s. not (isIn xs (s .id))) (readSnapshots (p .held .snapshots)), laid-snapshots (S .stands) .fits))
+
+  left : List plain.Snapshot
+  left = otherSnapshots xs (S .state .metadata .snapshots)
+
+  -- the tables after it, whether it is logged or not
+  tables : {t : Snapshots} {is : List ℤ} {r : Refs} → t ≡ laidSnapshots (otherSnapshots xs (readSnapshots (p .held .snapshots))) → is ≡ pad 64 (pos 0) (idsOf (readSnapshots t)) → r ≡ laidRefs (keep (pointsIn (readSnapshots t)) (readRefs (p .held .refs)))
+      → (b : Bool) → Tables (effect (termsOf g) v (S .state)) (removed t is r b p .held)
+  unfolding effect removeSnapshots laidBuilder left
+  tables {t} {is} {r} x y z b =
+      let E = S .stands in
+      let T = E .tables in
+      let kt : t ≡ laidSnapshots left = x ∙ rw (read-snapshots E) in
+      let rt : readSnapshots t ≡ left = rw kt (reread-snapshots left) in
+      let kr : r ≡ laidRefs (keep (pointsIn left) (S .state .metadata .refs)) = z ∙ rw (rt, read-refs E) in
+      rw w
+      (by-test (λ (s : State). Tables s (removed t is r b p .held)) (isEmpty (heldSnapshots xs (S .state .metadata .snapshots)))
+      (λ k. record { builder = T .builder; snapshots = kt; ids = y ∙ rw rt; refs = kr; log = T .log; last = T .last; schemas = T .schemas; orders = T .orders })
+      (λ k. record { builder = T .builder; snapshots = kt; ids = y ∙ rw rt; refs = kr; log = T .log; last = T .last; schemas = T .schemas; orders = T .orders }))
+
+  pub removed-decided : {d : Decision} → SnapshotsGone xs (S .state) d → {t : Snapshots} {is : List ℤ} {r : Refs} → t ≡ laidSnapshots (otherSnapshots xs (readSnapshots (p .held .snapshots))) → is ≡ pad 64 (pos 0) (idsOf (readSnapshots t)) → r ≡ laidRefs (keep (pointsIn (readSnapshots t)) (readRefs (p .held .refs)))
+      → Decided g i false (removed t is r (d .logs) p) d
+  unfolding checks effect removeSnapshots laidBuilder
+  removed-decided {d} D x y z =
+      let T = tables x y z (d .logs) in
+      let a = accepted S v at e {n = 0} (rw w) refl in
+      record {
+        refuses = λ q. absurd (q (D .number));
+        room = λ _. entry-room S v at one;
+        logs = λ _ q.
+            let k : isEmpty (heldSnapshots xs (S .state .metadata .snapshots)) ≡ false = not-true (isEmpty (heldSnapshots xs (S .state .metadata .snapshots))) (sym (D .logs) ∙ q) in
+            whole (next S v at a
+            (record { builder = D .builder ∙ rw (w, k); snapshots = T .snapshots; ids = T .ids; refs = T .refs; log = T .log; last = T .last; schemas = T .schemas; orders = T .orders })
+            (rw (w, k, q) (push-removal (S .stands .logs) (omega (arith, fits S v at)) (heldSnapshots xs (S .state .metadata .snapshots)) (D .entry))));
+        stays = λ _ q.
+            let k : isEmpty (heldSnapshots xs (S .state .metadata .snapshots)) ≡ true = not-false (isEmpty (heldSnapshots xs (S .state .metadata .snapshots))) (sym (D .logs) ∙ q) in
+            let L = S .stands .logs in
+            whole (next S v at a T
+            (rw (w, k, q) (record { entries = L .entries; count = L .count; added = L .added; adds = L .adds; mained = L .mained; mains = L .mains; removal = or-nothing (p .changes .removal) ∙ L .removal })));
+      }

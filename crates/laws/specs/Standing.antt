@@ -1,0 +1,144 @@
+-- The pieces that a run holds, and how they stand to a state of the rules.
+use Prim.Native.Nat.{ℕ, _+_, _≤_}
+use mathlib.Core.Path.{_≡_}
+use mathlib.Core.Bool.{Bool, true, _||_}
+use mathlib.Core.List.{List, map}
+use lib.Dec.{ltb}
+use lib.IntN.{ℤ, pos}
+use lib.ListN.{length, drop, set}
+use Rattle.records.specs.Blanks.{noUpdate}
+use Rattle.records.specs.declared.counters.Time.{Time}
+use Rattle.records.specs.declared.metadata.TableMetadata.{TableMetadata}
+use Rattle.records.specs.declared.snapshot.Snapshots.{Snapshots}
+use Rattle.records.specs.declared.snapshot.SnapshotLog.{SnapshotLog}
+use Rattle.records.specs.declared.reference.Refs.{Refs}
+use Rattle.records.specs.declared.schema.Schemas.{Schemas}
+use Rattle.records.specs.declared.«sort_order».SortOrders.{SortOrders}
+use Rattle.records.specs.declared.update.TableUpdate.{TableUpdate}
+use Rattle.records.specs.declared.update.UpdateList.{UpdateList}
+use Rattle.records.specs.declared.run.RunTerms.{RunTerms}
+use Rattle.records.specs.declared.run.Answer.{Answer}
+use Rattle.rules.specs.Words.{total}
+use Rattle.rules.specs.Register.{Update, Terms, State}
+use Rattle.rules.specs.ChangeLog.{logsMain, logsRemoval}
+use Rattle.rules.specs.Run.{weight, runFrom, started}
+use Rattle.rules.specs.Layout.{given, pad, laidSnapshots, laidRefs, laidSnapshotLog, laidSchemas, laidSortOrders, readMetadata, readMetadataLog, laidMetadataLog}
+use Rattle.rules.specs.Kinds.{readUpdates, laidUpdate}
+use Rattle.rules.specs.Answer.{readTerms, answer}
+use Rattle.rules.proofs.Sound.{Sound}
+use Rattle.builder.specs.declared.builder.TableMetadataBuilder.{TableMetadataBuilder}
+use Rattle.builder.specs.declared.decision.Decision.{Decision}
+use Rattle.builder.specs.Pieces.{laidBuilder, idsOf, lastTime}
+use Rattle.start.proofs.Started.{Starts}
+use Rattle.close.specs.Facts.{additions}
+
+-- ---- what a run is given, and what it holds
+
+pub record Given : Type 0 where
+  pub metadata : TableMetadata
+  pub updates : UpdateList
+  pub terms : RunTerms
+  -- the limit text
+  pub text : List ℕ
+
+abbrev pub termsOf : Given → Terms
+termsOf g = readTerms (g .terms) (g .text)
+
+abbrev pub answerOf : Given → Answer
+answerOf g = answer (g .metadata) (g .updates) (g .terms) (g .text)
+
+-- the builder and the tables; the ids of the snapshots and the time of the last log entry stand beside them, as they are read often
+pub record Held : Type 0 where
+  pub builder : TableMetadataBuilder
+  pub snapshots : Snapshots
+  pub ids : List ℤ
+  pub refs : Refs
+  pub log : SnapshotLog
+  pub last : Time
+  pub schemas : Schemas
+  pub orders : SortOrders
+
+-- the change log as slots and a count, and the three facts that are read of it: the ids that it adds, the snapshots to which it sets `main`,
+-- and whether it removes snapshots
+pub record Changes : Type 0 where
+  pub entries : List TableUpdate
+  pub count : ℕ
+  pub added : List ℤ
+  pub adds : ℕ
+  pub mained : List ℤ
+  pub mains : ℕ
+  pub removal : Bool
+
+pub record Pieces : Type 0 where
+  pub held : Held
+  pub changes : Changes
+
+-- one entry more
+abbrev pub entered : TableUpdate → Changes → Changes
+entered e c = record { entries = set (c .entries) (c .count) e; count = c .count + 1; added = c .added; adds = c .adds; mained = c .mained; mains = c .mains; removal = c .removal }
+
+-- what a log with such an entry is told besides: an id that it adds; a snapshot to which it sets `main`; that it removes snapshots
+abbrev pub withAddition : ℤ → Changes → Changes
+withAddition id c = record { entries = c .entries; count = c .count; added = set (c .added) (c .adds) id; adds = c .adds + 1; mained = c .mained; mains = c .mains; removal = c .removal }
+
+abbrev pub withMain : ℤ → Changes → Changes
+withMain id c = record { entries = c .entries; count = c .count; added = c .added; adds = c .adds; mained = set (c .mained) (c .mains) id; mains = c .mains + 1; removal = c .removal }
+
+abbrev pub withRemoval : Bool → Changes → Changes
+withRemoval b c = record { entries = c .entries; count = c .count; added = c .added; adds = c .adds; mained = c .mained; mains = c .mains; removal = c .removal || b }
+
+-- the tables with another builder
+abbrev pub withBuilder : TableMetadataBuilder → Held → Held
+withBuilder b h = record { builder = b; snapshots = h .snapshots; ids = h .ids; refs = h .refs; log = h .log; last = h .last; schemas = h .schemas; orders = h .orders }
+
+-- the builder and the entry of a decision are stored
+abbrev pub stored : Decision → Pieces → Pieces
+stored d p = record { held = withBuilder (d .builder) (p .held); changes = entered (d .entry) (p .changes) }
+
+-- ---- the pieces of a state
+
+-- the builder and the tables are those of the state, laid out
+pub record Tables (st : State) (h : Held) : Type 0 where
+  pub builder : h .builder ≡ laidBuilder st
+  pub snapshots : h .snapshots ≡ laidSnapshots (st .metadata .snapshots)
+  pub ids : h .ids ≡ pad 64 (pos 0) (idsOf (st .metadata .snapshots))
+  pub refs : h .refs ≡ laidRefs (st .metadata .refs)
+  pub log : h .log ≡ laidSnapshotLog (st .metadata .snapshotLog)
+  pub last : given (ltb 0 (h .log .count)) (h .last .0) ≡ lastTime (st .metadata .snapshotLog)
+  pub schemas : h .schemas ≡ laidSchemas (st .metadata .schemas)
+  pub orders : h .orders ≡ laidSortOrders (st .metadata .orders)
+
+-- the entries are those of the log, laid out, and the three facts are read of it
+pub record Logs (l : List Update) (c : Changes) : Type 0 where
+  pub entries : c .entries ≡ pad 64 noUpdate (map laidUpdate l)
+  pub count : c .count ≡ length l
+  pub added : c .added ≡ pad 64 (pos 0) (additions l)
+  pub adds : c .adds ≡ length (additions l)
+  pub mained : c .mained ≡ pad 64 (pos 0) (logsMain l)
+  pub mains : c .mains ≡ length (logsMain l)
+  pub removal : c .removal ≡ logsRemoval l
+
+-- what no update changes, and what the start was found to be
+pub record Kept (g : Given) (st : State) : Type 0 where
+  pub files : st .metadata .metadataLog ≡ readMetadataLog (g .metadata .«metadata_log»)
+  pub old : st .metadata .fields .lastUpdated ≡ g .metadata .fields .«last_updated_ms» .0
+  pub back : laidMetadataLog (readMetadataLog (g .metadata .«metadata_log»)) ≡ g .metadata .«metadata_log»
+  pub short : g .terms .«has_file» ≡ true → g .terms .file .len ≤ 96
+
+-- the pieces stand for the state
+pub record Represents (g : Given) (st : State) (p : Pieces) : Type 0 where
+  pub sound : Sound (st .metadata)
+  pub kept : Kept g st
+  pub tables : Tables st (p .held)
+  pub logs : Logs (st .log) (p .changes)
+  pub room : length (st .log) ≤ 64
+
+-- ---- between two updates
+
+-- the pieces stand for a state, from which the updates from a place on lead where all of them lead from the start
+pub record Standing (g : Given) (i : ℕ) (p : Pieces) : Type 0 where
+  pub starts : Starts (g .metadata) (g .updates) (g .terms)
+  pub state : State
+  pub reached : runFrom (termsOf g) (readUpdates (g .updates)) 0 (started (readMetadata (g .metadata))) ≡ runFrom (termsOf g) (drop i (readUpdates (g .updates))) i state
+  pub left : length (state .log) + total weight (drop i (readUpdates (g .updates))) ≤ 64
+  pub stands : Represents g state p

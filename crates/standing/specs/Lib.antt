@@ -1,2 +1,0 @@
--- What the contracts of the run cite beside the rules.
-pub mod Standing

@@ -1,0 +1,128 @@
+-- Updates as they are read: by their kind, by their place in the list, and what they count.
+use Prim.Native.Nat.{ℕ, zero, suc, _+_, _≤_, _<_}
+use native.Mathlib.Omega.{arith}
+use native.Mathlib.Numerals.{add-one}
+use mathlib.Core.Path.{_≡_, refl, sym, ap, _∙_}
+use mathlib.Core.Bool.{Bool, true, false, cond, _&&_, _||_, true≢false, false≢true}
+use mathlib.Core.List.{List, [], _∷_, map}
+use lib.Dec.{eqb, leb, ltb}
+use lib.ListN.{length, getD, take, drop, length-map, length-take, drop-of-length-le}
+use lib.Seq.{drop-cons, getD-take}
+use borrow.Author.Tests.{le-leb, ne-eqb, eqb-true, eqb-false, ltb-true, ltb-false, leb-true}
+use borrow.Table.Steps.{cases}
+use Rattle.records.specs.Blanks.{noUpdate}
+use Rattle.records.specs.declared.update.TableUpdate.{TableUpdate}
+use Rattle.records.specs.declared.update.UpdateList.{UpdateList}
+use Rattle.rules.specs.Words.{all, any, total}
+use Rattle.rules.specs.Register.{Update}
+use Rattle.rules.specs.Register.Update.{AssignUuid, UpgradeFormatVersion, SetLocation, AddSnapshot, SetBranchSnapshot, RemoveSnapshots, SetRef, RemoveRef, AddSchema, SetCurrentSchema, RemoveSchemas, AddSortOrder, SetDefaultSortOrder, NotFormed}
+use Rattle.rules.specs.WellFormed.{updateFormed}
+use Rattle.rules.specs.Run.{weight}
+use Rattle.rules.specs.Layout.{counted, readRefName, readSnapshot, readReference, readSnapshotIds, readLocation, readSchema, readSchemaIds, readSortOrder}
+use Rattle.rules.specs.Kinds.{isTidyUpdate, kindWeight, atKind, readKind, readUpdate, readUpdates, assignUuidKind, upgradeFormatVersionKind, setLocationKind, addSnapshotKind, setBranchSnapshotKind, removeSnapshotsKind, setRefKind, removeRefKind, addSchemaKind, setCurrentSchemaKind, removeSchemasKind, addSortOrderKind, setDefaultSortOrderKind}
+use Rattle.rules.proofs.Checks.{and-left, and-right, by-either, neither, by-test}
+use Rattle.rules.proofs.Relaid.{counted-take, length-counted}
+
+-- ---- by its kind
+
+pub formed-tidy : (u : TableUpdate) → updateFormed (readUpdate u) ≡ true → isTidyUpdate u ≡ true
+unfolding readUpdate updateFormed
+formed-tidy u f = go (isTidyUpdate u) f
+  where
+    go : (b : Bool) → updateFormed (cond b (readKind u) (NotFormed (kindWeight (u .kind)))) ≡ true → b ≡ true
+    go true f = refl
+    go false f = absurd (false≢true f)
+
+pub read-tidy : (u : TableUpdate) → isTidyUpdate u ≡ true → readUpdate u ≡ readKind u
+unfolding readUpdate
+read-tidy u t = rw t
+
+-- the kinds of updates
+abbrev pub kinds : List ℕ
+kinds = assignUuidKind ∷ upgradeFormatVersionKind ∷ setLocationKind ∷ addSnapshotKind ∷ setBranchSnapshotKind ∷ removeSnapshotsKind ∷ setRefKind ∷ removeRefKind ∷ addSchemaKind ∷ setCurrentSchemaKind ∷ removeSchemasKind ∷ addSortOrderKind ∷ setDefaultSortOrderKind ∷ []
+
+-- of another kind nothing is read
+unknown : (k : ℕ) (l : List (ℕ × Update)) → any (eqb k) (map (λ (x : ℕ × Update). x .0) l) ≡ false → atKind k l ≡ NotFormed 1
+unknown k [] e = refl
+unknown k (x ∷ l) e = let n = neither (eqb k (x .0)) (any (eqb k) (map (λ (y : ℕ × Update). y .0) l)) e in rw (n .0) (unknown k l (n .1))
+
+module _ (u : TableUpdate) (f : updateFormed (readUpdate u) ≡ true) where
+  pub read-4 : u .kind ≡ 4 → readUpdate u ≡ AddSnapshot (readSnapshot (u .snapshot))
+  read-4 e = read-tidy u (formed-tidy u f) ∙ rw e
+
+  pub read-5 : u .kind ≡ 5 → readUpdate u ≡ SetBranchSnapshot (readRefName (u .«ref_name»)) (readSnapshot (u .snapshot))
+  read-5 e = read-tidy u (formed-tidy u f) ∙ rw e
+
+  pub read-6 : u .kind ≡ 6 → readUpdate u ≡ RemoveSnapshots (readSnapshotIds (u .«snapshot_ids»))
+  read-6 e = read-tidy u (formed-tidy u f) ∙ rw e
+
+  pub read-7 : u .kind ≡ 7 → readUpdate u ≡ SetRef (readRefName (u .«ref_name»)) (readReference (u .reference))
+  read-7 e = read-tidy u (formed-tidy u f) ∙ rw e
+
+  pub read-8 : u .kind ≡ 8 → readUpdate u ≡ RemoveRef (readRefName (u .«ref_name»))
+  read-8 e = read-tidy u (formed-tidy u f) ∙ rw e
+
+  pub read-11 : u .kind ≡ 11 → readUpdate u ≡ RemoveSchemas (readSchemaIds (u .«schema_ids»))
+  read-11 e = read-tidy u (formed-tidy u f) ∙ rw e
+
+  -- its form by its kind alone
+  pub formed-kind : updateFormed (readKind u) ≡ true
+  formed-kind = rw (read-tidy u (formed-tidy u f)) at f
+
+  -- it is of one of the kinds
+  pub known : any (eqb (u .kind)) kinds ≡ true
+  unfolding updateFormed
+  known =
+      cases (any (eqb (u .kind)) kinds) (λ e. e)
+      (λ e. absurd (false≢true (sym (ap updateFormed (unknown (u .kind) ((1, AssignUuid (u .uuid)) ∷ (2, UpgradeFormatVersion (u .«format_version»)) ∷ (3, SetLocation (readLocation (u .location))) ∷ (4, AddSnapshot (readSnapshot (u .snapshot))) ∷ (5, SetBranchSnapshot (readRefName (u .«ref_name»)) (readSnapshot (u .snapshot))) ∷ (6, RemoveSnapshots (readSnapshotIds (u .«snapshot_ids»))) ∷ (7, SetRef (readRefName (u .«ref_name»)) (readReference (u .reference))) ∷ (8, RemoveRef (readRefName (u .«ref_name»))) ∷ (9, AddSchema (readSchema (u .schema))) ∷ (10, SetCurrentSchema (u .«schema_id» .0)) ∷ (11, RemoveSchemas (readSchemaIds (u .«schema_ids»))) ∷ (12, AddSortOrder (readSortOrder (u .«sort_order»))) ∷ (13, SetDefaultSortOrder (u .«sort_order_id» .0)) ∷ []) e)) ∙ formed-kind)))
+
+-- ---- what it counts
+
+module _ (k : ℕ) (n : eqb k 5 ≡ false) where
+  counts-one : (l : List (ℕ × Update)) → all (λ x. eqb (x .0) 5 || eqb (weight (x .1)) 1) l ≡ true → weight (atKind k l) ≡ 1
+  counts-one [] h = refl
+  counts-one (x ∷ l) h =
+      by-test (λ (y : Update). weight y ≡ 1) (eqb k (x .0))
+      (λ e. by-either (eqb (x .0) 5) (eqb (weight (x .1)) 1) (λ q. absurd (false≢true (sym n ∙ rw (eqb-true k (x .0) e) q))) (eqb-true (weight (x .1)) 1) (and-left (eqb (x .0) 5 || eqb (weight (x .1)) 1) _ h))
+      (λ e. counts-one l (and-right (eqb (x .0) 5 || eqb (weight (x .1)) 1) _ h))
+
+one-of : (k : ℕ) → eqb k 5 ≡ false → kindWeight k ≡ 1
+one-of k e = rw e
+
+pub weight-read : (u : TableUpdate) → weight (readUpdate u) ≡ kindWeight (u .kind)
+unfolding readUpdate
+weight-read u =
+    by-test (λ (x : Update). weight x ≡ kindWeight (u .kind)) (isTidyUpdate u)
+    (λ t. cases (eqb (u .kind) 5)
+    (λ e. rw (eqb-true (u .kind) 5 e))
+    (λ e. counts-one (u .kind) e ((1, AssignUuid (u .uuid)) ∷ (2, UpgradeFormatVersion (u .«format_version»)) ∷ (3, SetLocation (readLocation (u .location))) ∷ (4, AddSnapshot (readSnapshot (u .snapshot))) ∷ (5, SetBranchSnapshot (readRefName (u .«ref_name»)) (readSnapshot (u .snapshot))) ∷ (6, RemoveSnapshots (readSnapshotIds (u .«snapshot_ids»))) ∷ (7, SetRef (readRefName (u .«ref_name»)) (readReference (u .reference))) ∷ (8, RemoveRef (readRefName (u .«ref_name»))) ∷ (9, AddSchema (readSchema (u .schema))) ∷ (10, SetCurrentSchema (u .«schema_id» .0)) ∷ (11, RemoveSchemas (readSchemaIds (u .«schema_ids»))) ∷ (12, AddSortOrder (readSortOrder (u .«sort_order»))) ∷ (13, SetDefaultSortOrder (u .«sort_order_id» .0)) ∷ []) refl ∙ sym (one-of (u .kind) e)))
+    (λ t. refl)
+
+pub counts : (k : ℕ) → (1 ≤ kindWeight k) × (kindWeight k ≤ 2)
+counts k = by-test (λ (n : ℕ). (1 ≤ n) × (n ≤ 2)) (eqb k 5) (λ e. (omega arith, omega arith)) (λ e. (omega arith, omega arith))
+
+pub weighs : (l : List TableUpdate) → length l ≤ total weight (map readUpdate l)
+weighs [] = omega arith
+weighs (u ∷ l) = omega (arith, weighs l, weight-read u, counts (u .kind) .0)
+
+-- ---- by its place
+
+getD-map : (l : List TableUpdate) (i : ℕ) (d : TableUpdate) → getD (map readUpdate l) i (readUpdate d) ≡ readUpdate (getD l i d)
+getD-map [] i d = refl
+getD-map (x ∷ l) zero d = refl
+getD-map (x ∷ l) (suc i) d = getD-map l i d
+
+pub read-length : (us : UpdateList) → length (readUpdates us) ≡ us .count
+unfolding readUpdates
+read-length us = length-map (counted noUpdate (us .items) (us .count)) readUpdate ∙ length-counted noUpdate (us .items) (us .count)
+
+pub here : (us : UpdateList) (i : ℕ) (d : TableUpdate) → i < us .count → us .count ≤ length (us .items) → drop i (readUpdates us) ≡ readUpdate (getD (us .items) i d) ∷ drop (i + 1) (readUpdates us)
+unfolding readUpdates
+here us i d h r =
+    let n : ℕ = us .count in
+    let c : counted noUpdate (us .items) n ≡ take n (us .items) = counted-take noUpdate (us .items) n r in
+    let l : i < length (map readUpdate (take n (us .items))) = simp (length-map, length-take) (omega arith) in
+    rw (c, drop-cons (map readUpdate (take n (us .items))) i (readUpdate d) l, getD-map (take n (us .items)) i d, getD-take n (us .items) i d h, add-one i)
+
+pub all-read : (us : UpdateList) (i : ℕ) → us .count ≤ i → drop i (readUpdates us) ≡ []
+all-read us i h = drop-of-length-le (readUpdates us) {i = i} (omega (arith, read-length us))

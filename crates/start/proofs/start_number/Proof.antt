@@ -1,0 +1,53 @@
+-- `start_number` meets its contract: each of the three tests is one of the rule's.
+use mathlib.Core.Path.{_≡_, sym, _∙_}
+use mathlib.Core.Bool.{true, false, _&&_, _||_}
+use Prim.Native.Nat.{ℕ, _≤_, _<_}
+use native.Mathlib.Omega.{arith}
+use borrow.Author.Needs.{needs}
+use borrow.Author.Tests.{not-true, not-false, ltb-true, ltb-false, leb-true, leb-false}
+use borrow.Table.Steps.{cases}
+use lib.Dec.{leb, ltb}
+use Rattle.records.specs.declared.update.UpdateList.{UpdateList}
+use Rattle.rules.specs.WellFormed.{metadataFormed}
+use Rattle.rules.specs.Blanks.{isTidyMetadata}
+use Rattle.rules.specs.Run.{listSum}
+use Rattle.rules.specs.Layout.{readMetadata}
+use Rattle.rules.specs.Kinds.{readUpdates}
+use Rattle.rules.proofs.Checks.{and-left, and-right, by-either, neither}
+use Rattle.start.proofs.Started.{not-formed, file-long, too-many, starts-0, sum-counts}
+use Rattle.start.proofs.start_number.Statement.{statement}
+use Rattle.start.proofs.start_number.Tie as tie
+
+-- the metadata is well formed, and the file's name not too long
+formed : (c : tie.Else1) → isTidyMetadata (c .before .before .before .args .m) && metadataFormed (readMetadata (c .before .before .before .args .m)) ≡ true
+formed c = sym (c .before .is-formed .ensures) ∙ not-false (c .before .is-formed .result) (c .if1 .left)
+
+short : (c : tie.Else2) → c .before .before .before .before .args .terms .«has_file» ≡ true → c .before .before .before .before .args .terms .file .len ≤ 96
+short c e = ltb-false 96 (c .before .before .before .before .args .terms .file .len) (rw e at (c .if2 .left))
+
+-- the count and the sum, of a list with them
+module _ (us : UpdateList) {count sum : ℕ} (n : us .count ≡ count) (s : count ≤ 64 → sum ≡ listSum (readUpdates us)) where
+  above : (ltb 64 count || ltb 64 sum) ≡ true → 64 < listSum (readUpdates us)
+  above e =
+      cases (leb count 64)
+      (λ l. by-either (ltb 64 count) (ltb 64 sum)
+      (λ q. absurd (omega (arith, ltb-true 64 count q, leb-true count 64 l)))
+      (λ q. omega (arith, ltb-true 64 sum q, s (leb-true count 64 l))) e)
+      (λ l. omega (arith, leb-false count 64 l, sum-counts us))
+
+  most : (ltb 64 count || ltb 64 sum) ≡ false → listSum (readUpdates us) ≤ 64
+  most e = let k = neither (ltb 64 count) (ltb 64 sum) e in omega (arith, ltb-false 64 sum (k .1), s (ltb-false 64 count (k .0)))
+
+pub start-number-spec : {M : Type 1} → statement M
+start-number-spec =
+    tie.close
+    (tie.spec
+    (λ c κs. search needs)
+    (λ c us n s. let a = c .before .before .before .args in
+    not-formed (a .m) us (a .terms) (sym (c .before .is-formed .ensures) ∙ not-true (c .before .is-formed .result) (c .if1 .taken)))
+    (λ c us n s. let a = c .before .before .before .before .args in
+    file-long (a .m) us (a .terms) (and-left (a .terms .«has_file») (ltb 96 (a .terms .file .len)) (c .if2 .taken)) (ltb-true 96 (a .terms .file .len) (and-right (a .terms .«has_file») (ltb 96 (a .terms .file .len)) (c .if2 .taken))))
+    (λ c us n s. let a = c .before .before .before .before .before .args in
+    too-many (a .m) us (a .terms) (formed (c .before .before)) (short (c .before)) (above us n s (c .if3 .taken)))
+    (λ c us n s. let a = c .before .before .before .before .before .args in
+    starts-0 (a .m) us (a .terms) (formed (c .before .before)) (short (c .before)) (most us n s (c .if3 .left))))

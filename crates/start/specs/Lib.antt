@@ -1,0 +1,2 @@
+-- What a run starts with.
+pub mod Start

@@ -1,0 +1,67 @@
+// What a run starts with: the checks before the first update, and the refusal.
+// A refusal gives document 01's number and the place, the metadata that was given, no changes and no expired entries.
+// Document 01 decides, as the crate `rules` writes it in Run and Answer.
+ghost use mathlib.Core.Path.{_≡_};
+ghost use Prim.Native.Nat.{_≤_};
+ghost use Rattle.records.specs.declared.update.UpdateList as lists;
+ghost use Rattle.rules.specs.Capacities.{listRoom};
+ghost use Rattle.rules.specs.Register.Outcome.{Refused};
+ghost use Rattle.rules.specs.Run.{listSum};
+ghost use Rattle.rules.specs.Kinds.{kindWeight, readUpdates};
+ghost use Rattle.rules.specs.Answer.{laidOutcome};
+ghost use Rattle.start.specs.Start.{startNumber};
+use records::capacities::FILE_NAME;
+use records::capacities::UPDATES;
+use records::metadata::MetadataLog;
+use records::metadata::TableMetadata;
+use records::run::Answer;
+use records::run::RunTerms;
+use records::update::SET_BRANCH_SNAPSHOT;
+use records::update::UpdateList;
+
+const START_NOT_FORMED: u8 = 1;
+
+const LIST_TOO_LONG: u8 = 2;
+
+pub fn refused(m: TableMetadata, number: u8, place: usize) -> Answer
+    ensures { λ r. ⌜ r ≡ laidOutcome m (Refused number place) ⌝ }
+{
+    let changes = UpdateList::blank();
+    let expired = MetadataLog::blank();
+    Answer {
+        number,
+        place,
+        metadata: m,
+        changes,
+        expired,
+    }
+}
+
+// What an update of a kind counts in a list.
+pub fn weight(kind: u8) -> usize
+    ensures { λ r. ⌜ r ≡ kindWeight kind ⌝ }
+{
+    if kind == SET_BRANCH_SNAPSHOT {
+        return 2;
+    }
+    1
+}
+
+// 1, then 2. The sum is that of the list, where its count is at most 64.
+pub fn start_number(m: TableMetadata, terms: RunTerms, count: usize, sum: usize) -> u8
+    ensures { λ r. ⌜ ((us : lists.UpdateList) → us .count ≡ count → (count ≤ listRoom → sum ≡ listSum (readUpdates us)) → r ≡ startNumber m us terms) ⌝ }
+{
+    let has_file = terms.has_file;
+    let file = terms.file;
+    let length = file.len;
+    if !formed::metadata::is_formed(m) {
+        return START_NOT_FORMED;
+    }
+    if has_file & (length > FILE_NAME) {
+        return START_NOT_FORMED;
+    }
+    if (count > UPDATES) | (sum > UPDATES) {
+        return LIST_TOO_LONG;
+    }
+    0
+}
