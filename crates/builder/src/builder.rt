@@ -22,9 +22,9 @@ use records::counters::SchemaId;
 use records::counters::SortOrderId;
 use records::counters::Time;
 use records::metadata::SingleFields;
+use records::replies::ACCEPTED;
+use records::replies::VERSION_LOWERED;
 use records::text::Location;
-
-const VERSION_LOWERED: u8 = 4;
 
 pub struct TableMetadataBuilder {
     pub fields: SingleFields,
@@ -135,7 +135,7 @@ impl TableMetadataBuilder {
         let mut b = self;
         b.fields = g;
         Changed {
-            number: 0,
+            number: ACCEPTED,
             logs: !same,
             builder: b,
         }
@@ -149,7 +149,7 @@ impl TableMetadataBuilder {
         let next = f.next_row_id;
         let lowered = version < old;
         let same = version == old;
-        let number = choose(lowered, VERSION_LOWERED, 0);
+        let number = choose(lowered, VERSION_LOWERED, ACCEPTED);
         let row = next_row_at(version, next);
         let mut g = f;
         g.format_version = version;

@@ -3,16 +3,6 @@ ghost use mathlib.Core.Path.{_≡_};
 ghost use mathlib.Core.Bool.{cond, _&&_};
 ghost use lib.Dec.{leb};
 
-pub const ACCEPTED: u8 = 0;
-
-pub const NOTHING_ADDED: u8 = 14;
-
-pub const UNKNOWN_ID: u8 = 15;
-
-pub const IDS_EXHAUSTED: u8 = 18;
-
-pub const TABLE_FULL: u8 = 19;
-
 pub fn choose(test: bool, number: u8, rest: u8) -> u8
     ensures { λ r. ⌜ r ≡ cond test number rest ⌝ }
 {

@@ -10,6 +10,7 @@ ghost use Rattle.rules.specs.Kinds.{isTidyUpdate, readKind, assignUuidKind, upg
 ghost use Rattle.builder.specs.Pieces.{laidBuilder};
 ghost use Rattle.builder.specs.Answers.{Decides};
 use crate::builder::TableMetadataBuilder;
+use records::replies::ACCEPTED;
 use records::update::TableUpdate;
 
 // The number is that of the first check that fails, and the rest counts only where it is 0. Then `logs` says that the update took effect: the
@@ -74,5 +75,5 @@ pub fn set_location(b: TableMetadataBuilder, u: TableUpdate) -> Decision
     let trimmed = x.location;
     let mut e = u;
     e.location = trimmed;
-    decided(0, x.logs, c, e)
+    decided(ACCEPTED, x.logs, c, e)
 }

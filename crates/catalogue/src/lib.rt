@@ -8,10 +8,10 @@ ghost use lib.ListN.{length};
 ghost use Rattle.rules.specs.Layout.{given, readSnapshot, readSnapshots};
 ghost use Rattle.rules.specs.Walk.{recordAncestors, walkBuffer};
 ghost use Rattle.walk.specs.Answers.{walked};
-use links::NOT_FORMED;
 use links::gather;
 use links::link_ancestors;
 use records::capacities::SNAPSHOTS;
+use records::replies::LISTS_NOT_FORMED;
 use records::snapshot::Snapshot;
 use records::snapshot::Snapshots;
 use walk::Walked;
@@ -63,7 +63,7 @@ pub fn table_ancestors(
     let n = snapshots.count;
     if n > SNAPSHOTS {
         return Walked {
-            number: NOT_FORMED,
+            number: LISTS_NOT_FORMED,
             count: 0,
         };
     }

@@ -7,12 +7,11 @@ ghost use Rattle.rules.specs.Walk.{walkBuffer};
 ghost use Rattle.walk.specs.Answers.{walked};
 ghost use Rattle.catalogue.specs.Links.{noLinks, parentNumber, link, gathered, linkAncestors};
 use records::capacities::SNAPSHOTS;
+use records::replies::LISTS_NOT_FORMED;
 use records::snapshot::Snapshot;
 use walk::Walked;
 
 const NO_PARENT: i64 = -1;
-
-pub const NOT_FORMED: u8 = 1;
 
 // A count above 64 says that there were more records than that.
 pub struct Links {
@@ -87,7 +86,7 @@ pub fn link_ancestors(
     let n = links.count;
     if n > SNAPSHOTS {
         return Walked {
-            number: NOT_FORMED,
+            number: LISTS_NOT_FORMED,
             count: 0,
         };
     }

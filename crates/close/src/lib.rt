@@ -16,18 +16,16 @@ use history::History;
 use records::counters::Time;
 use records::metadata::SingleFields;
 use records::reference::Refs;
+use records::replies::ACCEPTED;
+use records::replies::DEFAULT_ORDER_UNFIT;
+use records::replies::LOG_ENDS_ELSEWHERE;
+use records::replies::MAIN_DISAGREES;
 use records::schema::Schemas;
 use records::sort_order::SortOrders;
 use tables::ids::same_snapshot;
 
 pub mod files;
 pub mod history;
-
-const DEFAULT_ORDER_UNFIT: u8 = 20;
-
-const LOG_ENDS_ELSEWHERE: u8 = 21;
-
-const MAIN_DISAGREES: u8 = 22;
 
 // The default order names a field that is not in the current schema.
 fn is_default_unfit(f: SingleFields, schemas: Schemas, orders: SortOrders) -> bool
@@ -94,7 +92,7 @@ pub fn close_number(
     if !formed::metadata::main_agrees(f, refs) {
         return MAIN_DISAGREES;
     }
-    0
+    ACCEPTED
 }
 
 pub fn last_update(b: TableMetadataBuilder, clock: Time) -> Time

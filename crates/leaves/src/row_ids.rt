@@ -2,12 +2,9 @@
 ghost use mathlib.Core.Path.{_≡_};
 ghost use Rattle.leaves.specs.Answers.{rowsChecked};
 use records::counters::RowId;
-
-const ACCEPTED: u8 = 0;
-
-const FIRST_ROW_BEHIND: u8 = 9;
-
-const ROWS_OVERFLOW: u8 = 11;
+use records::replies::ACCEPTED;
+use records::replies::FIRST_ROW_BEHIND;
+use records::replies::ROWS_OVERFLOW;
 
 // The number is 0, 9 or 11; on a refusal the next row id is the one that came in.
 pub struct RowsChecked {

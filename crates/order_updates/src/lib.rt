@@ -18,15 +18,17 @@ ghost use Rattle.builder.specs.Answers.{Answers, Decides};
 ghost use Rattle.builder.specs.Added.{Numbered};
 ghost use Rattle.order_updates.specs.Orders.{addedOrder, OrderGrown, OrderDecided, NewOrder};
 use builder::builder::TableMetadataBuilder;
-use builder::checks::IDS_EXHAUSTED;
-use builder::checks::NOTHING_ADDED;
-use builder::checks::TABLE_FULL;
-use builder::checks::UNKNOWN_ID;
 use builder::checks::choose;
 use builder::decision::Decision;
 use builder::decision::decided;
 use records::capacities::SORT_ORDERS;
 use records::counters::SortOrderId;
+use records::replies::ACCEPTED;
+use records::replies::FIELD_NOT_IN_SCHEMA;
+use records::replies::IDS_EXHAUSTED;
+use records::replies::NOTHING_ADDED;
+use records::replies::TABLE_FULL;
+use records::replies::UNKNOWN_ID;
 use records::schema::Schema;
 use records::schema::Schemas;
 use records::sort_order::SortOrder;
@@ -38,8 +40,6 @@ use tables::sort_orders::highest;
 use tables::sort_orders::is_unfit;
 
 const LAST_ADDED: i64 = TableMetadataBuilder::LAST_ADDED as i64;
-
-const FIELD_NOT_IN_SCHEMA: u8 = 17;
 
 // ---- add order
 
@@ -156,7 +156,7 @@ fn order_addition(
     if found {
         let last = is_last_added(b, id);
         return OrderAdded {
-            number: 0,
+            number: ACCEPTED,
             logs: !last,
             grows: false,
             order: y,
@@ -165,13 +165,13 @@ fn order_addition(
     }
     let s = current_schema(b, schemas);
     let unfit = is_unfit(o, s);
-    let later = choose(n >= SORT_ORDERS, TABLE_FULL, 0);
+    let later = choose(n >= SORT_ORDERS, TABLE_FULL, ACCEPTED);
     let rest = choose(unfit, FIELD_NOT_IN_SCHEMA, later);
     let number = choose(exhausted, IDS_EXHAUSTED, rest);
     OrderAdded {
         number,
         logs: true,
-        grows: number == 0,
+        grows: number == ACCEPTED,
         order: y,
         builder: c,
     }
@@ -219,7 +219,7 @@ fn order_choice(b: TableMetadataBuilder, t: SortOrders, id: SortOrderId) -> Orde
     let x = chosen_order(b, id);
     let same = same_order(x, current);
     let held = tables::sort_orders::holds(t, x);
-    let later = choose(!same & !held, UNKNOWN_ID, 0);
+    let later = choose(!same & !held, UNKNOWN_ID, ACCEPTED);
     let number = choose(asked & !h, NOTHING_ADDED, later);
     let logged = logged_order(b, x);
     f.default_sort_order_id = x;

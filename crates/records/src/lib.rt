@@ -5,6 +5,7 @@ pub mod capacities;
 pub mod counters;
 pub mod metadata;
 pub mod reference;
+pub mod replies;
 pub mod run;
 pub mod schema;
 pub mod snapshot;

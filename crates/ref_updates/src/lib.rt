@@ -23,8 +23,6 @@ ghost use Rattle.builder.specs.Answers.{Decides};
 ghost use Rattle.ref_updates.specs.Refs.{wantedRef, askedRef, RefAsked, RefDecided, NewRef};
 use builder::builder::TableMetadataBuilder;
 use builder::builder::own_or;
-use builder::checks::ACCEPTED;
-use builder::checks::TABLE_FULL;
 use builder::checks::both;
 use builder::checks::choose;
 use builder::checks::is_full;
@@ -39,6 +37,9 @@ use records::counters::Time;
 use records::reference::NamedRef;
 use records::reference::Refs;
 use records::reference::SnapshotReference;
+use records::replies::ACCEPTED;
+use records::replies::SNAPSHOT_NOT_HELD;
+use records::replies::TABLE_FULL;
 use records::snapshot::Snapshot;
 use records::snapshot::SnapshotLogEntry;
 use records::text::RefName;
@@ -47,8 +48,6 @@ use records::update::SET_REF;
 use records::update::TableUpdate;
 use tables::ids::same_snapshot;
 use tables::names::is_main_name;
-
-const SNAPSHOT_NOT_HELD: u8 = 12;
 
 // The kinds of a ref.
 const BRANCH: u8 = 1;

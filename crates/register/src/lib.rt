@@ -23,6 +23,9 @@ use order_updates::add_sort_order;
 use order_updates::orders_after;
 use order_updates::set_default_sort_order;
 use records::metadata::TableMetadata;
+use records::replies::ACCEPTED;
+use records::replies::TOO_MANY_FILES;
+use records::replies::UPDATE_NOT_FORMED;
 use records::run::Answer;
 use records::run::RunTerms;
 use records::update::ADD_SCHEMA;
@@ -56,10 +59,6 @@ use start::start_number;
 use start::weight;
 use tables::names::is_main_name;
 
-const UPDATE_NOT_FORMED: u8 = 3;
-
-const TOO_MANY_FILES: u8 = 23;
-
 // The place after a decision is stored: the same one, if a branch commit has its second half to come.
 fn after(place: usize, half: bool) -> usize
     requires { ⌜ place < 64 ⌝ }
@@ -87,7 +86,7 @@ pub fn run(metadata: TableMetadata, updates: UpdateList, terms: RunTerms, text: 
     let mut mains: usize = 0;
     let mut removal = false;
     let mut sum: usize = 0;
-    let mut number: u8 = 0;
+    let mut number = ACCEPTED;
     // The change log, the update at hand, and the decision on it.
     let mut entries = [none; 64];
     let mut update = none;
@@ -112,11 +111,11 @@ pub fn run(metadata: TableMetadata, updates: UpdateList, terms: RunTerms, text: 
     }
     number = start_number(metadata, terms, listed, sum);
     place = 0;
-    while (number == 0) & (waits | (place < listed)) {
+    while (number == ACCEPTED) & (waits | (place < listed)) {
         if waits {
             waits = false;
             number = decision.number;
-            if number != 0 {
+            if number != ACCEPTED {
                 continue;
             }
             place = after(place, half);
@@ -241,7 +240,7 @@ pub fn run(metadata: TableMetadata, updates: UpdateList, terms: RunTerms, text: 
         }
         decision = set_default_sort_order(builder, orders, update);
     }
-    if number != 0 {
+    if number != ACCEPTED {
         return refused(metadata, number, place);
     }
     let fields = builder.fields;
@@ -255,7 +254,7 @@ pub fn run(metadata: TableMetadata, updates: UpdateList, terms: RunTerms, text: 
         removal,
     );
     number = close_number(history, fields, refs, schemas, orders);
-    if number != 0 {
+    if number != ACCEPTED {
         return refused(metadata, number, place);
     }
     let most = limit(text);
@@ -283,7 +282,7 @@ pub fn run(metadata: TableMetadata, updates: UpdateList, terms: RunTerms, text: 
         count,
     };
     Answer {
-        number: 0,
+        number: ACCEPTED,
         place: 0,
         metadata: ended,
         changes,

@@ -17,24 +17,24 @@ ghost use Rattle.builder.specs.Answers.{Answers, Decides};
 ghost use Rattle.builder.specs.Added.{Numbered};
 ghost use Rattle.schema_updates.specs.Schemas.{addedSchema, SchemaGrown, SchemaDecided, NewSchema};
 use builder::builder::TableMetadataBuilder;
-use builder::checks::IDS_EXHAUSTED;
-use builder::checks::NOTHING_ADDED;
-use builder::checks::TABLE_FULL;
-use builder::checks::UNKNOWN_ID;
 use builder::checks::choose;
 use builder::decision::Decision;
 use builder::decision::decided;
 use records::capacities::SCHEMAS;
 use records::counters::FieldId;
 use records::counters::SchemaId;
+use records::replies::ACCEPTED;
+use records::replies::CURRENT_SCHEMA_REMOVED;
+use records::replies::IDS_EXHAUSTED;
+use records::replies::NOTHING_ADDED;
+use records::replies::TABLE_FULL;
+use records::replies::UNKNOWN_ID;
 use records::schema::Schema;
 use records::schema::Schemas;
 use records::update::TableUpdate;
 use tables::ids::same_schema;
 use tables::schemas::find_equal;
 use tables::schemas::highest;
-
-const CURRENT_SCHEMA_REMOVED: u8 = 16;
 
 // ---- add schema
 
@@ -154,14 +154,14 @@ fn schema_addition(b: TableMetadataBuilder, t: Schemas, s: Schema) -> SchemaAdde
     if found {
         let last = is_last_added(b, id);
         return SchemaAdded {
-            number: 0,
+            number: ACCEPTED,
             logs: !last,
             grows: false,
             schema: s,
             builder: c,
         };
     }
-    let later = choose(n >= SCHEMAS, TABLE_FULL, 0);
+    let later = choose(n >= SCHEMAS, TABLE_FULL, ACCEPTED);
     let number = choose(exhausted, IDS_EXHAUSTED, later);
     let mut f = b.fields;
     let old = f.last_column_id;
@@ -174,7 +174,7 @@ fn schema_addition(b: TableMetadataBuilder, t: Schemas, s: Schema) -> SchemaAdde
     SchemaAdded {
         number,
         logs: true,
-        grows: number == 0,
+        grows: number == ACCEPTED,
         schema: y,
         builder: c,
     }
@@ -222,7 +222,7 @@ fn schema_choice(b: TableMetadataBuilder, t: Schemas, id: SchemaId) -> SchemaSet
     let x = chosen_schema(b, id);
     let same = same_schema(x, current);
     let held = tables::schemas::holds(t, x);
-    let later = choose(!same & !held, UNKNOWN_ID, 0);
+    let later = choose(!same & !held, UNKNOWN_ID, ACCEPTED);
     let number = choose(asked & !h, NOTHING_ADDED, later);
     let logged = logged_schema(b, x);
     f.current_schema_id = x;
@@ -302,7 +302,7 @@ pub fn remove_schemas(b: TableMetadataBuilder, t: Schemas, u: TableUpdate) -> De
     let f = b.fields;
     let current = f.current_schema_id;
     let removed = tables::ids::has_schema(ids, current);
-    let number = choose(removed, CURRENT_SCHEMA_REMOVED, 0);
+    let number = choose(removed, CURRENT_SCHEMA_REMOVED, ACCEPTED);
     let held = tables::schemas::held(t, ids);
     let mut e = u;
     e.schema_ids = held;

@@ -17,8 +17,6 @@ ghost use Rattle.builder.specs.Pieces.{laidBuilder, idsOf, lastTime};
 ghost use Rattle.snapshot_updates.specs.Snapshots.{rowChecks, SnapshotDecided, SnapshotsGone};
 use builder::builder::TableMetadataBuilder;
 use builder::builder::own_or;
-use builder::checks::ACCEPTED;
-use builder::checks::TABLE_FULL;
 use builder::checks::choose;
 use builder::decision::Decision;
 use builder::decision::decided;
@@ -31,23 +29,19 @@ use records::counters::RowId;
 use records::counters::SequenceNumber;
 use records::counters::Time;
 use records::metadata::SingleFields;
+use records::replies::ACCEPTED;
+use records::replies::BEFORE_LAST_ENTRY;
+use records::replies::BEFORE_LAST_UPDATE;
+use records::replies::COMMIT_ON_TAG;
+use records::replies::NO_ROW_RANGE;
+use records::replies::SEQUENCE_TOO_LOW;
+use records::replies::SNAPSHOT_HELD;
+use records::replies::TABLE_FULL;
 use records::snapshot::Snapshot;
 use records::snapshot::Snapshots;
 use records::text::RefName;
 use records::update::ADD_SNAPSHOT;
 use records::update::TableUpdate;
-
-const SNAPSHOT_HELD: u8 = 5;
-
-const SEQUENCE_TOO_LOW: u8 = 6;
-
-const BEFORE_LAST_ENTRY: u8 = 7;
-
-const BEFORE_LAST_UPDATE: u8 = 8;
-
-const NO_ROW_RANGE: u8 = 10;
-
-const COMMIT_ON_TAG: u8 = 13;
 
 // In milliseconds.
 const MINUTE: i64 = 60000;

@@ -14,14 +14,13 @@ use records::capacities::FILE_NAME;
 use records::capacities::UPDATES;
 use records::metadata::MetadataLog;
 use records::metadata::TableMetadata;
+use records::replies::ACCEPTED;
+use records::replies::LIST_TOO_LONG;
+use records::replies::START_NOT_FORMED;
 use records::run::Answer;
 use records::run::RunTerms;
 use records::update::SET_BRANCH_SNAPSHOT;
 use records::update::UpdateList;
-
-const START_NOT_FORMED: u8 = 1;
-
-const LIST_TOO_LONG: u8 = 2;
 
 pub fn refused(m: TableMetadata, number: u8, place: usize) -> Answer
     ensures { λ r. ⌜ r ≡ laidOutcome m (Refused number place) ⌝ }
@@ -63,5 +62,5 @@ pub fn start_number(m: TableMetadata, terms: RunTerms, count: usize, sum: usize)
     if (count > UPDATES) | (sum > UPDATES) {
         return LIST_TOO_LONG;
     }
-    0
+    ACCEPTED
 }

@@ -8,19 +8,15 @@ ghost use Rattle.rules.specs.Walk.{Listed, ancestors, walkBuffer};
 ghost use Rattle.walk.specs.Answers.{refusal, walked};
 use lists::lists_formed;
 use records::capacities::SNAPSHOTS;
+use records::replies::ACCEPTED;
+use records::replies::BUFFER_TOO_SHORT;
+use records::replies::LISTS_NOT_FORMED;
+use records::replies::MET_TWICE;
 use step::Onward;
 use step::step;
 
 mod lists;
 mod step;
-
-const ACCEPTED: u8 = 0;
-
-const LISTS_NOT_FORMED: u8 = 1;
-
-const MET_TWICE: u8 = 24;
-
-const BUFFER_TOO_SHORT: u8 = 25;
 
 // The number is 0, 1, 24 or 25; the count is that of the ids written.
 pub struct Walked {
