@@ -1,4 +1,4 @@
-// What the change log says of snapshots: the three facts that later updates and the close read from it.
+// What is read often, kept as plain numbers: the ids of the snapshots, where an id stands among some, and the time of the last log entry.
 ghost use mathlib.Core.Path.{_≡_};
 ghost use lib.Dec.{ltb};
 ghost use lib.IntN.{pos};

@@ -127,7 +127,7 @@ fn kept_from(
     r
 }
 
-// From where on a log that is rebuilt is kept.
+// The place of the first entry that may stay when the log is rebuilt: with a removal the one after the last missing snapshot's, else 0.
 fn first_kept(log: SnapshotLog, ids: &[i64], removal: bool) -> usize
     requires { ⌜ LaidSnapshotLog log ⌝ }
     ensures within { λ r. ⌜ r ≤ log .count ⌝ }

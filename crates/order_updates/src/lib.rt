@@ -41,7 +41,7 @@ use tables::sort_orders::is_unfit;
 
 const LAST_ADDED: i64 = TableMetadataBuilder::LAST_ADDED as i64;
 
-// ---- add order
+// ---- add sort order
 
 fn is_last_added(b: TableMetadataBuilder, id: SortOrderId) -> bool
     ensures { λ r. ⌜ r ≡ someWith (eqZ (id .0)) (addedOrder b) ⌝ }
@@ -68,7 +68,7 @@ fn next_id(id: SortOrderId) -> SortOrderId
     SortOrderId(x + 1)
 }
 
-// The id is found where a held order has the same fields; a new one may be past the largest.
+// The id that an added order gets: that of a held one with the same fields, if one is found, else the next, unless ids are exhausted.
 pub struct OrderNumbered {
     pub found: bool,
     pub exhausted: bool,
@@ -177,7 +177,7 @@ fn order_addition(
     }
 }
 
-// ---- set default order
+// ---- set default sort order
 
 fn chosen_order(b: TableMetadataBuilder, id: SortOrderId) -> SortOrderId
     ensures { λ r. ⌜ r .0 ≡ chosen (id .0) (addedOrder b) ⌝ }

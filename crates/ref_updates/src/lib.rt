@@ -161,7 +161,7 @@ fn is_tag(t: Refs, name: RefName) -> bool
     k == TAG
 }
 
-// The ref that an update asks for: its own, or that of a branch commit, the old retention or a branch with none.
+// The ref that an update asks for. A branch commit asks for a branch to its snapshot, with the retention of the old ref, if there is one.
 fn wanted(u: TableUpdate, held: bool, old: NamedRef) -> SnapshotReference
     ensures { λ r. ⌜ r ≡ wantedRef u held old ⌝ }
 {
@@ -182,7 +182,7 @@ fn wanted(u: TableUpdate, held: bool, old: NamedRef) -> SnapshotReference
     r
 }
 
-// The number of a set-ref whose ref is not held as it is.
+// 12, then 19 of the refs, then 19 of the snapshot log; an equal ref that is held already is not asked these.
 fn set_ref_number(held: bool, is_named: bool, named: usize, main: bool, entries: usize) -> u8
     ensures { λ r. ⌜ r ≡ firstOf ((not held, snapshotNotHeld) ∷ (not «is_named» && leb refRoom named, tableFull) ∷ (main && leb snapshotLogRoom entries, tableFull) ∷ []) ⌝ }
 {
@@ -193,7 +193,7 @@ fn set_ref_number(held: bool, is_named: bool, named: usize, main: bool, entries:
     choose(!held, SNAPSHOT_NOT_HELD, m19)
 }
 
-// What is logged of a setting: the update, or the second half of a branch commit.
+// The entry of a ref that is set, by itself or by a branch commit.
 fn setting(u: TableUpdate, r: SnapshotReference) -> TableUpdate
     ensures { λ e. ⌜ ((eqb (u .kind) setBranchSnapshotKind || eqb (u .kind) setRefKind) ≡ true → isTidyUpdate u ≡ true → length (readRefName (u .«ref_name»)) ≤ refNameRoom → laidReference (readReference r) ≡ r → e ≡ laidUpdate (SetRef (readRefName (u .«ref_name»)) (readReference r))) ⌝ }
 {

@@ -96,7 +96,7 @@ fn next_id(id: SchemaId) -> SchemaId
     SchemaId(x + 1)
 }
 
-// The id is found where a held schema has the same fields; a new one may be past the largest.
+// The id that an added schema gets: that of a held one with the same fields, if one is found, else the next, unless ids are exhausted.
 pub struct SchemaNumbered {
     pub found: bool,
     pub exhausted: bool,

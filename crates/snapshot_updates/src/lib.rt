@@ -190,7 +190,7 @@ fn add_snapshot_builder(b: TableMetadataBuilder, s: Snapshot) -> TableMetadataBu
 
 // ---- the updates of a list
 
-// What is logged of an addition: the update, or the first half of a branch commit.
+// The entry of a snapshot that is added, by itself or by a branch commit.
 fn addition(u: TableUpdate) -> TableUpdate
     ensures { λ r. ⌜ ((eqb (u .kind) addSnapshotKind || eqb (u .kind) setBranchSnapshotKind) ≡ true → isTidyUpdate u ≡ true → r ≡ laidUpdate (AddSnapshot (readSnapshot (u .snapshot)))) ⌝ }
 {

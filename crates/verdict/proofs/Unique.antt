@@ -1,13 +1,18 @@
--- The contracts leave no freedom: any two results that one of them allows for the same arguments are equal.
+-- The contracts leave no freedom and ask nothing: any two results that one of them allows for the same arguments are equal, and any arguments are allowed.
 use mathlib.Core.Path.{sym, _∙_}
-use Rattle.leaves.proofs.Unique.{Unique}
-use Rattle.verdict.proofs.judge.Kinds as judge
-use Rattle.verdict.proofs.judge.Reads as judge-says
-use Rattle.verdict.proofs.leads.Kinds as leads
-use Rattle.verdict.proofs.leads.Reads as leads-says
+use base.Logic.{emp, id⊢}
+use Rattle.rules.specs.Promises.{Unique, AsksNothing}
+use Rattle.verdict.proofs.judge as judge
+use Rattle.verdict.proofs.leads as leads
 
-pub judge-unique : Unique judge.ps judge.r judge-says.Post
+pub judge-unique : Unique judge.Kinds.ps judge.Kinds.r judge.Reads.Post
 judge-unique κs a x y s t p q = p ∙ sym q
 
-pub leads-unique : Unique leads.ps leads.r leads-says.Post
+pub judge-asks-nothing : AsksNothing judge.signature (λ M. judge.spec)
+judge-asks-nothing M 𝓤 H A mem run κs a = (tt, id⊢ 𝓤 (emp 𝓤))
+
+pub leads-unique : Unique leads.Kinds.ps leads.Kinds.r leads.Reads.Post
 leads-unique κs a x y s t p q = p ∙ sym q
+
+pub leads-asks-nothing : AsksNothing leads.signature (λ M. leads.spec)
+leads-asks-nothing M 𝓤 H A mem run κs a = (tt, id⊢ 𝓤 (emp 𝓤))
