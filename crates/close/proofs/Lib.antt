@@ -1,7 +1,7 @@
 -- What the proofs of several functions cite.
 mod Tests
 mod Ids
-mod Scans
+pub mod Scans
 mod Parts
 mod Logs
 mod Join

@@ -12,7 +12,7 @@ use Rattle.rules.specs.Words.{all, ascending}
 use Rattle.rules.specs.Layout.{counted}
 use Rattle.rules.proofs.Orders.{Ordered}
 use Rattle.rules.proofs.Tables.{byKey, all-then, ascending-head}
-use Rattle.blanks.proofs.Scans.{Scanned, scan-start, scan-on}
+use Rattle.formed.proofs.Scans.{Scanned, scan-start, scan-on}
 use Rattle.formed.proofs.Counted.{all-read, read-taken}
 
 ascending-read : {A B : Type 0} (rd : A → B) (below : B → B → Bool) (l : List A) → ascending below (map rd l) ≡ ascending (λ (x y : A). below (rd x) (rd y)) l

@@ -12,7 +12,7 @@ use Rattle.rules.specs.Words.{all, isEmpty}
 use Rattle.rules.specs.Layout.{counted}
 use Rattle.rules.proofs.Checks.{and-left, and-right}
 use Rattle.rules.proofs.Relaid.{length-counted, counted-take}
-use Rattle.blanks.proofs.Scans.{Scanned, scan-start, each, each-on, each-end}
+use Rattle.formed.proofs.Scans.{Scanned, scan-start, each, each-on, each-end}
 
 -- ---- read
 

@@ -11,7 +11,7 @@ use lib.ListN.{length, getD, take, drop}
 use Rattle.rules.specs.Words.{all}
 use Rattle.rules.specs.Layout.{counted}
 use Rattle.rules.specs.Blanks.{restBlank, tidySlots}
-use Rattle.blanks.proofs.Scans.{Scanned, scan-start, scan-on, scan-end}
+use Rattle.formed.proofs.Scans.{Scanned, scan-start, scan-on, scan-end}
 use Rattle.formed.proofs.Bools.{interchange, last-first}
 use Rattle.formed.proofs.Counted.{too-many, few-enough, all-counted}
 

@@ -19,11 +19,11 @@ use Rattle.rules.specs.Register.{Update, State}
 use Rattle.rules.specs.Register.Update.{AddSnapshot, SetBranchSnapshot}
 use Rattle.rules.specs.WellFormed.{updateFormed, snapshotFormed, refNameFormed, snapshotBelow, holdsSnapshot}
 use Rattle.rules.specs.SnapshotUpdates.{addSnapshotChecks, addSnapshot}
-use Rattle.rules.specs.RefUpdates.{isTag, committed, setRefChecks, setRef, setBranchSnapshotChecks, setBranchSnapshot}
+use Rattle.rules.specs.RefUpdates.{isTag, committed, setRefChecks, setBranchSnapshotChecks, setBranchSnapshot}
 use Rattle.rules.specs.Updates.{checks, effect}
 use Rattle.rules.specs.Run.{weight}
 use Rattle.rules.specs.Layout.{pad, readSnapshot, laidSnapshot, readSnapshots, laidSnapshots, readRefs}
-use Rattle.rules.specs.Kinds.{readUpdate, readUpdates}
+use Rattle.rules.specs.Kinds.{readUpdate, readUpdates, addSnapshotKind, setBranchSnapshotKind}
 use Rattle.rules.proofs.Checks.{and-right, by-either, first-before, first-after}
 use Rattle.rules.proofs.Reread.{reread-snapshots}
 use Rattle.rules.proofs.Tables.{put-length}
@@ -35,10 +35,9 @@ use Rattle.builder.specs.declared.decision.Decision.{Decision}
 use Rattle.builder.specs.Pieces.{laidBuilder, idsOf, isAbove}
 use Rattle.snapshot_updates.specs.Snapshots.{SnapshotDecided}
 use Rattle.snapshot_updates.proofs.Last.{put-last}
-use Rattle.ref_updates.specs.Refs.{askedRef}
-use Rattle.start.proofs.Reading.{read-4, read-5}
-use Rattle.laws.specs.Standing.{Given, termsOf, Held, Pieces, withBuilder, withAddition, stored, Tables, Represents, Standing}
-use Rattle.laws.specs.Turns.{updateAt, nameAt, RefusedWith, Midway, Stands, Decided}
+use Rattle.start.proofs.Reading.{read-add-snapshot, read-set-branch-snapshot}
+use Rattle.laws.specs.Standing.{Given, Pieces, withBuilder, withAddition, stored, Tables, Represents, Standing}
+use Rattle.laws.specs.Turns.{updateAt, nameAt, Midway, Decided}
 use Rattle.laws.proofs.Effects.{Moves, add-moves}
 use Rattle.laws.proofs.Logged.{one-more, push-addition}
 use Rattle.laws.proofs.Moving.{listed, fits, next, check-refused, accepted}
@@ -125,7 +124,7 @@ module _ {g : Given} {i : ℕ} {p : Pieces} (S : Standing g i p) (v : Update) (a
           stays = λ y f. absurd (true≢false (sym (D .logs) ∙ f));
         }
 
-  module _ (w : v ≡ SetBranchSnapshot (nameAt g i) x) (u : x ≡ readSnapshot (updateAt g i .snapshot)) (five : updateAt g i .kind ≡ 5) (f : updateFormed (readUpdate (updateAt g i)) ≡ true) {d : Decision} {t : Bool} (tag : t ≡ isTag (nameAt g i) (S .state .metadata .refs)) (D : SnapshotDecided t x (S .state) d) where
+  module _ (w : v ≡ SetBranchSnapshot (nameAt g i) x) (u : x ≡ readSnapshot (updateAt g i .snapshot)) (five : updateAt g i .kind ≡ setBranchSnapshotKind) (f : updateFormed (readUpdate (updateAt g i)) ≡ true) {d : Decision} {t : Bool} (tag : t ≡ isTag (nameAt g i) (S .state .metadata .refs)) (D : SnapshotDecided t x (S .state) d) where
     pub commit-refused : (half : Bool) → (d .number ≡ 0 → ⊥) → Decided g i half p d
     unfolding checks setBranchSnapshotChecks
     commit-refused half z =
@@ -188,26 +187,26 @@ module _ {g : Given} {i : ℕ} {p : Pieces} (S : Standing g i p) (at : drop i (r
   abbrev u : TableUpdate
   u = updateAt g i
 
-  by-itself : u .kind ≡ 4 → SnapshotDecided false (readSnapshot (u .snapshot)) (S .state) d
+  by-itself : u .kind ≡ addSnapshotKind → SnapshotDecided false (readSnapshot (u .snapshot)) (S .state) d
   by-itself q = subst (λ (x : Bool). SnapshotDecided x (readSnapshot (u .snapshot)) (S .state) d) (tag ∙ rw q) D
 
-  tagged : u .kind ≡ 5 → t ≡ isTag (nameAt g i) (S .state .metadata .refs)
+  tagged : u .kind ≡ setBranchSnapshotKind → t ≡ isTag (nameAt g i) (S .state .metadata .refs)
   tagged q = tag ∙ rw (q, read-refs (S .stands))
 
   pub add-refused : (half : Bool) → (d .number ≡ 0 → ⊥) → Decided g i half p d
   add-refused half z =
-      by-either (eqb (u .kind) 4) (eqb (u .kind) 5)
-      (λ a. let q = eqb-true (u .kind) 4 a in addition-refused S (readUpdate u) at one e (readSnapshot (u .snapshot)) (read-4 u e q) (by-itself q) half z)
-      (λ a. let q = eqb-true (u .kind) 5 a in commit-refused S (readUpdate u) at one e (readSnapshot (u .snapshot)) (read-5 u e q) refl q e (tagged q) D half z)
+      by-either (eqb (u .kind) addSnapshotKind) (eqb (u .kind) setBranchSnapshotKind)
+      (λ a. let q = eqb-true (u .kind) addSnapshotKind a in addition-refused S (readUpdate u) at one e (readSnapshot (u .snapshot)) (read-add-snapshot u e q) (by-itself q) half z)
+      (λ a. let q = eqb-true (u .kind) setBranchSnapshotKind a in commit-refused S (readUpdate u) at one e (readSnapshot (u .snapshot)) (read-set-branch-snapshot u e q) refl q e (tagged q) D half z)
       k
 
   -- its checks pass where it is decided with 0
   pub adds-fine : d .number ≡ 0 → firstOf (addSnapshotChecks (readSnapshot (u .snapshot)) (S .state)) ≡ 0
   adds-fine z = untagged t (firstOf (addSnapshotChecks (readSnapshot (u .snapshot)) (S .state))) (sym (D .number) ∙ z) .1
 
-  pub add-decided : d .number ≡ 0 → {s : Snapshots} {is : List ℤ} {id : ℤ} → s ≡ laidSnapshots (put snapshotBelow (readSnapshot (u .snapshot)) (S .state .metadata .snapshots)) → is ≡ pad 64 (pos 0) (idsOf (put snapshotBelow (readSnapshot (u .snapshot)) (S .state .metadata .snapshots))) → id ≡ u .snapshot .«snapshot_id» .0 → Decided g i (eqb (u .kind) 5) (grown s is id p) d
+  pub add-decided : d .number ≡ 0 → {s : Snapshots} {is : List ℤ} {id : ℤ} → s ≡ laidSnapshots (put snapshotBelow (readSnapshot (u .snapshot)) (S .state .metadata .snapshots)) → is ≡ pad 64 (pos 0) (idsOf (put snapshotBelow (readSnapshot (u .snapshot)) (S .state .metadata .snapshots))) → id ≡ u .snapshot .«snapshot_id» .0 → Decided g i (eqb (u .kind) setBranchSnapshotKind) (grown s is id p) d
   add-decided z a b c =
-      by-either (eqb (u .kind) 4) (eqb (u .kind) 5)
-      (λ y. let q = eqb-true (u .kind) 4 y in rw q (addition-decided S (readUpdate u) at one e (readSnapshot (u .snapshot)) (read-4 u e q) (by-itself q) z a b c))
-      (λ y. let q = eqb-true (u .kind) 5 y in rw q (commit-decided S (readUpdate u) at one e (readSnapshot (u .snapshot)) (read-5 u e q) refl q e (tagged q) D z a b c))
+      by-either (eqb (u .kind) addSnapshotKind) (eqb (u .kind) setBranchSnapshotKind)
+      (λ y. let q = eqb-true (u .kind) addSnapshotKind y in rw q (addition-decided S (readUpdate u) at one e (readSnapshot (u .snapshot)) (read-add-snapshot u e q) (by-itself q) z a b c))
+      (λ y. let q = eqb-true (u .kind) setBranchSnapshotKind y in rw q (commit-decided S (readUpdate u) at one e (readSnapshot (u .snapshot)) (read-set-branch-snapshot u e q) refl q e (tagged q) D z a b c))
       k

@@ -4,15 +4,13 @@ use native.Mathlib.Omega.{arith}
 use mathlib.Core.Path.{_≡_, refl, sym, ap, _∙_}
 use mathlib.Core.Bool.{Bool, true, false, cond, not, true≢false, false≢true}
 use mathlib.Core.List.{List, [], _∷_}
-use mathlib.Core.Option.{none}
 use lib.Dec.{eqb}
 use lib.IntN.{ℤ}
-use lib.ListN.{length, drop}
+use lib.ListN.{drop}
 use borrow.Table.Steps.{cases}
 use Rattle.records.specs.declared.reference.Refs.{Refs}
 use Rattle.records.specs.declared.schema.Schemas.{Schemas}
 use Rattle.records.specs.declared.«sort_order».SortOrders.{SortOrders}
-use Rattle.records.specs.declared.update.TableUpdate.{TableUpdate}
 use Rattle.rules.specs.Words.{isIn, isEmpty, isSome, keep, first, put}
 use Rattle.rules.specs.Names.{isMain}
 use Rattle.rules.specs.Register as plain
@@ -29,7 +27,7 @@ use Rattle.rules.proofs.Checks.{by-test}
 use Rattle.builder.specs.declared.decision.Decision.{Decision}
 use Rattle.builder.specs.Pieces.{laidBuilder}
 use Rattle.builder.specs.Answers.{AnswersUpdate}
-use Rattle.laws.specs.Standing.{Given, termsOf, Held, Pieces, Represents, Standing}
+use Rattle.laws.specs.Standing.{Given, termsOf, Pieces, Represents, Standing}
 use Rattle.laws.specs.Turns.{Stands, Decided}
 use Rattle.laws.proofs.Effects.{group, Aside, aside}
 use Rattle.laws.proofs.Logged.{push-quiet}

@@ -1,7 +1,7 @@
 -- A removal of snapshots, decided: the tables that are left, and the log with its entry, if there is one.
 use Prim.Native.Nat.{ℕ, _+_, _≤_}
 use native.Mathlib.Omega.{arith}
-use mathlib.Core.Path.{_≡_, refl, sym, ap, _∙_}
+use mathlib.Core.Path.{_≡_, refl, sym, _∙_}
 use mathlib.Core.Bool.{Bool, true, false, not, _||_}
 use mathlib.Core.List.{List, [], _∷_}
 use lib.IntN.{ℤ, pos}
@@ -26,7 +26,7 @@ use Rattle.tables.specs.Laid.{LaidSnapshots}
 use Rattle.builder.specs.declared.decision.Decision.{Decision}
 use Rattle.builder.specs.Pieces.{laidBuilder, idsOf}
 use Rattle.snapshot_updates.specs.Snapshots.{SnapshotsGone}
-use Rattle.laws.specs.Standing.{Given, termsOf, Held, Pieces, withBuilder, withRemoval, Tables, Standing}
+use Rattle.laws.specs.Standing.{Given, termsOf, Pieces, withRemoval, Tables, Standing}
 use Rattle.laws.specs.Turns.{Decided}
 use Rattle.laws.proofs.Logged.{push-removal}
 use Rattle.laws.proofs.Moving.{fits, next, accepted}

@@ -2,34 +2,33 @@
 use Prim.Native.Nat.{ℕ, _+_, _≤_, _<_}
 use native.Mathlib.Omega.{arith}
 use mathlib.Core.Path.{_≡_, refl, sym, ap, subst, _∙_}
-use mathlib.Core.Bool.{Bool, true, false, cond, not, _&&_, true≢false, false≢true}
+use mathlib.Core.Bool.{Bool, true, false, cond, not, _&&_, true≢false}
 use mathlib.Core.List.{List, [], _∷_, _++_}
-use mathlib.Core.Option.{none, some}
+use mathlib.Core.Option.{some}
 use lib.Dec.{leb, ltb, eqb}
 use lib.IntN.{ℤ}
 use lib.ListN.{length, drop, take, set, getD}
 use borrow.Author.Tests.{leb-false, ltb-true, lt-ltb, not-true, not-false, eq-eqb, eqb-true}
-use borrow.Table.Steps.{cases}
 use Rattle.records.specs.declared.counters.Time.{Time}
 use Rattle.records.specs.declared.snapshot.Snapshot.{Snapshot}
 use Rattle.records.specs.declared.snapshot.SnapshotLog.{SnapshotLog}
 use Rattle.records.specs.declared.snapshot.SnapshotLogEntry.{SnapshotLogEntry}
 use Rattle.records.specs.declared.reference.Refs.{Refs}
 use Rattle.records.specs.declared.update.TableUpdate.{TableUpdate}
-use Rattle.rules.specs.Words.{eqZ, isSome, firstOf, put, orElse, lastOf}
+use Rattle.rules.specs.Words.{eqZ, isSome, firstOf, put, orElse}
 use Rattle.rules.specs.Replies.{snapshotNotHeld, tableFull}
 use Rattle.rules.specs.Capacities.{refRoom, snapshotLogRoom}
 use Rattle.rules.specs.Names.{isMain}
 use Rattle.rules.specs.Register as plain
-use Rattle.rules.specs.Register.{Update, State, withOwn, logged}
+use Rattle.rules.specs.Register.{Update, State}
 use Rattle.rules.specs.Register.Update.{SetRef}
 use Rattle.rules.specs.WellFormed.{updateFormed, refBelow, hasSnapshot, holdsSnapshot}
 use Rattle.rules.specs.ChangeLog.{logsAddition}
-use Rattle.rules.specs.RefUpdates.{refNamed, isHeldRef, setRefChecks, setRef, putRef, asMain, timeOf, ownAfter}
+use Rattle.rules.specs.RefUpdates.{refNamed, isHeldRef, setRefChecks, setRef, timeOf, ownAfter}
 use Rattle.rules.specs.Updates.{checks, effect}
 use Rattle.rules.specs.Run.{weight}
-use Rattle.rules.specs.Layout.{given, readRefName, laidRefName, readReference, laidReference, readRefs, laidRefs, readSnapshot, readSnapshots, laidLogEntry, laidSnapshotLog}
-use Rattle.rules.specs.Kinds.{readUpdates, laidUpdate}
+use Rattle.rules.specs.Layout.{given, readRefName, readReference, laidReference, readRefs, laidRefs, readSnapshot, readSnapshots, laidLogEntry, laidSnapshotLog}
+use Rattle.rules.specs.Kinds.{readUpdates, laidUpdate, setRefKind}
 use Rattle.rules.proofs.Checks.{and-left, and-right, passed-unless}
 use Rattle.rules.proofs.Reread.{reread-ref-name, reread-reference}
 use Rattle.tables.specs.Places.{indexOf}
@@ -39,21 +38,17 @@ use Rattle.tables.proofs.Push.{pushed-one}
 use Rattle.builder.specs.declared.builder.TableMetadataBuilder.{TableMetadataBuilder}
 use Rattle.builder.specs.declared.decision.Decision.{Decision}
 use Rattle.builder.specs.Pieces.{laidBuilder, lastTime}
-use Rattle.builder.proofs.Positions.{found, first-at, snapshot-place, snapshot-found, last-at}
-use Rattle.ref_updates.specs.Refs.{askedRef, Faced, RefSet, RefDecided}
+use Rattle.builder.proofs.Positions.{found, first-at, snapshot-place, snapshot-found}
+use Rattle.ref_updates.specs.Refs.{Faced, RefSet, RefDecided}
+use Rattle.close.proofs.Scans.{last-added}
 use Rattle.close.specs.Facts.{additions}
-use Rattle.laws.specs.Standing.{Given, termsOf, Held, Pieces, withMain, stored, Represents, Standing}
+use Rattle.laws.specs.Standing.{Given, termsOf, Pieces, withMain, Represents, Standing}
 use Rattle.laws.specs.Turns.{updateAt, nameAt, Midway, Decided}
 use Rattle.laws.proofs.Logged.{push-quiet, push-main, logs-addition}
 use Rattle.laws.proofs.Moving.{fits, next, check-refused, accepted}
 use Rattle.laws.proofs.Beginning.{read-snapshots, read-refs, read-log, laid-snapshots, laid-log}
 use Rattle.laws.proofs.Closed.{held-ids, held-count, added-ids}
 use Rattle.laws.proofs.Deciding.{whole, tabled}
-
-last-appended : {A : Type 0} (l : List A) (x : A) → lastOf (l ++ (x ∷ [])) ≡ some x
-last-appended [] x = refl
-last-appended (y ∷ []) x = refl
-last-appended (y ∷ z ∷ l) x = last-appended (z ∷ l) x
 
 -- ---- what a set ref is handed
 
@@ -96,7 +91,7 @@ module _ {g : Given} {st : State} {p : Pieces} (E : Represents g st p) where
 -- ---- a ref by itself
 
 pub set-midway : {g : Given} {i : ℕ} {p : Pieces} (S : Standing g i p) (v : Update) (at : drop i (readUpdates (g .updates)) ≡ v ∷ drop (i + 1) (readUpdates (g .updates))) (one : 1 ≤ weight v) (e : updateFormed v ≡ true)
-    → v ≡ SetRef (nameAt g i) (readReference (updateAt g i .reference)) → updateAt g i .kind ≡ 7 → Midway g i p
+    → v ≡ SetRef (nameAt g i) (readReference (updateAt g i .reference)) → updateAt g i .kind ≡ setRefKind → Midway g i p
 unfolding checks effect
 set-midway {g} {i} S v at one e q k =
     record {
@@ -209,7 +204,7 @@ module _ {g : Given} {i : ℕ} {p : Pieces} (W : Midway g i p) {d : Decision} (D
           pushed-one made-snapshot-log (tidy-snapshot-log (laid-log (W .stands))) (laidLogEntry x) l refl (b ∙ ap (set (p .held .log .items) (p .held .log .count)) k) c
           ∙ ap laidSnapshotLog (ap (λ (z : List plain.LogEntry). z ++ (x ∷ [])) (read-log (W .stands))) in
           let last : given (ltb 0 (h .count)) (e .«timestamp_ms» .0) ≡ lastTime (W .state .metadata .snapshotLog ++ (x ∷ [])) =
-          rw (c, lt-ltb 0 (p .held .log .count + 1) (omega arith), lastTime, last-appended (W .state .metadata .snapshotLog) x) (ap (λ (z : SnapshotLogEntry). some (z .«timestamp_ms» .0)) k) in
+          rw (c, lt-ltb 0 (p .held .log .count + 1) (omega arith), lastTime, last-added (W .state .metadata .snapshotLog) x) (ap (λ (z : SnapshotLogEntry). some (z .«timestamp_ms» .0)) k) in
           record {
             refuses = λ z. absurd (z (accepts .1));
             room = λ z. room;

@@ -1,22 +1,21 @@
 -- The turns of the loop: from one that decides to one that stores and back, and what kind the update of a turn is of.
 use Prim.Native.Nat.{ℕ, _+_, _≤_, _<_}
 use native.Mathlib.Omega.{arith}
-use mathlib.Core.Path.{_≡_, refl, sym, ap, _∙_}
+use mathlib.Core.Path.{_≡_, sym, ap, _∙_}
 use mathlib.Core.Bool.{Bool, true, false, cond, true≢false, false≢true}
-use borrow.Author.Tests.{eqb-true}
 use borrow.Table.Steps.{cases}
 use Rattle.records.specs.declared.update.TableUpdate.{TableUpdate}
 use Rattle.rules.specs.WellFormed.{updateFormed}
-use Rattle.rules.specs.Kinds.{readKind, readUpdate}
+use Rattle.rules.specs.Kinds.{readKind, readUpdate, assignUuidKind, upgradeFormatVersionKind, setLocationKind, setBranchSnapshotKind, removeRefKind, addSchemaKind, setCurrentSchemaKind, removeSchemasKind, addSortOrderKind, setDefaultSortOrderKind}
 use Rattle.builder.specs.declared.decision.Decision.{Decision}
 use Rattle.start.proofs.Reading.{formed-tidy, read-tidy}
-use Rattle.laws.specs.Standing.{Given, Pieces, stored, Standing}
+use Rattle.laws.specs.Standing.{Given, Pieces, Standing}
 use Rattle.laws.specs.Turns.{updateAt, Stands, Decided, Turn}
 use Rattle.laws.proofs.Effects.{group}
 
 module _ {g : Given} {place : ℕ} {half : Bool} {p : Pieces} where
   -- only a branch commit can be half done
-  pub undivided : Stands g place half p → (updateAt g place .kind ≡ 5 → ⊥) → Standing g place p
+  pub undivided : Stands g place half p → (updateAt g place .kind ≡ setBranchSnapshotKind → ⊥) → Standing g place p
   undivided S n = cases half (λ t. absurd (n (S .commit t .0))) (λ f. S .whole f)
 
   -- and only one that is well formed
@@ -50,29 +49,29 @@ module _ (u : TableUpdate) (f : updateFormed (readUpdate u) ≡ true) where
   read : readUpdate u ≡ readKind u
   read = read-tidy u (formed-tidy u f)
 
-  pub is-uuid : u .kind ≡ 1 → group (readUpdate u) ≡ 1
+  pub is-uuid : u .kind ≡ assignUuidKind → group (readUpdate u) ≡ 1
   is-uuid e = ap group read ∙ rw e
 
-  pub is-version : u .kind ≡ 2 → group (readUpdate u) ≡ 1
+  pub is-version : u .kind ≡ upgradeFormatVersionKind → group (readUpdate u) ≡ 1
   is-version e = ap group read ∙ rw e
 
-  pub is-location : u .kind ≡ 3 → group (readUpdate u) ≡ 1
+  pub is-location : u .kind ≡ setLocationKind → group (readUpdate u) ≡ 1
   is-location e = ap group read ∙ rw e
 
-  pub is-ref-removal : u .kind ≡ 8 → group (readUpdate u) ≡ 4
+  pub is-ref-removal : u .kind ≡ removeRefKind → group (readUpdate u) ≡ 4
   is-ref-removal e = ap group read ∙ rw e
 
-  pub is-schema : u .kind ≡ 9 → group (readUpdate u) ≡ 2
+  pub is-schema : u .kind ≡ addSchemaKind → group (readUpdate u) ≡ 2
   is-schema e = ap group read ∙ rw e
 
-  pub is-schema-choice : u .kind ≡ 10 → group (readUpdate u) ≡ 1
+  pub is-schema-choice : u .kind ≡ setCurrentSchemaKind → group (readUpdate u) ≡ 1
   is-schema-choice e = ap group read ∙ rw e
 
-  pub is-schema-removal : u .kind ≡ 11 → group (readUpdate u) ≡ 2
+  pub is-schema-removal : u .kind ≡ removeSchemasKind → group (readUpdate u) ≡ 2
   is-schema-removal e = ap group read ∙ rw e
 
-  pub is-order : u .kind ≡ 12 → group (readUpdate u) ≡ 3
+  pub is-order : u .kind ≡ addSortOrderKind → group (readUpdate u) ≡ 3
   is-order e = ap group read ∙ rw e
 
-  pub is-order-choice : u .kind ≡ 13 → group (readUpdate u) ≡ 1
+  pub is-order-choice : u .kind ≡ setDefaultSortOrderKind → group (readUpdate u) ≡ 1
   is-order-choice e = ap group read ∙ rw e

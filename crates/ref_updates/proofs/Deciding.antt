@@ -1,16 +1,14 @@
 -- A set ref, by its parts: its number is that of the rule's checks, and what those leave.
 use Prim.Native.Nat.{ℕ, _<_}
-use native.Mathlib.Omega.{arith}
-use mathlib.Core.Path.{_≡_, refl, sym, ap, _∙_}
+use mathlib.Core.Path.{_≡_, refl, _∙_}
 use mathlib.Core.Bool.{Bool, true, false, cond, not, _&&_}
 use mathlib.Core.List.{List, [], _∷_}
-use mathlib.Core.Option.{Option}
 use borrow.Author.Tests.{leb-false, not-false}
 use borrow.Table.Steps.{cases}
 use lib.Dec.{leb}
 use lib.IntN.{ℤ}
 use lib.ListN.{length}
-use Rattle.rules.specs.Words.{isSome, firstOf, any, first, Check}
+use Rattle.rules.specs.Words.{isSome, firstOf, any, Check}
 use Rattle.rules.specs.Names.{isMain}
 use Rattle.rules.specs.Replies.{snapshotNotHeld, tableFull}
 use Rattle.rules.specs.Capacities.{refRoom, snapshotLogRoom}

@@ -282,7 +282,7 @@ pub fn commits_on_tag(t: Refs, u: TableUpdate) -> bool
 }
 
 // The snapshot to which the ref of an update, or of a branch commit, is set.
-pub fn target(u: TableUpdate) -> SnapshotId
+pub fn ref_target(u: TableUpdate) -> SnapshotId
     ensures { λ r. ⌜ ((l : List plain.NamedRef) → r .0 ≡ askedRef u l .snapshot) ⌝ }
 {
     let k = u.kind;

@@ -44,10 +44,10 @@ use records::update::UPGRADE_FORMAT_VERSION;
 use records::update::UpdateList;
 use ref_updates::commits_on_tag;
 use ref_updates::main_entry;
+use ref_updates::ref_target;
 use ref_updates::refs_after;
 use ref_updates::remove_ref;
 use ref_updates::set_ref;
-use ref_updates::target;
 use schema_updates::add_schema;
 use schema_updates::remove_schemas;
 use schema_updates::schemas_after;
@@ -174,7 +174,7 @@ pub fn run(metadata: TableMetadata, updates: UpdateList, terms: RunTerms, text: 
             continue;
         }
         if (kind == SET_BRANCH_SNAPSHOT) | (kind == SET_REF) {
-            let id = target(update);
+            let id = ref_target(update);
             let key = id.0;
             let spot = position(&ids[..held], key);
             let mut time = clock;

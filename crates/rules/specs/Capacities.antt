@@ -46,7 +46,7 @@ listRoom = 64
 abbrev pub largestRowId : ℕ
 largestRowId = 18446744073709551615
 
--- "the type's largest": schema ids are i32 and sort-order ids i64, in the Rust and in the public format
+-- "the type's largest": in the Rust schema ids are i32 and sort-order ids i64
 abbrev pub largestSchemaId : ℤ
 largestSchemaId = pos 2147483647
 

@@ -114,10 +114,10 @@ abbrev pub atKind : ℕ → List (ℕ × Update) → Update
 atKind kind [] = NotFormed 1
 atKind kind (x ∷ xs) = cond (eqb kind (x .0)) (x .1) (atKind kind xs)
 
-abbrev pub readKind : TableUpdate → Update
-readKind u =
-    atKind (u .kind)
-    ((assignUuidKind, AssignUuid (u .uuid))
+-- what each kind says
+abbrev pub readings : TableUpdate → List (ℕ × Update)
+readings u =
+    (assignUuidKind, AssignUuid (u .uuid))
     ∷ (upgradeFormatVersionKind, UpgradeFormatVersion (u .«format_version»))
     ∷ (setLocationKind, SetLocation (readLocation (u .location)))
     ∷ (addSnapshotKind, AddSnapshot (readSnapshot (u .snapshot)))
@@ -130,7 +130,10 @@ readKind u =
     ∷ (removeSchemasKind, RemoveSchemas (readSchemaIds (u .«schema_ids»)))
     ∷ (addSortOrderKind, AddSortOrder (readSortOrder (u .«sort_order»)))
     ∷ (setDefaultSortOrderKind, SetDefaultSortOrder (u .«sort_order_id» .0))
-    ∷ [])
+    ∷ []
+
+abbrev pub readKind : TableUpdate → Update
+readKind u = atKind (u .kind) (readings u)
 
 unfoldable pub readUpdate : TableUpdate → Update
 readUpdate u = cond (isTidyUpdate u) (readKind u) (NotFormed (kindWeight (u .kind)))

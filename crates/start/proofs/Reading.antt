@@ -3,23 +3,23 @@ use Prim.Native.Nat.{ℕ, zero, suc, _+_, _≤_, _<_}
 use native.Mathlib.Omega.{arith}
 use native.Mathlib.Numerals.{add-one}
 use mathlib.Core.Path.{_≡_, refl, sym, ap, _∙_}
-use mathlib.Core.Bool.{Bool, true, false, cond, _&&_, _||_, true≢false, false≢true}
+use mathlib.Core.Bool.{Bool, true, false, cond, _||_, false≢true}
 use mathlib.Core.List.{List, [], _∷_, map}
-use lib.Dec.{eqb, leb, ltb}
+use lib.Dec.{eqb}
 use lib.ListN.{length, getD, take, drop, length-map, length-take, drop-of-length-le}
 use lib.Seq.{drop-cons, getD-take}
-use borrow.Author.Tests.{le-leb, ne-eqb, eqb-true, eqb-false, ltb-true, ltb-false, leb-true}
+use borrow.Author.Tests.{eqb-true}
 use borrow.Table.Steps.{cases}
 use Rattle.records.specs.Blanks.{noUpdate}
 use Rattle.records.specs.declared.update.TableUpdate.{TableUpdate}
 use Rattle.records.specs.declared.update.UpdateList.{UpdateList}
 use Rattle.rules.specs.Words.{all, any, total}
 use Rattle.rules.specs.Register.{Update}
-use Rattle.rules.specs.Register.Update.{AssignUuid, UpgradeFormatVersion, SetLocation, AddSnapshot, SetBranchSnapshot, RemoveSnapshots, SetRef, RemoveRef, AddSchema, SetCurrentSchema, RemoveSchemas, AddSortOrder, SetDefaultSortOrder, NotFormed}
+use Rattle.rules.specs.Register.Update.{AddSnapshot, SetBranchSnapshot, RemoveSnapshots, SetRef, RemoveRef, RemoveSchemas, NotFormed}
 use Rattle.rules.specs.WellFormed.{updateFormed}
 use Rattle.rules.specs.Run.{weight}
-use Rattle.rules.specs.Layout.{counted, readRefName, readSnapshot, readReference, readSnapshotIds, readLocation, readSchema, readSchemaIds, readSortOrder}
-use Rattle.rules.specs.Kinds.{isTidyUpdate, kindWeight, atKind, readKind, readUpdate, readUpdates, assignUuidKind, upgradeFormatVersionKind, setLocationKind, addSnapshotKind, setBranchSnapshotKind, removeSnapshotsKind, setRefKind, removeRefKind, addSchemaKind, setCurrentSchemaKind, removeSchemasKind, addSortOrderKind, setDefaultSortOrderKind}
+use Rattle.rules.specs.Layout.{counted, readRefName, readSnapshot, readReference, readSnapshotIds, readSchemaIds}
+use Rattle.rules.specs.Kinds.{isTidyUpdate, kindWeight, atKind, readings, readKind, readUpdate, readUpdates, assignUuidKind, upgradeFormatVersionKind, setLocationKind, addSnapshotKind, setBranchSnapshotKind, removeSnapshotsKind, setRefKind, removeRefKind, addSchemaKind, setCurrentSchemaKind, removeSchemasKind, addSortOrderKind, setDefaultSortOrderKind}
 use Rattle.rules.proofs.Checks.{and-left, and-right, by-either, neither, by-test}
 use Rattle.rules.proofs.Relaid.{counted-take, length-counted}
 
@@ -47,23 +47,23 @@ unknown k [] e = refl
 unknown k (x ∷ l) e = let n = neither (eqb k (x .0)) (any (eqb k) (map (λ (y : ℕ × Update). y .0) l)) e in rw (n .0) (unknown k l (n .1))
 
 module _ (u : TableUpdate) (f : updateFormed (readUpdate u) ≡ true) where
-  pub read-4 : u .kind ≡ 4 → readUpdate u ≡ AddSnapshot (readSnapshot (u .snapshot))
-  read-4 e = read-tidy u (formed-tidy u f) ∙ rw e
+  pub read-add-snapshot : u .kind ≡ addSnapshotKind → readUpdate u ≡ AddSnapshot (readSnapshot (u .snapshot))
+  read-add-snapshot e = read-tidy u (formed-tidy u f) ∙ rw e
 
-  pub read-5 : u .kind ≡ 5 → readUpdate u ≡ SetBranchSnapshot (readRefName (u .«ref_name»)) (readSnapshot (u .snapshot))
-  read-5 e = read-tidy u (formed-tidy u f) ∙ rw e
+  pub read-set-branch-snapshot : u .kind ≡ setBranchSnapshotKind → readUpdate u ≡ SetBranchSnapshot (readRefName (u .«ref_name»)) (readSnapshot (u .snapshot))
+  read-set-branch-snapshot e = read-tidy u (formed-tidy u f) ∙ rw e
 
-  pub read-6 : u .kind ≡ 6 → readUpdate u ≡ RemoveSnapshots (readSnapshotIds (u .«snapshot_ids»))
-  read-6 e = read-tidy u (formed-tidy u f) ∙ rw e
+  pub read-remove-snapshots : u .kind ≡ removeSnapshotsKind → readUpdate u ≡ RemoveSnapshots (readSnapshotIds (u .«snapshot_ids»))
+  read-remove-snapshots e = read-tidy u (formed-tidy u f) ∙ rw e
 
-  pub read-7 : u .kind ≡ 7 → readUpdate u ≡ SetRef (readRefName (u .«ref_name»)) (readReference (u .reference))
-  read-7 e = read-tidy u (formed-tidy u f) ∙ rw e
+  pub read-set-ref : u .kind ≡ setRefKind → readUpdate u ≡ SetRef (readRefName (u .«ref_name»)) (readReference (u .reference))
+  read-set-ref e = read-tidy u (formed-tidy u f) ∙ rw e
 
-  pub read-8 : u .kind ≡ 8 → readUpdate u ≡ RemoveRef (readRefName (u .«ref_name»))
-  read-8 e = read-tidy u (formed-tidy u f) ∙ rw e
+  pub read-remove-ref : u .kind ≡ removeRefKind → readUpdate u ≡ RemoveRef (readRefName (u .«ref_name»))
+  read-remove-ref e = read-tidy u (formed-tidy u f) ∙ rw e
 
-  pub read-11 : u .kind ≡ 11 → readUpdate u ≡ RemoveSchemas (readSchemaIds (u .«schema_ids»))
-  read-11 e = read-tidy u (formed-tidy u f) ∙ rw e
+  pub read-remove-schemas : u .kind ≡ removeSchemasKind → readUpdate u ≡ RemoveSchemas (readSchemaIds (u .«schema_ids»))
+  read-remove-schemas e = read-tidy u (formed-tidy u f) ∙ rw e
 
   -- its form by its kind alone
   pub formed-kind : updateFormed (readKind u) ≡ true
@@ -74,32 +74,32 @@ module _ (u : TableUpdate) (f : updateFormed (readUpdate u) ≡ true) where
   unfolding updateFormed
   known =
       cases (any (eqb (u .kind)) kinds) (λ e. e)
-      (λ e. absurd (false≢true (sym (ap updateFormed (unknown (u .kind) ((1, AssignUuid (u .uuid)) ∷ (2, UpgradeFormatVersion (u .«format_version»)) ∷ (3, SetLocation (readLocation (u .location))) ∷ (4, AddSnapshot (readSnapshot (u .snapshot))) ∷ (5, SetBranchSnapshot (readRefName (u .«ref_name»)) (readSnapshot (u .snapshot))) ∷ (6, RemoveSnapshots (readSnapshotIds (u .«snapshot_ids»))) ∷ (7, SetRef (readRefName (u .«ref_name»)) (readReference (u .reference))) ∷ (8, RemoveRef (readRefName (u .«ref_name»))) ∷ (9, AddSchema (readSchema (u .schema))) ∷ (10, SetCurrentSchema (u .«schema_id» .0)) ∷ (11, RemoveSchemas (readSchemaIds (u .«schema_ids»))) ∷ (12, AddSortOrder (readSortOrder (u .«sort_order»))) ∷ (13, SetDefaultSortOrder (u .«sort_order_id» .0)) ∷ []) e)) ∙ formed-kind)))
+      (λ e. absurd (false≢true (sym (ap updateFormed (unknown (u .kind) (readings u) e)) ∙ formed-kind)))
 
 -- ---- what it counts
 
-module _ (k : ℕ) (n : eqb k 5 ≡ false) where
-  counts-one : (l : List (ℕ × Update)) → all (λ x. eqb (x .0) 5 || eqb (weight (x .1)) 1) l ≡ true → weight (atKind k l) ≡ 1
+module _ (k : ℕ) (n : eqb k setBranchSnapshotKind ≡ false) where
+  counts-one : (l : List (ℕ × Update)) → all (λ x. eqb (x .0) setBranchSnapshotKind || eqb (weight (x .1)) 1) l ≡ true → weight (atKind k l) ≡ 1
   counts-one [] h = refl
   counts-one (x ∷ l) h =
       by-test (λ (y : Update). weight y ≡ 1) (eqb k (x .0))
-      (λ e. by-either (eqb (x .0) 5) (eqb (weight (x .1)) 1) (λ q. absurd (false≢true (sym n ∙ rw (eqb-true k (x .0) e) q))) (eqb-true (weight (x .1)) 1) (and-left (eqb (x .0) 5 || eqb (weight (x .1)) 1) _ h))
-      (λ e. counts-one l (and-right (eqb (x .0) 5 || eqb (weight (x .1)) 1) _ h))
+      (λ e. by-either (eqb (x .0) setBranchSnapshotKind) (eqb (weight (x .1)) 1) (λ q. absurd (false≢true (sym n ∙ rw (eqb-true k (x .0) e) q))) (eqb-true (weight (x .1)) 1) (and-left (eqb (x .0) setBranchSnapshotKind || eqb (weight (x .1)) 1) _ h))
+      (λ e. counts-one l (and-right (eqb (x .0) setBranchSnapshotKind || eqb (weight (x .1)) 1) _ h))
 
-one-of : (k : ℕ) → eqb k 5 ≡ false → kindWeight k ≡ 1
+one-of : (k : ℕ) → eqb k setBranchSnapshotKind ≡ false → kindWeight k ≡ 1
 one-of k e = rw e
 
 pub weight-read : (u : TableUpdate) → weight (readUpdate u) ≡ kindWeight (u .kind)
 unfolding readUpdate
 weight-read u =
     by-test (λ (x : Update). weight x ≡ kindWeight (u .kind)) (isTidyUpdate u)
-    (λ t. cases (eqb (u .kind) 5)
-    (λ e. rw (eqb-true (u .kind) 5 e))
-    (λ e. counts-one (u .kind) e ((1, AssignUuid (u .uuid)) ∷ (2, UpgradeFormatVersion (u .«format_version»)) ∷ (3, SetLocation (readLocation (u .location))) ∷ (4, AddSnapshot (readSnapshot (u .snapshot))) ∷ (5, SetBranchSnapshot (readRefName (u .«ref_name»)) (readSnapshot (u .snapshot))) ∷ (6, RemoveSnapshots (readSnapshotIds (u .«snapshot_ids»))) ∷ (7, SetRef (readRefName (u .«ref_name»)) (readReference (u .reference))) ∷ (8, RemoveRef (readRefName (u .«ref_name»))) ∷ (9, AddSchema (readSchema (u .schema))) ∷ (10, SetCurrentSchema (u .«schema_id» .0)) ∷ (11, RemoveSchemas (readSchemaIds (u .«schema_ids»))) ∷ (12, AddSortOrder (readSortOrder (u .«sort_order»))) ∷ (13, SetDefaultSortOrder (u .«sort_order_id» .0)) ∷ []) refl ∙ sym (one-of (u .kind) e)))
+    (λ t. cases (eqb (u .kind) setBranchSnapshotKind)
+    (λ e. rw (eqb-true (u .kind) setBranchSnapshotKind e))
+    (λ e. counts-one (u .kind) e (readings u) refl ∙ sym (one-of (u .kind) e)))
     (λ t. refl)
 
 pub counts : (k : ℕ) → (1 ≤ kindWeight k) × (kindWeight k ≤ 2)
-counts k = by-test (λ (n : ℕ). (1 ≤ n) × (n ≤ 2)) (eqb k 5) (λ e. (omega arith, omega arith)) (λ e. (omega arith, omega arith))
+counts k = by-test (λ (n : ℕ). (1 ≤ n) × (n ≤ 2)) (eqb k setBranchSnapshotKind) (λ e. (omega arith, omega arith)) (λ e. (omega arith, omega arith))
 
 pub weighs : (l : List TableUpdate) → length l ≤ total weight (map readUpdate l)
 weighs [] = omega arith

@@ -1,8 +1,8 @@
 -- The verdict is exact: a log leads there exactly if its run is accepted with the ending metadata (`leads-exactly`), said of the definition
 -- and of any verdict that the contract of `judge` allows (`judge-leads-exactly`).
 use Prim.Native.Nat.{ℕ}
-use mathlib.Core.Path.{_≡_, sym, ap, _∙_}
-use mathlib.Core.Bool.{true, cond}
+use mathlib.Core.Path.{_≡_}
+use mathlib.Core.Bool.{true}
 use mathlib.Core.List.{List, [], _∷_}
 use borrow.Author.Tests.{eqb-true, eq-eqb}
 use borrow.Fn.Kinds.{Dens, endedOf}

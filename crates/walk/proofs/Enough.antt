@@ -1,4 +1,4 @@
--- The steps that the rule allows are enough: any number above that of the ids gives the same walk, so 24 is given for a repeat alone.
+-- The steps that the rule allows are enough: any number of steps above that of the ids gives the same walk.
 use Prim.Native.Nat.{ℕ, zero, suc, _<_}
 use mathlib.Core.Path.{_≡_, refl, sym, _∙_}
 use mathlib.Core.Bool.{true, false}

@@ -1,6 +1,4 @@
 -- An order that can be put is put; otherwise the table is as it was.
-use mathlib.Core.Path.{_≡_, _∙_}
-use borrow.Author.Needs.{needs}
 use Rattle.order_updates.proofs.orders_after.Statement.{statement}
 use Rattle.order_updates.proofs.orders_after.Tie as tie
 

@@ -1,20 +1,17 @@
 -- What stands at the place that the search gives is the ref of the name, if there is one, and the rest is read of that.
-use Prim.Native.Nat.{_<_}
 use native.Mathlib.Omega.{arith}
-use mathlib.Core.Path.{_≡_, refl, ap, _∙_}
-use mathlib.Core.Bool.{true, _&&_}
+use mathlib.Core.Path.{_≡_, ap, _∙_}
+use mathlib.Core.Bool.{true}
 use mathlib.Core.Logic.{⊎-elim}
 use borrow.Author.Needs.{needs}
-use borrow.Author.Tests.{ltb-true, lt-ltb, le-ltb}
+use borrow.Author.Tests.{ltb-true, le-ltb}
 use borrow.Table.Steps.{cases}
 use lib.Dec.{ltb}
 use Rattle.records.specs.Blanks.{noRef}
 use Rattle.records.specs.declared.reference.NamedRef.{NamedRef}
 use Rattle.rules.specs.Register as plain
-use Rattle.rules.specs.Words.{isSome}
 use Rattle.rules.specs.RefUpdates.{refNamed, sameReference}
 use Rattle.rules.specs.Layout.{given, readRefName, readReference, laidReference, readRef, laidRef, readRefs}
-use Rattle.rules.proofs.Relaid.{flag-given}
 use Rattle.tables.proofs.Each.{ref-at}
 use Rattle.ref_updates.specs.Refs.{askedRef}
 use Rattle.ref_updates.proofs.Named.{named, named-there, named-within}

@@ -1,5 +1,4 @@
 -- Another kind is no commit.
-use borrow.Author.Needs.{needs}
 use borrow.Author.Tests.{eq-eqb, ne-eqb}
 use Rattle.ref_updates.proofs.commits_on_tag.Statement.{statement}
 use Rattle.ref_updates.proofs.commits_on_tag.Tie as tie

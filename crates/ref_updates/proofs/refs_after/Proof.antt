@@ -1,5 +1,4 @@
 -- A ref that can be put is put; otherwise the refs are as they were.
-use borrow.Author.Needs.{needs}
 use Rattle.ref_updates.proofs.refs_after.Statement.{statement}
 use Rattle.ref_updates.proofs.refs_after.Tie as tie
 

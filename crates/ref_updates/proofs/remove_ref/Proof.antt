@@ -2,7 +2,7 @@
 use Prim.Native.Nat.{ℕ}
 use mathlib.Core.Path.{_≡_, refl, sym, ap, _∙_}
 use mathlib.Core.Bool.{Bool, true, false, false≢true, true≢false}
-use mathlib.Core.List.{List, [], _∷_, _++_}
+use mathlib.Core.List.{List, []}
 use mathlib.Core.Option.{none}
 use borrow.Author.Needs.{needs}
 use lib.Dec.{ltb}
@@ -12,10 +12,10 @@ use Rattle.records.specs.declared.reference.Refs.{Refs}
 use Rattle.records.specs.declared.update.TableUpdate.{TableUpdate}
 use Rattle.rules.specs.Words.{isSome}
 use Rattle.rules.specs.Names.{isMain}
-use Rattle.rules.specs.Register.{State, RemoveRef, withCurrent, onFields, logged}
-use Rattle.rules.specs.RefUpdates.{refNamed, withoutRef, removeRef}
+use Rattle.rules.specs.Register.{State, RemoveRef, withCurrent, onFields}
+use Rattle.rules.specs.RefUpdates.{refNamed, removeRef}
 use Rattle.rules.specs.Updates.{checks, effect}
-use Rattle.rules.specs.Layout.{given, readRefName, readRef, readRefs, laidRefs}
+use Rattle.rules.specs.Layout.{readRefName, readRef, readRefs, laidRefs}
 use Rattle.rules.specs.Kinds.{readUpdate, laidUpdate}
 use Rattle.rules.proofs.Relaid.{flag-given}
 use Rattle.rules.proofs.Reread.{reread-refs}

@@ -1,8 +1,6 @@
 -- The number is that of the rule's checks, the builder and the entry are those of its effect.
-use Prim.Native.Nat.{_<_}
 use mathlib.Core.Path.{_≡_, refl, sym, ap, _∙_}
-use mathlib.Core.Bool.{true, false, not, cond, _&&_}
-use mathlib.Core.List.{List}
+use mathlib.Core.Bool.{true, false, not}
 use borrow.Author.Needs.{needs}
 use borrow.Author.Tests.{not-true, eqb-true}
 use lib.Dec.{eqb}
@@ -13,7 +11,7 @@ use Rattle.rules.specs.Register as plain
 use Rattle.rules.specs.Register.{SetRef}
 use Rattle.rules.specs.Words.{firstOf}
 use Rattle.rules.specs.RefUpdates.{isHeldRef, ownAfter}
-use Rattle.rules.specs.Layout.{readRefName, readReference, readRefs, laidRefs}
+use Rattle.rules.specs.Layout.{readRefName, readReference, readRefs}
 use Rattle.rules.specs.Kinds.{laidUpdate}
 use Rattle.rules.proofs.Checks.{and-left, and-right}
 use Rattle.rules.proofs.Reread.{reread-refs}

@@ -1,5 +1,5 @@
 -- The run's last update comes first, and `main` is set on what it leaves.
-use mathlib.Core.Path.{_≡_, ap, _∙_}
+use mathlib.Core.Path.{ap, _∙_}
 use borrow.Author.Needs.{needs}
 use mathlib.Core.Option.{Option}
 use lib.IntN.{ℤ}

@@ -1,5 +1,4 @@
 -- The two arms are the two cases of the rule.
-use borrow.Author.Needs.{needs}
 use Rattle.builder.specs.Pieces.{laidBuilder}
 use Rattle.ref_updates.proofs.with_own.Statement.{statement}
 use Rattle.ref_updates.proofs.with_own.Tie as tie

@@ -2,9 +2,9 @@
 use Prim.Native.Nat.{ℕ, _+_, _*_, _-_, _≤_, _<_}
 use native.Mathlib.Omega.{arith}
 use mathlib.Core.Path.{_≡_, refl, sym, ap, _∙_}
-use mathlib.Core.Bool.{Bool, true, false, not, cond, _&&_, _||_, true≢false, false≢true}
+use mathlib.Core.Bool.{Bool, true, false, not, cond, _&&_, _||_, false≢true}
 use mathlib.Core.Logic.{⊎-elim}
-use mathlib.Core.List.{List, [], _∷_}
+use mathlib.Core.List.{[], _∷_}
 use borrow.Author.Needs.{needs, sfits-of}
 use borrow.Author.Tests.{not-true, not-false, eqb-true, eqb-false, eq-eqb, ne-eqb, ltb-true, ltb-false}
 use borrow.Table.Steps.{cases}
@@ -13,21 +13,18 @@ use mir.Val.{toZ, ofZ}
 use mir.Facts.{toZ-ofZ}
 use lib.Dec.{eqb, ltb}
 use lib.IntN.{ℤ, pos}
-use lib.ListN.{length, getD, set, drop, take, length-map}
+use lib.ListN.{length, drop, take, length-map}
 use Rattle.records.specs.Blanks.{noSnapshot}
 use Rattle.records.specs.declared.run.Answer.{Answer}
-use Rattle.records.specs.declared.snapshot.Snapshots.{Snapshots}
-use Rattle.records.specs.declared.snapshot.SnapshotLog.{SnapshotLog}
 use Rattle.records.specs.declared.update.TableUpdate.{TableUpdate}
 use Rattle.rules.specs.Words.{total, eqZ, firstOf, put}
 use Rattle.rules.specs.Names.{isMain}
 use Rattle.rules.specs.Register as plain
 use Rattle.rules.specs.WellFormed.{updateFormed, snapshotBelow}
 use Rattle.rules.specs.SnapshotUpdates.{addSnapshotChecks}
-use Rattle.rules.specs.RefUpdates.{isTag}
 use Rattle.rules.specs.Run.{weight, listSum}
-use Rattle.rules.specs.Layout.{pad, readSnapshot, laidSnapshot, laidSnapshots, readSnapshotIds, readSchemaIds, readRefName, readReference, readRefs, readMetadata}
-use Rattle.rules.specs.Kinds.{isTidyUpdate, readUpdate, readUpdates}
+use Rattle.rules.specs.Layout.{pad, readSnapshot, laidSnapshot, laidSnapshots, readSnapshotIds, readSchemaIds, readRefName}
+use Rattle.rules.specs.Kinds.{isTidyUpdate, readUpdate, readUpdates, assignUuidKind, upgradeFormatVersionKind, setLocationKind, addSnapshotKind, setBranchSnapshotKind, removeSnapshotsKind, setRefKind, removeRefKind, addSchemaKind, setCurrentSchemaKind, removeSchemasKind, addSortOrderKind, setDefaultSortOrderKind}
 use Rattle.rules.specs.Run.{close}
 use Rattle.rules.specs.Answer.{laidOutcome}
 use Rattle.rules.specs.Register.Outcome.{Refused}
@@ -39,20 +36,20 @@ use Rattle.builder.specs.declared.decision.Decision.{Decision}
 use Rattle.builder.specs.Pieces.{idsOf, isAbove}
 use Rattle.builder.proofs.Entries.{not-first, only-one}
 use Rattle.snapshot_updates.specs.Snapshots.{SnapshotDecided}
-use Rattle.ref_updates.specs.Refs.{askedRef, RefSet}
+use Rattle.ref_updates.specs.Refs.{RefSet}
 use Rattle.start.specs.Start.{startNumber}
-use Rattle.start.proofs.Reading.{formed-tidy, formed-kind, known, kinds, read-6, read-7, read-8, read-11, here, all-read, weight-read, counts}
+use Rattle.start.proofs.Reading.{formed-tidy, formed-kind, known, kinds, read-remove-snapshots, read-set-ref, read-remove-ref, read-remove-schemas, here, all-read, weight-read, counts}
 use Rattle.start.proofs.Started.{refused-start}
-use Rattle.laws.specs.Standing.{Given, termsOf, answerOf, Held, Changes, Pieces, Standing, Represents}
+use Rattle.laws.specs.Standing.{Given, termsOf, answerOf, Pieces, Standing}
 use Rattle.laws.specs.Turns.{nothing, updateAt, nameAt, Midway, Stands, Decided, Turn}
 use Rattle.laws.proofs.Beginning.{start-snapshots, start-log, start-short, standing-start, laid-snapshots, laid-refs, laid-log, laid-schemas, laid-orders, location-fits, snapshots-ascend, schemas-ascend, refs-ascend, orders-formed, schema-held, order-held}
 use Rattle.laws.proofs.Closed.{firstThree, held-ids, held-fits, held-within, held-slice, adds-within, added-slice, mains-within, main-slice, adds-most, mains-most, told, handed, files-laid, filed, limit-least, close-refused, files-refused, close-accepted}
 use Rattle.laws.proofs.Moving.{fits, ends}
-use Rattle.laws.proofs.Deciding.{whole, entry-room, not-formed-decided, fields-decided, refs-decided, schemas-decided, orders-decided, refs-left, schemas-left, schemas-grown, orders-grown}
+use Rattle.laws.proofs.Deciding.{whole, not-formed-decided, fields-decided, refs-decided, schemas-decided, orders-decided, refs-left, schemas-left, schemas-grown, orders-grown}
 use Rattle.laws.proofs.Removing.{left-laid, removed-decided}
 use Rattle.laws.proofs.Adding.{has-room, stored-last, id-last, put-new, put-laid, put-tables, put-ids, add-refused, adds-fine, add-decided}
 use Rattle.laws.proofs.Setting.{faced, set-midway, set-decides, main-room, other-decided, main-decided}
-use Rattle.laws.proofs.Taken.{snapshot-back, reference-back, asked-laid, schema-ids-laid, name-5, name-7, name-8}
+use Rattle.laws.proofs.Taken.{snapshot-back, reference-back, asked-laid, schema-ids-laid, branch-name-laid, set-name-laid, removed-name-laid}
 use Rattle.laws.proofs.Effects.{group}
 use Rattle.laws.proofs.Turning.{undivided, unformed, at-the-end, decides, refuses, goes-on, is-uuid, is-version, is-location, is-ref-removal, is-schema, is-schema-choice, is-schema-removal, is-order, is-order-choice}
 use Rattle.register.proofs.run.Statement.{statement}
@@ -219,11 +216,11 @@ module _ (c : tie.Else4 Inv-loop μ-loop Inv-loop2 μ-loop2) where
   tidy = formed-tidy (U loop-at) formed
 
   -- of another kind than a branch commit: the pieces stand for a state
-  standing : (k : ℕ) → U loop-at .kind ≡ k → (k ≡ 5 → ⊥) → Standing (given loop-at) (loop-at .loop2 .place) (here-pieces loop-at)
-  standing k e n = undivided (stands deciding) (λ (q : U loop-at .kind ≡ 5). n (sym e ∙ q))
+  standing : (k : ℕ) → U loop-at .kind ≡ k → eqb k setBranchSnapshotKind ≡ false → Standing (given loop-at) (loop-at .loop2 .place) (here-pieces loop-at)
+  standing k e n = undivided (stands deciding) (λ q. eqb-false k setBranchSnapshotKind n (sym e ∙ q))
 
 -- a kind that leaves the snapshots alone
-module _ (e : tie.Else4 Inv-loop μ-loop Inv-loop2 μ-loop2) (k : ℕ) (q : U (loop-at e) .kind ≡ k) (n : k ≡ 5 → ⊥) where
+module _ (e : tie.Else4 Inv-loop μ-loop Inv-loop2 μ-loop2) (k : ℕ) (q : U (loop-at e) .kind ≡ k) (n : eqb k setBranchSnapshotKind ≡ false) where
   S : Standing (given (loop-at e)) (loop-at e .loop2 .place) (here-pieces (loop-at e))
   S = standing e k q n
 
@@ -235,10 +232,10 @@ module _ (c : tie.Then8 Inv-loop μ-loop Inv-loop2 μ-loop2) where
   abbrev adding-kind : ℕ
   adding-kind = U (loop-at adding) .kind
 
-  either-kind : (eqb adding-kind 4 || eqb adding-kind 5) ≡ true
+  either-kind : (eqb adding-kind addSnapshotKind || eqb adding-kind setBranchSnapshotKind) ≡ true
   either-kind =
-      by-either (eqb adding-kind 4) (eqb adding-kind 5 && not (loop-at adding .loop2 .half))
-      (λ y. rw y) (λ y. rw (and-left (eqb adding-kind 5) (not (loop-at adding .loop2 .half)) y) (or-true (eqb adding-kind 4))) (c .if8 .taken)
+      by-either (eqb adding-kind addSnapshotKind) (eqb adding-kind setBranchSnapshotKind && not (loop-at adding .loop2 .half))
+      (λ y. rw y) (λ y. rw (and-left (eqb adding-kind setBranchSnapshotKind) (not (loop-at adding .loop2 .half)) y) (or-true (eqb adding-kind addSnapshotKind))) (c .if8 .taken)
     where
       or-true : (b : Bool) → (b || true) ≡ true
       or-true true = refl
@@ -246,17 +243,17 @@ module _ (c : tie.Then8 Inv-loop μ-loop Inv-loop2 μ-loop2) where
 
   adding-standing : Standing (given (loop-at adding)) (loop-at adding .loop2 .place) (here-pieces (loop-at adding))
   adding-standing =
-      by-either (eqb adding-kind 4) (eqb adding-kind 5 && not (loop-at adding .loop2 .half))
-      (λ y. standing adding 4 (eqb-true adding-kind 4 y) (λ (z : 4 ≡ 5). omega arith))
-      (λ y. stands (deciding adding) .whole (not-true (loop-at adding .loop2 .half) (and-right (eqb adding-kind 5) (not (loop-at adding .loop2 .half)) y)))
+      by-either (eqb adding-kind addSnapshotKind) (eqb adding-kind setBranchSnapshotKind && not (loop-at adding .loop2 .half))
+      (λ y. standing adding addSnapshotKind (eqb-true adding-kind addSnapshotKind y) refl)
+      (λ y. stands (deciding adding) .whole (not-true (loop-at adding .loop2 .half) (and-right (eqb adding-kind setBranchSnapshotKind) (not (loop-at adding .loop2 .half)) y)))
       (c .if8 .taken)
 
   -- a half is decided only where none was before
-  first-half : eqb adding-kind 5 ≡ true → loop-at adding .loop2 .half ≡ false
+  first-half : eqb adding-kind setBranchSnapshotKind ≡ true → loop-at adding .loop2 .half ≡ false
   first-half y =
-      by-either (eqb adding-kind 4) (eqb adding-kind 5 && not (loop-at adding .loop2 .half))
-      (λ z. absurd (let a : _≡_ {A = ℕ} 4 5 = sym (eqb-true adding-kind 4 z) ∙ eqb-true adding-kind 5 y in omega arith))
-      (λ z. not-true (loop-at adding .loop2 .half) (and-right (eqb adding-kind 5) (not (loop-at adding .loop2 .half)) z))
+      by-either (eqb adding-kind addSnapshotKind) (eqb adding-kind setBranchSnapshotKind && not (loop-at adding .loop2 .half))
+      (λ z. absurd (eqb-false addSnapshotKind setBranchSnapshotKind refl (sym (eqb-true adding-kind addSnapshotKind z) ∙ eqb-true adding-kind setBranchSnapshotKind y)))
+      (λ z. not-true (loop-at adding .loop2 .half) (and-right (eqb adding-kind setBranchSnapshotKind) (not (loop-at adding .loop2 .half)) z))
       (c .if8 .taken)
 
 module _ (c : tie.After-add-snapshot Inv-loop μ-loop Inv-loop2 μ-loop2) where
@@ -323,19 +320,19 @@ module _ (c : tie.Then11 Inv-loop μ-loop Inv-loop2 μ-loop2) where
 
   midway : Midway (given (loop-at setting)) (loop-at setting .loop2 .place) (here-pieces (loop-at setting))
   midway =
-      by-either (eqb setting-kind 5) (eqb setting-kind 7)
-      (λ y. stands (deciding setting) .midway (not-false (loop-at setting .loop2 .half) (and-second (eqb setting-kind 5) (not (loop-at setting .loop2 .half)) y (neither (eqb setting-kind 4) (eqb setting-kind 5 && not (loop-at setting .loop2 .half)) (c .before .if8 .left) .1))))
-      (λ y. let q = eqb-true setting-kind 7 y in set-midway (standing setting 7 q (λ (z : 7 ≡ 5). omega arith)) (readUpdate (U (loop-at setting))) (at (deciding setting)) (one (deciding setting)) (formed setting) (read-7 (U (loop-at setting)) (formed setting) q) q)
+      by-either (eqb setting-kind setBranchSnapshotKind) (eqb setting-kind setRefKind)
+      (λ y. stands (deciding setting) .midway (not-false (loop-at setting .loop2 .half) (and-second (eqb setting-kind setBranchSnapshotKind) (not (loop-at setting .loop2 .half)) y (neither (eqb setting-kind addSnapshotKind) (eqb setting-kind setBranchSnapshotKind && not (loop-at setting .loop2 .half)) (c .before .if8 .left) .1))))
+      (λ y. let q = eqb-true setting-kind setRefKind y in set-midway (standing setting setRefKind q refl) (readUpdate (U (loop-at setting))) (at (deciding setting)) (one (deciding setting)) (formed setting) (read-set-ref (U (loop-at setting)) (formed setting) q) q)
       (c .if11 .taken)
 
   set-name : LaidName (U (loop-at setting) .«ref_name»)
-  set-name = by-either (eqb setting-kind 5) (eqb setting-kind 7) (λ y. name-5 (U (loop-at setting)) (formed setting) (eqb-true setting-kind 5 y)) (λ y. name-7 (U (loop-at setting)) (formed setting) (eqb-true setting-kind 7 y)) (c .if11 .taken)
+  set-name = by-either (eqb setting-kind setBranchSnapshotKind) (eqb setting-kind setRefKind) (λ y. branch-name-laid (U (loop-at setting)) (formed setting) (eqb-true setting-kind setBranchSnapshotKind y)) (λ y. set-name-laid (U (loop-at setting)) (formed setting) (eqb-true setting-kind setRefKind y)) (c .if11 .taken)
 
 -- the snapshot's id, from its bits
-target-key : (c : tie.After-struct-told2 Inv-loop μ-loop Inv-loop2 μ-loop2) → toZ w64 (ofZ w64 (c .before .target .result .0)) ≡ midway (c .before .before) .wanted .snapshot
+target-key : (c : tie.After-struct-told2 Inv-loop μ-loop Inv-loop2 μ-loop2) → toZ w64 (ofZ w64 (c .before .ref-target .result .0)) ≡ midway (c .before .before) .wanted .snapshot
 target-key c =
     let W = midway (c .before .before) in
-    toZ-ofZ (sfits-of (c .struct-told2 .given .0 .1)) ∙ c .before .target .ensures (W .state .metadata .refs) ∙ ap (λ (x : plain.Reference). x .snapshot) (sym (W .asks))
+    toZ-ofZ (sfits-of (c .struct-told2 .given .0 .1)) ∙ c .before .ref-target .ensures (W .state .metadata .refs) ∙ ap (λ (x : plain.Reference). x .snapshot) (sym (W .asks))
 
 module _ (c : tie.After-set-ref Inv-loop μ-loop Inv-loop2 μ-loop2) where
   abbrev sought : tie.Joined12 Inv-loop μ-loop Inv-loop2 μ-loop2
@@ -388,7 +385,7 @@ module _ (c : tie.Else13 Inv-loop μ-loop Inv-loop2 μ-loop2) where
 
 -- ---- the last kind
 
-last-kind : (c : tie.Else19 Inv-loop μ-loop Inv-loop2 μ-loop2) → U (loop-at (c .before .before .before .before .before .before .before .before .before .before .before)) .kind ≡ 13
+last-kind : (c : tie.Else19 Inv-loop μ-loop Inv-loop2 μ-loop2) → U (loop-at (c .before .before .before .before .before .before .before .before .before .before .before)) .kind ≡ setDefaultSortOrderKind
 last-kind c =
     let e18 = c .before in
     let e17 = e18 .before in
@@ -403,21 +400,21 @@ last-kind c =
     let e4 = e5 .before in
     let u = U (loop-at e4) in
     let k = u .kind in
-    let four = neither (eqb k 4) (eqb k 5 && not (loop-at e4 .loop2 .half)) (e8 .if8 .left) in
-    let five = neither (eqb k 5) (eqb k 7) (e11 .if11 .left) in
-    only-one k 13
-    (not-first k 12 (13 ∷ []) (c .if19 .left)
-    (not-first k 11 (12 ∷ 13 ∷ []) (e18 .if18 .left)
-    (not-first k 10 (11 ∷ 12 ∷ 13 ∷ []) (e17 .if17 .left)
-    (not-first k 9 (10 ∷ 11 ∷ 12 ∷ 13 ∷ []) (e16 .if16 .left)
-    (not-first k 8 (9 ∷ 10 ∷ 11 ∷ 12 ∷ 13 ∷ []) (e15 .if15 .left)
-    (not-first k 7 (8 ∷ 9 ∷ 10 ∷ 11 ∷ 12 ∷ 13 ∷ []) (eqb-false k 7 (five .1))
-    (not-first k 6 (7 ∷ 8 ∷ 9 ∷ 10 ∷ 11 ∷ 12 ∷ 13 ∷ []) (e14 .if14 .left)
-    (not-first k 5 (6 ∷ 7 ∷ 8 ∷ 9 ∷ 10 ∷ 11 ∷ 12 ∷ 13 ∷ []) (eqb-false k 5 (five .0))
-    (not-first k 4 (5 ∷ 6 ∷ 7 ∷ 8 ∷ 9 ∷ 10 ∷ 11 ∷ 12 ∷ 13 ∷ []) (eqb-false k 4 (four .0))
-    (not-first k 3 (4 ∷ 5 ∷ 6 ∷ 7 ∷ 8 ∷ 9 ∷ 10 ∷ 11 ∷ 12 ∷ 13 ∷ []) (e7 .if7 .left)
-    (not-first k 2 (3 ∷ 4 ∷ 5 ∷ 6 ∷ 7 ∷ 8 ∷ 9 ∷ 10 ∷ 11 ∷ 12 ∷ 13 ∷ []) (e6 .if6 .left)
-    (not-first k 1 (2 ∷ 3 ∷ 4 ∷ 5 ∷ 6 ∷ 7 ∷ 8 ∷ 9 ∷ 10 ∷ 11 ∷ 12 ∷ 13 ∷ []) (e5 .if5 .left) (known u (formed e4))))))))))))))
+    let four = neither (eqb k addSnapshotKind) (eqb k setBranchSnapshotKind && not (loop-at e4 .loop2 .half)) (e8 .if8 .left) in
+    let five = neither (eqb k setBranchSnapshotKind) (eqb k setRefKind) (e11 .if11 .left) in
+    only-one k setDefaultSortOrderKind
+    (not-first k addSortOrderKind (drop 12 kinds) (c .if19 .left)
+    (not-first k removeSchemasKind (drop 11 kinds) (e18 .if18 .left)
+    (not-first k setCurrentSchemaKind (drop 10 kinds) (e17 .if17 .left)
+    (not-first k addSchemaKind (drop 9 kinds) (e16 .if16 .left)
+    (not-first k removeRefKind (drop 8 kinds) (e15 .if15 .left)
+    (not-first k setRefKind (drop 7 kinds) (eqb-false k setRefKind (five .1))
+    (not-first k removeSnapshotsKind (drop 6 kinds) (e14 .if14 .left)
+    (not-first k setBranchSnapshotKind (drop 5 kinds) (eqb-false k setBranchSnapshotKind (five .0))
+    (not-first k addSnapshotKind (drop 4 kinds) (eqb-false k addSnapshotKind (four .0))
+    (not-first k setLocationKind (drop 3 kinds) (e7 .if7 .left)
+    (not-first k upgradeFormatVersionKind (drop 2 kinds) (e6 .if6 .left)
+    (not-first k assignUuidKind (drop 1 kinds) (e5 .if5 .left) (known u (formed e4))))))))))))))
 
 -- ---- the close
 
@@ -609,7 +606,7 @@ loop2-again-5 : tie.Need-loop2-again-5 Inv-loop μ-loop Inv-loop2 μ-loop2
 loop2-again-5 c =
     let e = c .before .before in
     let q = c .before .if5 .taken in
-    let s = S e 1 q (λ (z : 1 ≡ 5). omega arith) in
+    let s = S e assignUuidKind q refl in
     let T = s .stands .tables in
     let u = U (loop-at e) in
     let k = is-uuid u (formed e) q in
@@ -627,14 +624,14 @@ loop2-again-6 : tie.Need-loop2-again-6 Inv-loop μ-loop Inv-loop2 μ-loop2
 loop2-again-6 c =
     let e = c .before .before .before in
     let q = c .before .if6 .taken in
-    let s = S e 2 q (λ (z : 2 ≡ 5). omega arith) in
+    let s = S e upgradeFormatVersionKind q refl in
     let T = s .stands .tables in
     let u = U (loop-at e) in
     let k = is-version u (formed e) q in
     waits-now (deciding e) (fields-decided s (readUpdate u) (at (deciding e)) (one (deciding e)) (formed e) (λ (z : group (readUpdate u) ≡ 0). omega arith) (c .upgrade-format-version .result) (c .upgrade-format-version .ensures (termsOf (given (loop-at e))) (s .state) (T .builder)) k)
 
 set-location-requires : tie.Need-set-location-requires Inv-loop μ-loop Inv-loop2 μ-loop2
-set-location-requires c κs = let e = c .before .before .before in (location-fits (S e 3 (c .if7 .taken) (λ (z : 3 ≡ 5). omega arith) .stands), (tidy e, (formed-kind (U (loop-at e)) (formed e), c .if7 .taken)))
+set-location-requires c κs = let e = c .before .before .before in (location-fits (S e setLocationKind (c .if7 .taken) refl .stands), (tidy e, (formed-kind (U (loop-at e)) (formed e), c .if7 .taken)))
 
 loop2-less-7 : tie.Need-loop2-less-7 Inv-loop μ-loop Inv-loop2 μ-loop2
 loop2-less-7 c =
@@ -645,14 +642,14 @@ loop2-again-7 : tie.Need-loop2-again-7 Inv-loop μ-loop Inv-loop2 μ-loop2
 loop2-again-7 c =
     let e = c .before .before .before .before in
     let q = c .before .if7 .taken in
-    let s = S e 3 q (λ (z : 3 ≡ 5). omega arith) in
+    let s = S e setLocationKind q refl in
     let T = s .stands .tables in
     let u = U (loop-at e) in
     let k = is-location u (formed e) q in
     waits-now (deciding e) (fields-decided s (readUpdate u) (at (deciding e)) (one (deciding e)) (formed e) (λ (z : group (readUpdate u) ≡ 0). omega arith) (c .set-location .result) (c .set-location .ensures (termsOf (given (loop-at e))) (s .state) (T .builder)) k)
 
 commits-on-tag-requires : tie.Need-commits-on-tag-requires Inv-loop μ-loop Inv-loop2 μ-loop2
-commits-on-tag-requires c κs = let e = adding c in (laid-refs (adding-standing c .stands), λ q. name-5 (U (loop-at e)) (formed e) q)
+commits-on-tag-requires c κs = let e = adding c in (laid-refs (adding-standing c .stands), λ q. branch-name-laid (U (loop-at e)) (formed e) q)
 
 array-share-prefix-ids : tie.Need-array-share-prefix-ids Inv-loop μ-loop Inv-loop2 μ-loop2
 array-share-prefix-ids c = held-within (adding-standing (c .before) .stands)
@@ -734,8 +731,8 @@ loop2-again-9 c =
     let e = adding t in
     waits-now (deciding e) (add-decided (adding-standing t) (at (deciding e)) (one (deciding e)) (formed e) (either-kind t) (a .before .before .commits-on-tag .ensures) (add-says a) (add-zero w) (grown-tables c .0) (grown-tables c .1) (key-back (c .before .before .before)))
 
-target-requires : tie.Need-target-requires Inv-loop μ-loop Inv-loop2 μ-loop2
-target-requires c κs = search needs
+ref-target-requires : tie.Need-ref-target-requires Inv-loop μ-loop Inv-loop2 μ-loop2
+ref-target-requires c κs = search needs
 
 array-share-prefix-ids-3 : tie.Need-array-share-prefix-ids-3 Inv-loop μ-loop Inv-loop2 μ-loop2
 array-share-prefix-ids-3 c = held-within (midway (c .before .before) .stands)
@@ -822,7 +819,7 @@ remove-snapshots-requires : tie.Need-remove-snapshots-requires Inv-loop μ-loop 
 remove-snapshots-requires c κs =
     let e = c .before .before .before .before .before .before in
     let q = c .if14 .taken in
-    let s = S e 6 q (λ (z : 6 ≡ 5). omega arith) in
+    let s = S e removeSnapshotsKind q refl in
     let E = s .stands in
     let T = E .tables in
     let u = U (loop-at e) in
@@ -832,7 +829,7 @@ without-requires : tie.Need-without-requires Inv-loop μ-loop Inv-loop2 μ-loop2
 without-requires c κs =
     let e = c .before .before .before .before .before .before .before in
     let q = c .before .if14 .taken in
-    let s = S e 6 q (λ (z : 6 ≡ 5). omega arith) in
+    let s = S e removeSnapshotsKind q refl in
     let E = s .stands in
     let T = E .tables in
     let u = U (loop-at e) in
@@ -842,11 +839,11 @@ pointing-requires : tie.Need-pointing-requires Inv-loop μ-loop Inv-loop2 μ-loo
 pointing-requires c κs =
     let e = c .before .before .before .before .before .before .before .before in
     let q = c .before .before .if14 .taken in
-    let s = S e 6 q (λ (z : 6 ≡ 5). omega arith) in
+    let s = S e removeSnapshotsKind q refl in
     let E = s .stands in
     let T = E .tables in
     let u = U (loop-at e) in
-    (laid-refs E, left-laid s (readUpdate u) (at (deciding e)) (one (deciding e)) (formed e) (readSnapshotIds (u .«snapshot_ids»)) (read-6 u (formed e) q) (c .without .ensures))
+    (laid-refs E, left-laid s (readUpdate u) (at (deciding e)) (one (deciding e)) (formed e) (readSnapshotIds (u .«snapshot_ids»)) (read-remove-snapshots u (formed e) q) (c .without .ensures))
 
 ids-of-requires-3 : tie.Need-ids-of-requires-3 Inv-loop μ-loop Inv-loop2 μ-loop2
 ids-of-requires-3 c κs = search needs
@@ -860,33 +857,33 @@ loop2-again-12 : tie.Need-loop2-again-12 Inv-loop μ-loop Inv-loop2 μ-loop2
 loop2-again-12 c =
     let e = c .before .before .before .before .before .before .before .before .before .before .before in
     let q = c .before .before .before .before .before .if14 .taken in
-    let s = S e 6 q (λ (z : 6 ≡ 5). omega arith) in
+    let s = S e removeSnapshotsKind q refl in
     let E = s .stands in
     let T = E .tables in
     let u = U (loop-at e) in
     let l = c .before .before .before in
-    let R = removed-decided s (readUpdate u) (at (deciding e)) (one (deciding e)) (formed e) (readSnapshotIds (u .«snapshot_ids»)) (read-6 u (formed e) q) (l .before .remove-snapshots .ensures (s .state) (T .builder) (T .snapshots)) (l .without .ensures) (c .before .ids-of3 .ensures (left-laid s (readUpdate u) (at (deciding e)) (one (deciding e)) (formed e) (readSnapshotIds (u .«snapshot_ids»)) (read-6 u (formed e) q) (l .without .ensures))) (c .before .before .pointing .ensures) in
+    let R = removed-decided s (readUpdate u) (at (deciding e)) (one (deciding e)) (formed e) (readSnapshotIds (u .«snapshot_ids»)) (read-remove-snapshots u (formed e) q) (l .before .remove-snapshots .ensures (s .state) (T .builder) (T .snapshots)) (l .without .ensures) (c .before .ids-of3 .ensures (left-laid s (readUpdate u) (at (deciding e)) (one (deciding e)) (formed e) (readSnapshotIds (u .«snapshot_ids»)) (read-remove-snapshots u (formed e) q) (l .without .ensures))) (c .before .before .pointing .ensures) in
     waits-now (deciding e) R
 
 remove-ref-requires : tie.Need-remove-ref-requires Inv-loop μ-loop Inv-loop2 μ-loop2
 remove-ref-requires c κs =
     let e = c .before .before .before .before .before .before .before in
     let q = c .if15 .taken in
-    let s = S e 8 q (λ (z : 8 ≡ 5). omega arith) in
+    let s = S e removeRefKind q refl in
     let E = s .stands in
     let T = E .tables in
     let u = U (loop-at e) in
-    (laid-refs E, (name-8 u (formed e) q, (tidy e, q)))
+    (laid-refs E, (removed-name-laid u (formed e) q, (tidy e, q)))
 
 without-requires-2 : tie.Need-without-requires-2 Inv-loop μ-loop Inv-loop2 μ-loop2
 without-requires-2 c κs =
     let e = c .before .before .before .before .before .before .before .before in
     let q = c .before .if15 .taken in
-    let s = S e 8 q (λ (z : 8 ≡ 5). omega arith) in
+    let s = S e removeRefKind q refl in
     let E = s .stands in
     let T = E .tables in
     let u = U (loop-at e) in
-    (laid-refs E, name-8 u (formed e) q)
+    (laid-refs E, removed-name-laid u (formed e) q)
 
 loop2-less-13 : tie.Need-loop2-less-13 Inv-loop μ-loop Inv-loop2 μ-loop2
 loop2-less-13 c =
@@ -897,18 +894,18 @@ loop2-again-13 : tie.Need-loop2-again-13 Inv-loop μ-loop Inv-loop2 μ-loop2
 loop2-again-13 c =
     let e = c .before .before .before .before .before .before .before .before .before in
     let q = c .before .before .if15 .taken in
-    let s = S e 8 q (λ (z : 8 ≡ 5). omega arith) in
+    let s = S e removeRefKind q refl in
     let E = s .stands in
     let T = E .tables in
     let u = U (loop-at e) in
     let k = is-ref-removal u (formed e) q in
-    waits-now (deciding e) (refs-decided s (readUpdate u) (at (deciding e)) (one (deciding e)) (formed e) (λ (z : group (readUpdate u) ≡ 0). omega arith) (c .before .remove-ref .result) (c .before .remove-ref .ensures (termsOf (given (loop-at e))) (s .state) (T .builder) (T .refs)) k (λ z. refs-left E (readUpdate u) (readRefName (u .«ref_name»)) (read-8 u (formed e) q) (c .without2 .ensures)))
+    waits-now (deciding e) (refs-decided s (readUpdate u) (at (deciding e)) (one (deciding e)) (formed e) (λ (z : group (readUpdate u) ≡ 0). omega arith) (c .before .remove-ref .result) (c .before .remove-ref .ensures (termsOf (given (loop-at e))) (s .state) (T .builder) (T .refs)) k (λ z. refs-left E (readUpdate u) (readRefName (u .«ref_name»)) (read-remove-ref u (formed e) q) (c .without2 .ensures)))
 
 add-schema-requires : tie.Need-add-schema-requires Inv-loop μ-loop Inv-loop2 μ-loop2
 add-schema-requires c κs =
     let e = c .before .before .before .before .before .before .before .before in
     let q = c .if16 .taken in
-    let s = S e 9 q (λ (z : 9 ≡ 5). omega arith) in
+    let s = S e addSchemaKind q refl in
     let E = s .stands in
     let T = E .tables in
     let u = U (loop-at e) in
@@ -918,7 +915,7 @@ schemas-after-requires : tie.Need-schemas-after-requires Inv-loop μ-loop Inv-lo
 schemas-after-requires c κs =
     let e = c .before .before .before .before .before .before .before .before .before in
     let q = c .before .if16 .taken in
-    let s = S e 9 q (λ (z : 9 ≡ 5). omega arith) in
+    let s = S e addSchemaKind q refl in
     let E = s .stands in
     let T = E .tables in
     let u = U (loop-at e) in
@@ -933,7 +930,7 @@ loop2-again-14 : tie.Need-loop2-again-14 Inv-loop μ-loop Inv-loop2 μ-loop2
 loop2-again-14 c =
     let e = c .before .before .before .before .before .before .before .before .before .before in
     let q = c .before .before .if16 .taken in
-    let s = S e 9 q (λ (z : 9 ≡ 5). omega arith) in
+    let s = S e addSchemaKind q refl in
     let E = s .stands in
     let T = E .tables in
     let u = U (loop-at e) in
@@ -945,7 +942,7 @@ set-current-schema-requires : tie.Need-set-current-schema-requires Inv-loop μ-l
 set-current-schema-requires c κs =
     let e = c .before .before .before .before .before .before .before .before .before in
     let q = c .if17 .taken in
-    let s = S e 10 q (λ (z : 10 ≡ 5). omega arith) in
+    let s = S e setCurrentSchemaKind q refl in
     let E = s .stands in
     let T = E .tables in
     let u = U (loop-at e) in
@@ -960,7 +957,7 @@ loop2-again-15 : tie.Need-loop2-again-15 Inv-loop μ-loop Inv-loop2 μ-loop2
 loop2-again-15 c =
     let e = c .before .before .before .before .before .before .before .before .before .before in
     let q = c .before .if17 .taken in
-    let s = S e 10 q (λ (z : 10 ≡ 5). omega arith) in
+    let s = S e setCurrentSchemaKind q refl in
     let E = s .stands in
     let T = E .tables in
     let u = U (loop-at e) in
@@ -971,7 +968,7 @@ remove-schemas-requires : tie.Need-remove-schemas-requires Inv-loop μ-loop Inv-
 remove-schemas-requires c κs =
     let e = c .before .before .before .before .before .before .before .before .before .before in
     let q = c .if18 .taken in
-    let s = S e 11 q (λ (z : 11 ≡ 5). omega arith) in
+    let s = S e removeSchemasKind q refl in
     let E = s .stands in
     let T = E .tables in
     let u = U (loop-at e) in
@@ -981,7 +978,7 @@ without-requires-3 : tie.Need-without-requires-3 Inv-loop μ-loop Inv-loop2 μ-l
 without-requires-3 c κs =
     let e = c .before .before .before .before .before .before .before .before .before .before .before in
     let q = c .before .if18 .taken in
-    let s = S e 11 q (λ (z : 11 ≡ 5). omega arith) in
+    let s = S e removeSchemasKind q refl in
     let E = s .stands in
     let T = E .tables in
     let u = U (loop-at e) in
@@ -996,18 +993,18 @@ loop2-again-16 : tie.Need-loop2-again-16 Inv-loop μ-loop Inv-loop2 μ-loop2
 loop2-again-16 c =
     let e = c .before .before .before .before .before .before .before .before .before .before .before .before in
     let q = c .before .before .if18 .taken in
-    let s = S e 11 q (λ (z : 11 ≡ 5). omega arith) in
+    let s = S e removeSchemasKind q refl in
     let E = s .stands in
     let T = E .tables in
     let u = U (loop-at e) in
     let k = is-schema-removal u (formed e) q in
-    waits-now (deciding e) (schemas-decided s (readUpdate u) (at (deciding e)) (one (deciding e)) (formed e) (λ (z : group (readUpdate u) ≡ 0). omega arith) (c .before .remove-schemas .result) (c .before .remove-schemas .ensures (termsOf (given (loop-at e))) (s .state) (T .builder) (T .schemas)) k (λ z. schemas-left E (readUpdate u) (readSchemaIds (u .«schema_ids»)) (read-11 u (formed e) q) (c .without3 .ensures)))
+    waits-now (deciding e) (schemas-decided s (readUpdate u) (at (deciding e)) (one (deciding e)) (formed e) (λ (z : group (readUpdate u) ≡ 0). omega arith) (c .before .remove-schemas .result) (c .before .remove-schemas .ensures (termsOf (given (loop-at e))) (s .state) (T .builder) (T .schemas)) k (λ z. schemas-left E (readUpdate u) (readSchemaIds (u .«schema_ids»)) (read-remove-schemas u (formed e) q) (c .without3 .ensures)))
 
 add-sort-order-requires : tie.Need-add-sort-order-requires Inv-loop μ-loop Inv-loop2 μ-loop2
 add-sort-order-requires c κs =
     let e = c .before .before .before .before .before .before .before .before .before .before .before in
     let q = c .if19 .taken in
-    let s = S e 12 q (λ (z : 12 ≡ 5). omega arith) in
+    let s = S e addSortOrderKind q refl in
     let E = s .stands in
     let T = E .tables in
     let u = U (loop-at e) in
@@ -1017,7 +1014,7 @@ orders-after-requires : tie.Need-orders-after-requires Inv-loop μ-loop Inv-loop
 orders-after-requires c κs =
     let e = c .before .before .before .before .before .before .before .before .before .before .before .before in
     let q = c .before .if19 .taken in
-    let s = S e 12 q (λ (z : 12 ≡ 5). omega arith) in
+    let s = S e addSortOrderKind q refl in
     let E = s .stands in
     let T = E .tables in
     let u = U (loop-at e) in
@@ -1032,7 +1029,7 @@ loop2-again-17 : tie.Need-loop2-again-17 Inv-loop μ-loop Inv-loop2 μ-loop2
 loop2-again-17 c =
     let e = c .before .before .before .before .before .before .before .before .before .before .before .before .before in
     let q = c .before .before .if19 .taken in
-    let s = S e 12 q (λ (z : 12 ≡ 5). omega arith) in
+    let s = S e addSortOrderKind q refl in
     let E = s .stands in
     let T = E .tables in
     let u = U (loop-at e) in
@@ -1044,7 +1041,7 @@ set-default-sort-order-requires : tie.Need-set-default-sort-order-requires Inv-l
 set-default-sort-order-requires c κs =
     let e = c .before .before .before .before .before .before .before .before .before .before .before in
     let q = last-kind c in
-    let s = S e 13 q (λ (z : 13 ≡ 5). omega arith) in
+    let s = S e setDefaultSortOrderKind q refl in
     let E = s .stands in
     let T = E .tables in
     let u = U (loop-at e) in
@@ -1059,7 +1056,7 @@ loop2-again-18 : tie.Need-loop2-again-18 Inv-loop μ-loop Inv-loop2 μ-loop2
 loop2-again-18 c =
     let e = c .before .before .before .before .before .before .before .before .before .before .before .before in
     let q = last-kind (c .before) in
-    let s = S e 13 q (λ (z : 13 ≡ 5). omega arith) in
+    let s = S e setDefaultSortOrderKind q refl in
     let E = s .stands in
     let T = E .tables in
     let u = U (loop-at e) in
@@ -1193,7 +1190,7 @@ run-spec =
     add-adds
     loop2-less-9
     loop2-again-9
-    target-requires
+    ref-target-requires
     array-share-prefix-ids-3
     slice-aggregate-position
     position-requires

@@ -1,6 +1,4 @@
 -- A schema that can be put is put; otherwise the table is as it was.
-use mathlib.Core.Path.{_≡_, _∙_}
-use borrow.Author.Needs.{needs}
 use Rattle.schema_updates.proofs.schemas_after.Statement.{statement}
 use Rattle.schema_updates.proofs.schemas_after.Tie as tie
 

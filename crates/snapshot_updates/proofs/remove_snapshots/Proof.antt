@@ -4,7 +4,7 @@ use mathlib.Core.List.{List}
 use borrow.Author.Needs.{needs}
 use lib.ListN.{length}
 use Rattle.records.specs.declared.snapshot.Snapshots.{Snapshots}
-use Rattle.rules.specs.Register.{Snapshot, RemoveSnapshots}
+use Rattle.rules.specs.Register.{Snapshot}
 use Rattle.rules.specs.SnapshotUpdates.{heldSnapshots}
 use Rattle.rules.specs.Layout.{readSnapshots, laidSnapshotIds, readSnapshotIds}
 use Rattle.rules.specs.Kinds.{laidUpdate, withSnapshotIds}

@@ -8,7 +8,7 @@ use Rattle.records.specs.Blanks.{noRef}
 use Rattle.records.specs.declared.reference.NamedRef.{NamedRef}
 use Rattle.rules.specs.WellFormed.{pointsIn}
 use Rattle.rules.specs.Layout.{readSnapshots, readRef}
-use Rattle.blanks.proofs.Scans.{slots}
+use Rattle.formed.proofs.Scans.{slots}
 use Rattle.formed.proofs.Counted.{Taken, taken-start, taken-on, taken-end, all-counted}
 use Rattle.formed.proofs.Laid.{refs-fit}
 use Rattle.formed.proofs.metadata.refs_held.Statement.{statement}

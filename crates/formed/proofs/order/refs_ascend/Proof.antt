@@ -7,7 +7,7 @@ use Rattle.rules.specs.Register as plain
 use Rattle.rules.specs.Names.{nameBelow}
 use Rattle.rules.specs.Layout.{readRef}
 use Rattle.rules.proofs.Orders.{names-ordered}
-use Rattle.blanks.proofs.Scans.{slots}
+use Rattle.formed.proofs.Scans.{slots}
 use Rattle.formed.proofs.Ascends.{Ascended, ascended-start, ascended-on, ascended-end}
 use Rattle.formed.proofs.Laid.{refs-fit, laid-name}
 use Rattle.formed.proofs.order.refs_ascend.Statement.{statement}

@@ -6,7 +6,7 @@ use Rattle.records.specs.Blanks.{noSchema}
 use Rattle.rules.specs.Register as plain
 use Rattle.rules.specs.Layout.{readSchema}
 use Rattle.rules.proofs.Orders.{numbers-ordered}
-use Rattle.blanks.proofs.Scans.{slots}
+use Rattle.formed.proofs.Scans.{slots}
 use Rattle.formed.proofs.Ascends.{Ascended, ascended-start, ascended-on, ascended-end}
 use Rattle.formed.proofs.order.schemas_ascend.Statement.{statement}
 use Rattle.formed.proofs.order.schemas_ascend.Tie as tie

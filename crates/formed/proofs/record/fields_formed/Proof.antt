@@ -1,7 +1,7 @@
 -- The loop asks of each field that its id is at least 1 and that no field after it has the same.
 use Prim.Native.Nat.{_-_}
 use borrow.Author.Needs.{needs}
-use Rattle.blanks.proofs.Scans.{slots}
+use Rattle.formed.proofs.Scans.{slots}
 use Rattle.formed.proofs.Fields.{Checked, checked-start, checked-on, checked-end}
 use Rattle.formed.proofs.record.fields_formed.Statement.{statement}
 use Rattle.formed.proofs.record.fields_formed.Tie as tie

@@ -5,7 +5,7 @@ use mathlib.Core.Bool.{true, not}
 use borrow.Author.Needs.{needs}
 use Rattle.records.specs.declared.schema.SchemaField.{SchemaField}
 use Rattle.rules.specs.Words.{eqZ}
-use Rattle.blanks.proofs.Scans.{slots}
+use Rattle.formed.proofs.Scans.{slots}
 use Rattle.formed.proofs.Counted.{Taken, taken-start, taken-on, taken-end}
 use Rattle.formed.proofs.record.id_is_new.Statement.{statement}
 use Rattle.formed.proofs.record.id_is_new.Tie as tie

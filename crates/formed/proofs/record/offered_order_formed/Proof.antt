@@ -6,7 +6,7 @@ use Rattle.records.specs.Blanks.{noSortField}
 use Rattle.records.specs.declared.«sort_order».SortField.{SortField}
 use Rattle.rules.specs.WellFormed.{sortFieldFormed}
 use Rattle.rules.specs.Layout.{readSortField}
-use Rattle.blanks.proofs.Scans.{slots}
+use Rattle.formed.proofs.Scans.{slots}
 use Rattle.formed.proofs.Counted.{Taken, taken-start, taken-on, read-end, read-many}
 use Rattle.formed.proofs.record.offered_order_formed.Statement.{statement}
 use Rattle.formed.proofs.record.offered_order_formed.Tie as tie

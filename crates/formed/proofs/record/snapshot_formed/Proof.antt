@@ -1,7 +1,7 @@
 -- The code tests what the rule tests; the parent counts where its flag is set.
 use borrow.Author.Needs.{needs}
 use lib.Signed.{nonNeg}
-use Rattle.blanks.proofs.Signs.{behind-flag}
+use Rattle.formed.proofs.Signs.{behind-flag}
 use Rattle.formed.proofs.record.snapshot_formed.Statement.{statement}
 use Rattle.formed.proofs.record.snapshot_formed.Tie as tie
 

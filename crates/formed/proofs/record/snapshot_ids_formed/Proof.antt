@@ -5,7 +5,7 @@ use borrow.Author.Needs.{needs}
 use lib.Signed.{nonNeg}
 use Rattle.records.specs.Blanks.{noSnapshotId}
 use Rattle.records.specs.declared.counters.SnapshotId.{SnapshotId}
-use Rattle.blanks.proofs.Scans.{slots}
+use Rattle.formed.proofs.Scans.{slots}
 use Rattle.formed.proofs.Counted.{Taken, taken-start, taken-on, read-end, read-many}
 use Rattle.formed.proofs.record.snapshot_ids_formed.Statement.{statement}
 use Rattle.formed.proofs.record.snapshot_ids_formed.Tie as tie

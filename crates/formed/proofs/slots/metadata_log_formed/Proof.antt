@@ -6,7 +6,7 @@ use Rattle.rules.specs.Register as plain
 use Rattle.rules.specs.WellFormed.{fileNameFormed, metadataLogFormed}
 use Rattle.rules.specs.Blanks.{isTidyMetadataLogEntry, isBlankMetadataLogEntry, isTidyMetadataLog}
 use Rattle.rules.specs.Layout.{readMetadataLogEntry}
-use Rattle.blanks.proofs.Scans.{slots}
+use Rattle.formed.proofs.Scans.{slots}
 use Rattle.formed.proofs.Filled.{Filled, filled-start, filled-on, filled-end}
 use Rattle.formed.proofs.slots.metadata_log_formed.Statement.{statement}
 use Rattle.formed.proofs.slots.metadata_log_formed.Tie as tie

@@ -5,7 +5,7 @@ use Rattle.records.specs.Blanks.{noSortOrder}
 use Rattle.rules.specs.WellFormed.{orderFormed}
 use Rattle.rules.specs.Blanks.{isTidySortOrder, isBlankSortOrder, isTidySortOrders}
 use Rattle.rules.specs.Layout.{readSortOrder}
-use Rattle.blanks.proofs.Scans.{slots}
+use Rattle.formed.proofs.Scans.{slots}
 use Rattle.formed.proofs.Filled.{Filled, filled-start, filled-on, filled-end}
 use Rattle.formed.proofs.slots.orders_filled.Statement.{statement}
 use Rattle.formed.proofs.slots.orders_filled.Tie as tie

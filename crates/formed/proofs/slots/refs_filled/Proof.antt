@@ -5,7 +5,7 @@ use Rattle.records.specs.Blanks.{noRef}
 use Rattle.rules.specs.WellFormed.{refFormed}
 use Rattle.rules.specs.Blanks.{isTidyRef, isBlankRef, isTidyRefs}
 use Rattle.rules.specs.Layout.{readRef}
-use Rattle.blanks.proofs.Scans.{slots}
+use Rattle.formed.proofs.Scans.{slots}
 use Rattle.formed.proofs.Filled.{Filled, filled-start, filled-on, filled-end}
 use Rattle.formed.proofs.slots.refs_filled.Statement.{statement}
 use Rattle.formed.proofs.slots.refs_filled.Tie as tie

@@ -5,7 +5,7 @@ use Rattle.records.specs.Blanks.{noSchema}
 use Rattle.rules.specs.WellFormed.{schemaFormed}
 use Rattle.rules.specs.Blanks.{isTidySchema, isBlankSchema, isTidySchemas}
 use Rattle.rules.specs.Layout.{readSchema}
-use Rattle.blanks.proofs.Scans.{slots}
+use Rattle.formed.proofs.Scans.{slots}
 use Rattle.formed.proofs.Filled.{Filled, filled-start, filled-on, filled-end}
 use Rattle.formed.proofs.slots.schemas_filled.Statement.{statement}
 use Rattle.formed.proofs.slots.schemas_filled.Tie as tie

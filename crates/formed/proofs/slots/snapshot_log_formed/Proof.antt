@@ -10,7 +10,7 @@ use Rattle.rules.specs.Register as plain
 use Rattle.rules.specs.WellFormed.{snapshotLogFormed}
 use Rattle.rules.specs.Blanks.{isBlankLogEntry, isTidySnapshotLog}
 use Rattle.rules.specs.Layout.{readLogEntry}
-use Rattle.blanks.proofs.Scans.{slots}
+use Rattle.formed.proofs.Scans.{slots}
 use Rattle.formed.proofs.Filled.{Filled, filled-start, filled-on, filled-end, all-tidy}
 use Rattle.formed.proofs.slots.snapshot_log_formed.Statement.{statement}
 use Rattle.formed.proofs.slots.snapshot_log_formed.Tie as tie

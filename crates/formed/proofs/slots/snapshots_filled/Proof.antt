@@ -5,7 +5,7 @@ use Rattle.records.specs.Blanks.{noSnapshot}
 use Rattle.rules.specs.WellFormed.{snapshotFormed}
 use Rattle.rules.specs.Blanks.{isTidySnapshot, isBlankSnapshot, isTidySnapshots}
 use Rattle.rules.specs.Layout.{readSnapshot}
-use Rattle.blanks.proofs.Scans.{slots}
+use Rattle.formed.proofs.Scans.{slots}
 use Rattle.formed.proofs.Filled.{Filled, filled-start, filled-on, filled-end}
 use Rattle.formed.proofs.slots.snapshots_filled.Statement.{statement}
 use Rattle.formed.proofs.slots.snapshots_filled.Tie as tie

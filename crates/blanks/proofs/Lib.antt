@@ -1,3 +1,0 @@
--- What the proofs of several functions cite.
-pub mod Signs
-pub mod Scans

@@ -1,0 +1,16 @@
+-- The bytes have their 96 slots, so what is found of them is what the rule says of the text.
+use mathlib.Core.Path.{ap}
+use mathlib.Core.Bool.{Bool, _&&_}
+use borrow.Author.Needs.{needs}
+use Rattle.rules.specs.Blanks.{isZero}
+use Rattle.formed.proofs.Scans.{with-slots}
+use Rattle.formed.proofs.blanks.location_blank.Statement.{statement}
+use Rattle.formed.proofs.blanks.location_blank.Tie as tie
+
+pub location-blank-spec : {M : Type 1} → statement M
+location-blank-spec =
+    tie.close
+    (tie.spec
+    (λ c. search needs)
+    (λ c κs. search needs)
+    (λ c. let t = c .before .before .before .args .t in ap (λ (z : Bool). isZero (t .len) && z) (with-slots isZero (t .bytes) 0 96 (search needs) (c .zeros-from .ensures))))
