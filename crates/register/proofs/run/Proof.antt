@@ -33,6 +33,7 @@ use Rattle.rules.proofs.Checks.{and-left, and-right, by-either, neither}
 use Rattle.tables.specs.Laid.{LaidName}
 use Rattle.tables.specs.Places.{indexOf}
 use Rattle.builder.specs.declared.decision.Decision.{Decision}
+use Rattle.builder.specs.Answers.{Decides}
 use Rattle.builder.specs.Pieces.{idsOf, isAbove}
 use Rattle.builder.proofs.Entries.{not-first, only-one}
 use Rattle.snapshot_updates.specs.Snapshots.{SnapshotDecided}
@@ -197,6 +198,10 @@ module _ (c : tie.Else1 Inv-loop μ-loop Inv-loop2 μ-loop2) where
 decided-less : (number listed place : ℕ) (half : Bool) {waits : Bool} → number ≡ 0 → waits ≡ false → cond (eqb number 0) (4 * (listed - place) + turns true false) 0 < cond (eqb number 0) (4 * (listed - place) + turns waits half) 0
 decided-less number listed place half z w = rw (z, w) (cases half (λ t. rw t (omega arith)) (λ f. rw f (omega arith)))
 
+turn-less : (e : tie.Else1 Inv-loop μ-loop Inv-loop2 μ-loop2) → let l = decided-at e .loop2 in let listed = given (decided-at e) .updates .count in
+    cond (eqb (l .number) 0) (4 * (listed - l .place) + turns true false) 0 < cond (eqb (l .number) 0) (4 * (listed - l .place) + turns (l .waits) (l .half)) 0
+turn-less e = let l = decided-at e .loop2 in decided-less (l .number) (given (decided-at e) .updates .count) (l .place) (l .half) (zero (e .before)) (e .if1 .left)
+
 -- the same where the first half of a branch commit may be decided
 halved-less : (number listed place : ℕ) (half now : Bool) {waits : Bool} → number ≡ 0 → waits ≡ false → (now ≡ true → half ≡ false) → cond (eqb number 0) (4 * (listed - place) + turns true now) 0 < cond (eqb number 0) (4 * (listed - place) + turns waits half) 0
 halved-less number listed place half now z w h = rw (z, w) (cases now (λ t. rw (t, h t) (omega arith)) (λ f. rw f (cases half (λ t. rw t (omega arith)) (λ u. rw u (omega arith)))))
@@ -223,6 +228,10 @@ module _ (c : tie.Else4 Inv-loop μ-loop Inv-loop2 μ-loop2) where
 module _ (e : tie.Else4 Inv-loop μ-loop Inv-loop2 μ-loop2) (k : ℕ) (q : U (loop-at e) .kind ≡ k) (n : eqb k setBranchSnapshotKind ≡ false) where
   S : Standing (given (loop-at e)) (loop-at e .loop2 .place) (here-pieces (loop-at e))
   S = standing e k q n
+
+  -- an update that changes single fields
+  fields : {d : Decision} → Decides (termsOf (given (loop-at e))) (U (loop-at e)) (S .state) d → group (readUpdate (U (loop-at e))) ≡ 1 → Turn (given (loop-at e)) (loop-at e .loop2 .number) (loop-at e .loop2 .place) true false (here-pieces (loop-at e)) d
+  fields A g = waits-now (deciding e) (fields-decided S (readUpdate (U (loop-at e))) (at (deciding e)) (one (deciding e)) (formed e) (λ (z : group (readUpdate (U (loop-at e))) ≡ 0). omega arith) _ A g)
 
 -- an addition, or the first half of a branch commit
 module _ (c : tie.Then8 Inv-loop μ-loop Inv-loop2 μ-loop2) where
@@ -459,21 +468,6 @@ module _ (c : tie.After-files Inv-loop μ-loop Inv-loop2 μ-loop2) where
   filed-so : FilesOf (termsOf (given (end-at (closing counted-at)))) (end (closing counted-at) .state .metadata) (c .files .result)
   filed-so = c .files .ensures (termsOf (given (end-at (closing counted-at)))) (end (closing counted-at) .state .metadata) (filed (end (closing counted-at) .stands) (c .before .limit .ensures))
 
-blank-requires : tie.Need-blank-requires Inv-loop μ-loop Inv-loop2 μ-loop2
-blank-requires c κs = search needs
-
-new-from-metadata-requires : tie.Need-new-from-metadata-requires Inv-loop μ-loop Inv-loop2 μ-loop2
-new-from-metadata-requires c κs = search needs
-
-decided-requires : tie.Need-decided-requires Inv-loop μ-loop Inv-loop2 μ-loop2
-decided-requires c κs = search needs
-
-ids-of-requires : tie.Need-ids-of-requires Inv-loop μ-loop Inv-loop2 μ-loop2
-ids-of-requires c κs = search needs
-
-last-time-requires : tie.Need-last-time-requires Inv-loop μ-loop Inv-loop2 μ-loop2
-last-time-requires c κs = search needs
-
 loop-holds : tie.Need-loop-holds Inv-loop μ-loop Inv-loop2 μ-loop2
 unfolding listSum
 loop-holds c = (omega arith, omega arith, λ h. (omega arith, omega arith))
@@ -483,9 +477,6 @@ mul-weight c = omega (arith, slotted c)
 
 element-copy-out-weight : tie.Need-element-copy-out-weight Inv-loop μ-loop Inv-loop2 μ-loop2
 element-copy-out-weight c = slotted c
-
-weight-requires : tie.Need-weight-requires Inv-loop μ-loop Inv-loop2 μ-loop2
-weight-requires c κs = search needs
 
 add-sum : tie.Need-add-sum Inv-loop μ-loop Inv-loop2 μ-loop2
 add-sum c = omega (arith, c .weight .ensures, counts (updateAt (G (c .before .before .before)) (c .before .before .loop .place) .kind) .1, slotted (c .before), c .before .before .loop .inv .1)
@@ -498,9 +489,6 @@ loop-less c = omega (arith, slotted (c .before))
 
 loop-again : tie.Need-loop-again Inv-loop μ-loop Inv-loop2 μ-loop2
 loop-again c = (omega (arith, slotted (c .before)), omega (arith, c .weight .ensures, counts (updateAt (G (c .before .before .before)) (c .before .before .loop .place) .kind) .1, c .before .before .loop .inv .1), more-summed (c .before) (c .weight .ensures ∙ sym (weight-read (updateAt (G (c .before .before .before)) (c .before .before .loop .place)))))
-
-start-number-requires : tie.Need-start-number-requires Inv-loop μ-loop Inv-loop2 μ-loop2
-start-number-requires c κs = search needs
 
 loop2-holds : tie.Need-loop2-holds Inv-loop μ-loop Inv-loop2 μ-loop2
 loop2-holds c =
@@ -576,16 +564,8 @@ mul-update c = omega (arith, below c, short (c .before))
 element-copy-out-update : tie.Need-element-copy-out-update Inv-loop μ-loop Inv-loop2 μ-loop2
 element-copy-out-update c = omega (arith, below c, short (c .before))
 
-is-formed-requires : tie.Need-is-formed-requires Inv-loop μ-loop Inv-loop2 μ-loop2
-is-formed-requires c κs = search needs
-
-decided-requires-2 : tie.Need-decided-requires-2 Inv-loop μ-loop Inv-loop2 μ-loop2
-decided-requires-2 c κs = search needs
-
 loop2-less-4 : tie.Need-loop2-less-4 Inv-loop μ-loop Inv-loop2 μ-loop2
-loop2-less-4 c =
-    let e = c .before .before .before .before in
-    decided-less (decided-at e .loop2 .number) (given (decided-at e) .updates .count) (decided-at e .loop2 .place) (decided-at e .loop2 .half) (zero (e .before)) (e .if1 .left)
+loop2-less-4 c = turn-less (c .before .before .before .before)
 
 loop2-again-4 : tie.Need-loop2-again-4 Inv-loop μ-loop Inv-loop2 μ-loop2
 loop2-again-4 c =
@@ -598,55 +578,40 @@ assign-uuid-requires : tie.Need-assign-uuid-requires Inv-loop μ-loop Inv-loop2 
 assign-uuid-requires c κs = (tidy (c .before), c .if5 .taken)
 
 loop2-less-5 : tie.Need-loop2-less-5 Inv-loop μ-loop Inv-loop2 μ-loop2
-loop2-less-5 c =
-    let e = deciding (c .before .before) in
-    decided-less (decided-at e .loop2 .number) (given (decided-at e) .updates .count) (decided-at e .loop2 .place) (decided-at e .loop2 .half) (zero (e .before)) (e .if1 .left)
+loop2-less-5 c = turn-less (deciding (c .before .before))
 
 loop2-again-5 : tie.Need-loop2-again-5 Inv-loop μ-loop Inv-loop2 μ-loop2
 loop2-again-5 c =
     let e = c .before .before in
     let q = c .before .if5 .taken in
     let s = S e assignUuidKind q refl in
-    let T = s .stands .tables in
-    let u = U (loop-at e) in
-    let k = is-uuid u (formed e) q in
-    waits-now (deciding e) (fields-decided s (readUpdate u) (at (deciding e)) (one (deciding e)) (formed e) (λ (z : group (readUpdate u) ≡ 0). omega arith) (c .assign-uuid .result) (c .assign-uuid .ensures (termsOf (given (loop-at e))) (s .state) (T .builder)) k)
+    fields e assignUuidKind q refl (c .assign-uuid .ensures (termsOf (given (loop-at e))) (s .state) (s .stands .tables .builder)) (is-uuid (U (loop-at e)) (formed e) q)
 
 upgrade-format-version-requires : tie.Need-upgrade-format-version-requires Inv-loop μ-loop Inv-loop2 μ-loop2
 upgrade-format-version-requires c κs = (tidy (c .before .before), c .if6 .taken)
 
 loop2-less-6 : tie.Need-loop2-less-6 Inv-loop μ-loop Inv-loop2 μ-loop2
-loop2-less-6 c =
-    let e = deciding (c .before .before .before) in
-    decided-less (decided-at e .loop2 .number) (given (decided-at e) .updates .count) (decided-at e .loop2 .place) (decided-at e .loop2 .half) (zero (e .before)) (e .if1 .left)
+loop2-less-6 c = turn-less (deciding (c .before .before .before))
 
 loop2-again-6 : tie.Need-loop2-again-6 Inv-loop μ-loop Inv-loop2 μ-loop2
 loop2-again-6 c =
     let e = c .before .before .before in
     let q = c .before .if6 .taken in
     let s = S e upgradeFormatVersionKind q refl in
-    let T = s .stands .tables in
-    let u = U (loop-at e) in
-    let k = is-version u (formed e) q in
-    waits-now (deciding e) (fields-decided s (readUpdate u) (at (deciding e)) (one (deciding e)) (formed e) (λ (z : group (readUpdate u) ≡ 0). omega arith) (c .upgrade-format-version .result) (c .upgrade-format-version .ensures (termsOf (given (loop-at e))) (s .state) (T .builder)) k)
+    fields e upgradeFormatVersionKind q refl (c .upgrade-format-version .ensures (termsOf (given (loop-at e))) (s .state) (s .stands .tables .builder)) (is-version (U (loop-at e)) (formed e) q)
 
 set-location-requires : tie.Need-set-location-requires Inv-loop μ-loop Inv-loop2 μ-loop2
 set-location-requires c κs = let e = c .before .before .before in (location-fits (S e setLocationKind (c .if7 .taken) refl .stands), (tidy e, (formed-kind (U (loop-at e)) (formed e), c .if7 .taken)))
 
 loop2-less-7 : tie.Need-loop2-less-7 Inv-loop μ-loop Inv-loop2 μ-loop2
-loop2-less-7 c =
-    let e = deciding (c .before .before .before .before) in
-    decided-less (decided-at e .loop2 .number) (given (decided-at e) .updates .count) (decided-at e .loop2 .place) (decided-at e .loop2 .half) (zero (e .before)) (e .if1 .left)
+loop2-less-7 c = turn-less (deciding (c .before .before .before .before))
 
 loop2-again-7 : tie.Need-loop2-again-7 Inv-loop μ-loop Inv-loop2 μ-loop2
 loop2-again-7 c =
     let e = c .before .before .before .before in
     let q = c .before .if7 .taken in
     let s = S e setLocationKind q refl in
-    let T = s .stands .tables in
-    let u = U (loop-at e) in
-    let k = is-location u (formed e) q in
-    waits-now (deciding e) (fields-decided s (readUpdate u) (at (deciding e)) (one (deciding e)) (formed e) (λ (z : group (readUpdate u) ≡ 0). omega arith) (c .set-location .result) (c .set-location .ensures (termsOf (given (loop-at e))) (s .state) (T .builder)) k)
+    fields e setLocationKind q refl (c .set-location .ensures (termsOf (given (loop-at e))) (s .state) (s .stands .tables .builder)) (is-location (U (loop-at e)) (formed e) q)
 
 commits-on-tag-requires : tie.Need-commits-on-tag-requires Inv-loop μ-loop Inv-loop2 μ-loop2
 commits-on-tag-requires c κs = let e = adding c in (laid-refs (adding-standing c .stands), λ q. branch-name-laid (U (loop-at e)) (formed e) q)
@@ -680,9 +645,6 @@ array-share-prefix-ids-2 c = held-within (adding-standing (add-kind (c .before .
 slice-aggregate-is-last : tie.Need-slice-aggregate-is-last Inv-loop μ-loop Inv-loop2 μ-loop2
 slice-aggregate-is-last c = held-slice (adding-standing (add-kind (c .before .before .before .before)) .stands)
 
-is-last-requires : tie.Need-is-last-requires Inv-loop μ-loop Inv-loop2 μ-loop2
-is-last-requires c κs = search needs
-
 mul-snapshot : tie.Need-mul-snapshot Inv-loop μ-loop Inv-loop2 μ-loop2
 mul-snapshot c = omega (arith, add-room (to-else9 (c .before)))
 
@@ -704,9 +666,6 @@ put-requires c κs =
     let E = adding-standing (add-kind e) .stands in
     let x = U (loop-at (adding (add-kind e))) .snapshot in
     (laid-snapshots E, (add-back e, (add-room e, put-new E x (add-back e) (add-fine e))))
-
-ids-of-requires-2 : tie.Need-ids-of-requires-2 Inv-loop μ-loop Inv-loop2 μ-loop2
-ids-of-requires-2 c κs = search needs
 
 mul-added : tie.Need-mul-added Inv-loop μ-loop Inv-loop2 μ-loop2
 mul-added c = omega (arith, adds-room (to-else9 (c .before)))
@@ -731,17 +690,11 @@ loop2-again-9 c =
     let e = adding t in
     waits-now (deciding e) (add-decided (adding-standing t) (at (deciding e)) (one (deciding e)) (formed e) (either-kind t) (a .before .before .commits-on-tag .ensures) (add-says a) (add-zero w) (grown-tables c .0) (grown-tables c .1) (key-back (c .before .before .before)))
 
-ref-target-requires : tie.Need-ref-target-requires Inv-loop μ-loop Inv-loop2 μ-loop2
-ref-target-requires c κs = search needs
-
 array-share-prefix-ids-3 : tie.Need-array-share-prefix-ids-3 Inv-loop μ-loop Inv-loop2 μ-loop2
 array-share-prefix-ids-3 c = held-within (midway (c .before .before) .stands)
 
 slice-aggregate-position : tie.Need-slice-aggregate-position Inv-loop μ-loop Inv-loop2 μ-loop2
 slice-aggregate-position c = held-slice (midway (c .before .before .before) .stands)
-
-position-requires : tie.Need-position-requires Inv-loop μ-loop Inv-loop2 μ-loop2
-position-requires c κs = search needs
 
 mul-snapshot-2 : tie.Need-mul-snapshot-2 Inv-loop μ-loop Inv-loop2 μ-loop2
 mul-snapshot-2 c = omega (arith, c .if12 .taken, held-fits (midway (c .before .before .before .before .before) .stands))
@@ -754,9 +707,6 @@ array-share-prefix-added c = adds-within (midway (c .before .before .before .bef
 
 slice-aggregate-position-2 : tie.Need-slice-aggregate-position-2 Inv-loop μ-loop Inv-loop2 μ-loop2
 slice-aggregate-position-2 c = added-slice (midway (c .before .before .before .before .before .before) .stands)
-
-position-requires-2 : tie.Need-position-requires-2 Inv-loop μ-loop Inv-loop2 μ-loop2
-position-requires-2 c κs = search needs
 
 set-ref-requires : tie.Need-set-ref-requires Inv-loop μ-loop Inv-loop2 μ-loop2
 set-ref-requires c κs =
@@ -771,9 +721,7 @@ is-main-name-requires : tie.Need-is-main-name-requires Inv-loop μ-loop Inv-loop
 is-main-name-requires c κs = set-name (set-at (c .before))
 
 loop2-less-10 : tie.Need-loop2-less-10 Inv-loop μ-loop Inv-loop2 μ-loop2
-loop2-less-10 c =
-    let e = deciding (setting (set-kind (c .before .before))) in
-    decided-less (decided-at e .loop2 .number) (given (decided-at e) .updates .count) (decided-at e .loop2 .place) (decided-at e .loop2 .half) (zero (e .before)) (e .if1 .left)
+loop2-less-10 c = turn-less (deciding (setting (set-kind (c .before .before))))
 
 loop2-again-10 : tie.Need-loop2-again-10 Inv-loop μ-loop Inv-loop2 μ-loop2
 loop2-again-10 c =
@@ -781,9 +729,6 @@ loop2-again-10 c =
     let t = set-kind m in
     let n : (set-call m .set-ref .result .grows && isMain (nameAt (given (loop-at (setting t))) (loop-at (setting t) .loop2 .place))) ≡ false = ap (λ (b : Bool). set-call m .set-ref .result .grows && b) (sym (main-is m)) ∙ not-true (set-call m .set-ref .result .grows && m .is-main-name .result) (c .if13 .taken) in
     waits-now (deciding (setting t)) (other-decided (midway t) (set-says (set-call m)) (m .before .refs-after .ensures) n)
-
-main-entry-requires : tie.Need-main-entry-requires Inv-loop μ-loop Inv-loop2 μ-loop2
-main-entry-requires c κs = search needs
 
 mul-entry : tie.Need-mul-entry Inv-loop μ-loop Inv-loop2 μ-loop2
 mul-entry c = omega (arith, log-room (c .before .before))
@@ -804,9 +749,7 @@ add-mains : tie.Need-add-mains Inv-loop μ-loop Inv-loop2 μ-loop2
 add-mains c = omega (arith, mains-room (c .before .before))
 
 loop2-less-11 : tie.Need-loop2-less-11 Inv-loop μ-loop Inv-loop2 μ-loop2
-loop2-less-11 c =
-    let e = deciding (setting (set-kind (named (c .before .before)))) in
-    decided-less (decided-at e .loop2 .number) (given (decided-at e) .updates .count) (decided-at e .loop2 .place) (decided-at e .loop2 .half) (zero (e .before)) (e .if1 .left)
+loop2-less-11 c = turn-less (deciding (setting (set-kind (named (c .before .before)))))
 
 loop2-again-11 : tie.Need-loop2-again-11 Inv-loop μ-loop Inv-loop2 μ-loop2
 loop2-again-11 c =
@@ -821,7 +764,6 @@ remove-snapshots-requires c κs =
     let q = c .if14 .taken in
     let s = S e removeSnapshotsKind q refl in
     let E = s .stands in
-    let T = E .tables in
     let u = U (loop-at e) in
     (laid-snapshots E, (snapshots-ascend E, (asked-laid u (formed e) q, (tidy e, q))))
 
@@ -831,7 +773,6 @@ without-requires c κs =
     let q = c .before .if14 .taken in
     let s = S e removeSnapshotsKind q refl in
     let E = s .stands in
-    let T = E .tables in
     let u = U (loop-at e) in
     (laid-snapshots E, asked-laid u (formed e) q)
 
@@ -841,17 +782,11 @@ pointing-requires c κs =
     let q = c .before .before .if14 .taken in
     let s = S e removeSnapshotsKind q refl in
     let E = s .stands in
-    let T = E .tables in
     let u = U (loop-at e) in
     (laid-refs E, left-laid s (readUpdate u) (at (deciding e)) (one (deciding e)) (formed e) (readSnapshotIds (u .«snapshot_ids»)) (read-remove-snapshots u (formed e) q) (c .without .ensures))
 
-ids-of-requires-3 : tie.Need-ids-of-requires-3 Inv-loop μ-loop Inv-loop2 μ-loop2
-ids-of-requires-3 c κs = search needs
-
 loop2-less-12 : tie.Need-loop2-less-12 Inv-loop μ-loop Inv-loop2 μ-loop2
-loop2-less-12 c =
-    let e = deciding (c .before .before .before .before .before .before .before .before .before .before .before) in
-    decided-less (decided-at e .loop2 .number) (given (decided-at e) .updates .count) (decided-at e .loop2 .place) (decided-at e .loop2 .half) (zero (e .before)) (e .if1 .left)
+loop2-less-12 c = turn-less (deciding (c .before .before .before .before .before .before .before .before .before .before .before))
 
 loop2-again-12 : tie.Need-loop2-again-12 Inv-loop μ-loop Inv-loop2 μ-loop2
 loop2-again-12 c =
@@ -871,7 +806,6 @@ remove-ref-requires c κs =
     let q = c .if15 .taken in
     let s = S e removeRefKind q refl in
     let E = s .stands in
-    let T = E .tables in
     let u = U (loop-at e) in
     (laid-refs E, (removed-name-laid u (formed e) q, (tidy e, q)))
 
@@ -881,14 +815,11 @@ without-requires-2 c κs =
     let q = c .before .if15 .taken in
     let s = S e removeRefKind q refl in
     let E = s .stands in
-    let T = E .tables in
     let u = U (loop-at e) in
     (laid-refs E, removed-name-laid u (formed e) q)
 
 loop2-less-13 : tie.Need-loop2-less-13 Inv-loop μ-loop Inv-loop2 μ-loop2
-loop2-less-13 c =
-    let e = deciding (c .before .before .before .before .before .before .before .before .before) in
-    decided-less (decided-at e .loop2 .number) (given (decided-at e) .updates .count) (decided-at e .loop2 .place) (decided-at e .loop2 .half) (zero (e .before)) (e .if1 .left)
+loop2-less-13 c = turn-less (deciding (c .before .before .before .before .before .before .before .before .before))
 
 loop2-again-13 : tie.Need-loop2-again-13 Inv-loop μ-loop Inv-loop2 μ-loop2
 loop2-again-13 c =
@@ -907,24 +838,17 @@ add-schema-requires c κs =
     let q = c .if16 .taken in
     let s = S e addSchemaKind q refl in
     let E = s .stands in
-    let T = E .tables in
     let u = U (loop-at e) in
     (laid-schemas E, (tidy e, (formed-kind u (formed e), q)))
 
 schemas-after-requires : tie.Need-schemas-after-requires Inv-loop μ-loop Inv-loop2 μ-loop2
 schemas-after-requires c κs =
     let e = c .before .before .before .before .before .before .before .before .before in
-    let q = c .before .if16 .taken in
-    let s = S e addSchemaKind q refl in
-    let E = s .stands in
-    let T = E .tables in
-    let u = U (loop-at e) in
+    let E = S e addSchemaKind (c .before .if16 .taken) refl .stands in
     (laid-schemas E, λ g. c .add-schema .ensures .new g)
 
 loop2-less-14 : tie.Need-loop2-less-14 Inv-loop μ-loop Inv-loop2 μ-loop2
-loop2-less-14 c =
-    let e = deciding (c .before .before .before .before .before .before .before .before .before .before) in
-    decided-less (decided-at e .loop2 .number) (given (decided-at e) .updates .count) (decided-at e .loop2 .place) (decided-at e .loop2 .half) (zero (e .before)) (e .if1 .left)
+loop2-less-14 c = turn-less (deciding (c .before .before .before .before .before .before .before .before .before .before))
 
 loop2-again-14 : tie.Need-loop2-again-14 Inv-loop μ-loop Inv-loop2 μ-loop2
 loop2-again-14 c =
@@ -944,25 +868,17 @@ set-current-schema-requires c κs =
     let q = c .if17 .taken in
     let s = S e setCurrentSchemaKind q refl in
     let E = s .stands in
-    let T = E .tables in
-    let u = U (loop-at e) in
     (laid-schemas E, (tidy e, q))
 
 loop2-less-15 : tie.Need-loop2-less-15 Inv-loop μ-loop Inv-loop2 μ-loop2
-loop2-less-15 c =
-    let e = deciding (c .before .before .before .before .before .before .before .before .before .before) in
-    decided-less (decided-at e .loop2 .number) (given (decided-at e) .updates .count) (decided-at e .loop2 .place) (decided-at e .loop2 .half) (zero (e .before)) (e .if1 .left)
+loop2-less-15 c = turn-less (deciding (c .before .before .before .before .before .before .before .before .before .before))
 
 loop2-again-15 : tie.Need-loop2-again-15 Inv-loop μ-loop Inv-loop2 μ-loop2
 loop2-again-15 c =
     let e = c .before .before .before .before .before .before .before .before .before .before in
     let q = c .before .if17 .taken in
     let s = S e setCurrentSchemaKind q refl in
-    let E = s .stands in
-    let T = E .tables in
-    let u = U (loop-at e) in
-    let k = is-schema-choice u (formed e) q in
-    waits-now (deciding e) (fields-decided s (readUpdate u) (at (deciding e)) (one (deciding e)) (formed e) (λ (z : group (readUpdate u) ≡ 0). omega arith) (c .set-current-schema .result) (c .set-current-schema .ensures (termsOf (given (loop-at e))) (s .state) (T .builder) (T .schemas)) k)
+    fields e setCurrentSchemaKind q refl (c .set-current-schema .ensures (termsOf (given (loop-at e))) (s .state) (s .stands .tables .builder) (s .stands .tables .schemas)) (is-schema-choice (U (loop-at e)) (formed e) q)
 
 remove-schemas-requires : tie.Need-remove-schemas-requires Inv-loop μ-loop Inv-loop2 μ-loop2
 remove-schemas-requires c κs =
@@ -970,7 +886,6 @@ remove-schemas-requires c κs =
     let q = c .if18 .taken in
     let s = S e removeSchemasKind q refl in
     let E = s .stands in
-    let T = E .tables in
     let u = U (loop-at e) in
     (laid-schemas E, (schemas-ascend E, (tidy e, (formed-kind u (formed e), q))))
 
@@ -980,14 +895,11 @@ without-requires-3 c κs =
     let q = c .before .if18 .taken in
     let s = S e removeSchemasKind q refl in
     let E = s .stands in
-    let T = E .tables in
     let u = U (loop-at e) in
     (laid-schemas E, schema-ids-laid u (formed e) q)
 
 loop2-less-16 : tie.Need-loop2-less-16 Inv-loop μ-loop Inv-loop2 μ-loop2
-loop2-less-16 c =
-    let e = deciding (c .before .before .before .before .before .before .before .before .before .before .before .before) in
-    decided-less (decided-at e .loop2 .number) (given (decided-at e) .updates .count) (decided-at e .loop2 .place) (decided-at e .loop2 .half) (zero (e .before)) (e .if1 .left)
+loop2-less-16 c = turn-less (deciding (c .before .before .before .before .before .before .before .before .before .before .before .before))
 
 loop2-again-16 : tie.Need-loop2-again-16 Inv-loop μ-loop Inv-loop2 μ-loop2
 loop2-again-16 c =
@@ -1006,24 +918,17 @@ add-sort-order-requires c κs =
     let q = c .if19 .taken in
     let s = S e addSortOrderKind q refl in
     let E = s .stands in
-    let T = E .tables in
     let u = U (loop-at e) in
     (laid-schemas E, (schema-held E, (laid-orders E, (orders-formed E, (tidy e, (formed-kind u (formed e), q))))))
 
 orders-after-requires : tie.Need-orders-after-requires Inv-loop μ-loop Inv-loop2 μ-loop2
 orders-after-requires c κs =
     let e = c .before .before .before .before .before .before .before .before .before .before .before .before in
-    let q = c .before .if19 .taken in
-    let s = S e addSortOrderKind q refl in
-    let E = s .stands in
-    let T = E .tables in
-    let u = U (loop-at e) in
+    let E = S e addSortOrderKind (c .before .if19 .taken) refl .stands in
     (laid-orders E, λ g. c .add-sort-order .ensures .new g)
 
 loop2-less-17 : tie.Need-loop2-less-17 Inv-loop μ-loop Inv-loop2 μ-loop2
-loop2-less-17 c =
-    let e = deciding (c .before .before .before .before .before .before .before .before .before .before .before .before .before) in
-    decided-less (decided-at e .loop2 .number) (given (decided-at e) .updates .count) (decided-at e .loop2 .place) (decided-at e .loop2 .half) (zero (e .before)) (e .if1 .left)
+loop2-less-17 c = turn-less (deciding (c .before .before .before .before .before .before .before .before .before .before .before .before .before))
 
 loop2-again-17 : tie.Need-loop2-again-17 Inv-loop μ-loop Inv-loop2 μ-loop2
 loop2-again-17 c =
@@ -1043,28 +948,17 @@ set-default-sort-order-requires c κs =
     let q = last-kind c in
     let s = S e setDefaultSortOrderKind q refl in
     let E = s .stands in
-    let T = E .tables in
-    let u = U (loop-at e) in
     (laid-orders E, (tidy e, q))
 
 loop2-less-18 : tie.Need-loop2-less-18 Inv-loop μ-loop Inv-loop2 μ-loop2
-loop2-less-18 c =
-    let e = deciding (c .before .before .before .before .before .before .before .before .before .before .before .before) in
-    decided-less (decided-at e .loop2 .number) (given (decided-at e) .updates .count) (decided-at e .loop2 .place) (decided-at e .loop2 .half) (zero (e .before)) (e .if1 .left)
+loop2-less-18 c = turn-less (deciding (c .before .before .before .before .before .before .before .before .before .before .before .before))
 
 loop2-again-18 : tie.Need-loop2-again-18 Inv-loop μ-loop Inv-loop2 μ-loop2
 loop2-again-18 c =
     let e = c .before .before .before .before .before .before .before .before .before .before .before .before in
     let q = last-kind (c .before) in
     let s = S e setDefaultSortOrderKind q refl in
-    let E = s .stands in
-    let T = E .tables in
-    let u = U (loop-at e) in
-    let k = is-order-choice u (formed e) q in
-    waits-now (deciding e) (fields-decided s (readUpdate u) (at (deciding e)) (one (deciding e)) (formed e) (λ (z : group (readUpdate u) ≡ 0). omega arith) (c .set-default-sort-order .result) (c .set-default-sort-order .ensures (termsOf (given (loop-at e))) (s .state) (T .builder) (T .orders)) k)
-
-refused-requires : tie.Need-refused-requires Inv-loop μ-loop Inv-loop2 μ-loop2
-refused-requires c κs = search needs
+    fields e setDefaultSortOrderKind q refl (c .set-default-sort-order .ensures (termsOf (given (loop-at e))) (s .state) (s .stands .tables .builder) (s .stands .tables .orders)) (is-order-choice (U (loop-at e)) (formed e) q)
 
 returns : tie.Need-returns Inv-loop μ-loop Inv-loop2 μ-loop2
 returns c = c .refused .ensures ∙ c .before .before .before .loop2 .inv .refused (c .before .if20 .taken)
@@ -1093,26 +987,14 @@ close-log-requires c κs = laid-log (end (c .before .before .before .before) .st
 close-number-requires : tie.Need-close-number-requires Inv-loop μ-loop Inv-loop2 μ-loop2
 close-number-requires c κs = let E = end (c .before .before .before .before .before) .stands in (c .close-log .ensures .1, (laid-refs E, (laid-schemas E, (laid-orders E, (schema-held E, order-held E)))))
 
-refused-requires-2 : tie.Need-refused-requires-2 Inv-loop μ-loop Inv-loop2 μ-loop2
-refused-requires-2 c κs = search needs
-
 returns-2 : tie.Need-returns-2 Inv-loop μ-loop Inv-loop2 μ-loop2
 returns-2 c = let n = c .before .before in end-refused (closing n) (n .close-number .result) (c .refused2 .ensures) (close-refused (end (closing n) .stands) _ (numbered n) (c .before .if21 .taken))
-
-limit-requires : tie.Need-limit-requires Inv-loop μ-loop Inv-loop2 μ-loop2
-limit-requires c κs = search needs
 
 files-requires : tie.Need-files-requires Inv-loop μ-loop Inv-loop2 μ-loop2
 files-requires c κs = let E = end (closing (c .before .before)) .stands in (files-laid E, (E .kept .short, rw (c .limit .ensures) (limit-least _)))
 
-refused-requires-3 : tie.Need-refused-requires-3 Inv-loop μ-loop Inv-loop2 μ-loop2
-refused-requires-3 c κs = search needs
-
 returns-3 : tie.Need-returns-3 Inv-loop μ-loop Inv-loop2 μ-loop2
 returns-3 c = let f = c .before .before in let n = counted-at f in end-refused (closing n) 23 (c .refused3 .ensures) (files-refused (end (closing n) .stands) _ (none-fails f) (sym (filed-so f .tooMany) ∙ c .before .if22 .taken))
-
-last-update-requires : tie.Need-last-update-requires Inv-loop μ-loop Inv-loop2 μ-loop2
-last-update-requires c κs = search needs
 
 returns-4 : tie.Need-returns-4 Inv-loop μ-loop Inv-loop2 μ-loop2
 returns-4 c =
@@ -1129,20 +1011,20 @@ run-spec =
     μ-loop
     Inv-loop2
     μ-loop2
-    blank-requires
-    new-from-metadata-requires
-    decided-requires
-    ids-of-requires
-    last-time-requires
+    (λ c κs. search needs)
+    (λ c κs. search needs)
+    (λ c κs. search needs)
+    (λ c κs. search needs)
+    (λ c κs. search needs)
     loop-holds
     mul-weight
     element-copy-out-weight
-    weight-requires
+    (λ c κs. search needs)
     add-sum
     add-place
     loop-less
     loop-again
-    start-number-requires
+    (λ c κs. search needs)
     loop2-holds
     loop2-less
     loop2-again
@@ -1156,8 +1038,8 @@ run-spec =
     loop2-again-3
     mul-update
     element-copy-out-update
-    is-formed-requires
-    decided-requires-2
+    (λ c κs. search needs)
+    (λ c κs. search needs)
     loop2-less-4
     loop2-again-4
     assign-uuid-requires
@@ -1177,34 +1059,34 @@ run-spec =
     loop2-again-8
     array-share-prefix-ids-2
     slice-aggregate-is-last
-    is-last-requires
+    (λ c κs. search needs)
     mul-snapshot
     element-set-from-snapshot
     add-snapshots
     mul-ids
     array-set-from-ids
     put-requires
-    ids-of-requires-2
+    (λ c κs. search needs)
     mul-added
     array-set-from-added
     add-adds
     loop2-less-9
     loop2-again-9
-    ref-target-requires
+    (λ c κs. search needs)
     array-share-prefix-ids-3
     slice-aggregate-position
-    position-requires
+    (λ c κs. search needs)
     mul-snapshot-2
     element-copy-out-snapshot
     array-share-prefix-added
     slice-aggregate-position-2
-    position-requires-2
+    (λ c κs. search needs)
     set-ref-requires
     refs-after-requires
     is-main-name-requires
     loop2-less-10
     loop2-again-10
-    main-entry-requires
+    (λ c κs. search needs)
     mul-entry
     element-set-from-entry
     add-log
@@ -1216,7 +1098,7 @@ run-spec =
     remove-snapshots-requires
     without-requires
     pointing-requires
-    ids-of-requires-3
+    (λ c κs. search needs)
     loop2-less-12
     loop2-again-12
     remove-ref-requires
@@ -1241,7 +1123,7 @@ run-spec =
     set-default-sort-order-requires
     loop2-less-18
     loop2-again-18
-    refused-requires
+    (λ c κs. search needs)
     returns
     array-share-prefix-ids-4
     slice-aggregate-close-log
@@ -1251,11 +1133,11 @@ run-spec =
     slice-aggregate-close-log-3
     close-log-requires
     close-number-requires
-    refused-requires-2
+    (λ c κs. search needs)
     returns-2
-    limit-requires
+    (λ c κs. search needs)
     files-requires
-    refused-requires-3
+    (λ c κs. search needs)
     returns-3
-    last-update-requires
+    (λ c κs. search needs)
     returns-4)
