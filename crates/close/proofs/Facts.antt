@@ -1,26 +1,22 @@
 -- The close knows a change log by three facts: what it says of them is what the rules say of the log.
 use mathlib.Core.Path.{_≡_, refl, sym, ap, _∙_}
 use mathlib.Core.Bool.{Bool, true, false, cond, not, _&&_, _||_}
-use mathlib.Core.List.{List, [], _∷_, _++_}
+use mathlib.Core.List.{List, [], _∷_}
 use mathlib.Core.Option.{Option, none, some}
 use borrow.Table.Steps.{cases}
-use lib.Dec.{ltb}
 use lib.IntN.{ℤ}
-use lib.ListN.{length}
 use Rattle.records.specs.declared.metadata.SingleFields.{SingleFields}
 use Rattle.records.specs.declared.snapshot.SnapshotLog.{SnapshotLog}
 use Rattle.rules.specs.Words.{ifSome, someWith, any, keep, first, isIn, isEmpty, afterLast}
-use Rattle.rules.specs.Register.{LogEntry, Schema, SortField, SortOrder, Metadata, Update, Terms}
+use Rattle.rules.specs.Register.{LogEntry, Schema, SortField, SortOrder, Metadata, Update}
 use Rattle.rules.specs.Register.Update.{AssignUuid, UpgradeFormatVersion, SetLocation, AddSnapshot, SetBranchSnapshot, RemoveSnapshots, SetRef, RemoveRef, AddSchema, SetCurrentSchema, RemoveSchemas, AddSortOrder, SetDefaultSortOrder, NotFormed}
-use Rattle.rules.specs.Capacities.{metadataLogRoom}
-use Rattle.rules.specs.Replies.{tooManyFiles}
 use Rattle.rules.specs.WellFormed.{hasSchema, hasOrder, fieldIds}
 use Rattle.rules.specs.ChangeLog.{logsAddition, logsMain, logsRemoval}
 use Rattle.rules.specs.Layout.{readFields, readSnapshotLog, laidSnapshotLog}
-use Rattle.rules.specs.Close.{intermediates, isRebuilt, isMissing, isIntermediate, rebuilt, history, endsAt, endsElsewhere, isDefaultUnfit, staying, closeChecks}
+use Rattle.rules.specs.Close.{intermediates, isRebuilt, isMissing, isIntermediate, rebuilt, history, endsAt, endsElsewhere, isDefaultUnfit}
 use Rattle.rules.proofs.Reread.{reread-snapshot-log}
 use Rattle.close.specs.Facts.{additions, intermediatesOf, isGone, isStaying, Told}
-use Rattle.close.specs.Answers.{HistoryOf, endsOff, numberChecks}
+use Rattle.close.specs.Answers.{HistoryOf, endsOff}
 use Rattle.close.specs.declared.history.History.{History}
 use Rattle.builder.proofs.Positions.{eqZ-turned}
 use Rattle.close.proofs.Ids.{in-held}
@@ -112,8 +108,3 @@ unfit-is p s o e k = sym (λ i. someWith (λ (o : SortOrder). any (λ (f : SortF
   where
     ids : Option Schema → List ℤ
     ids o = elim o [ none ↦ [] | some s ↦ fieldIds s ]
-
--- the close's checks are these and the last
-pub all-checks : (terms : Terms) (l : List Update) (p : Metadata) → closeChecks terms l p ≡ numberChecks l p ++ ((ltb metadataLogRoom (length (staying terms p)), tooManyFiles) ∷ [])
-unfolding closeChecks
-all-checks terms l p = refl

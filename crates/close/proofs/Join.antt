@@ -1,93 +1,81 @@
--- The metadata log at the close, from what expires of it and what is left: the rules' answer, whether an entry joins or not.
-use Prim.Native.Nat.{ℕ, _+_, _-_, _≤_, _<_}
+-- The metadata log at the close: what expires of it, what is left and what joins are the rules'.
+use Prim.Native.Nat.{ℕ, _+_, _-_, _≤_}
 use native.Mathlib.Omega.{arith}
-use mathlib.Core.Path.{_≡_, refl, sym, ap, _∙_}
-use mathlib.Core.Bool.{Bool, true, false, cond, true≢false}
-use mathlib.Core.List.{List, [], _∷_, _++_}
+use mathlib.Core.Path.{_≡_, sym, ap, _∙_}
+use mathlib.Core.Bool.{Bool, true, false, cond}
+use mathlib.Core.List.{List, [], _∷_, _++_, append-nil}
 use mathlib.Core.Option.{Option, none, some}
-use borrow.Author.Tests.{lt-ltb, le-ltb}
-use lib.ListN.{length, take, drop, set, length-append, length-drop}
+use lib.ListN.{length, take, drop, length-append, length-drop}
 use lib.Seq.{take-append-le, drop-append-le}
 use Rattle.records.specs.declared.counters.Time.{Time}
 use Rattle.records.specs.declared.metadata.MetadataLog.{MetadataLog}
 use Rattle.records.specs.declared.run.RunTerms.{RunTerms}
-use Rattle.records.specs.declared.text.FileName.{FileName}
-use Rattle.rules.specs.Register.{FileEntry, Metadata, Terms}
-use Rattle.rules.specs.Layout.{given, readFileName, laidFileName, readMetadataLogEntry, laidMetadataLogEntry, readMetadataLog, laidMetadataLog}
+use Rattle.rules.specs.Register.{Metadata, Terms}
+use Rattle.rules.specs.Layout.{given, readFileName, readMetadataLog}
+use Rattle.rules.specs.Limit.{limitGiven}
 use Rattle.rules.specs.Close.{joined, surplus, staying, expired}
-use Rattle.rules.proofs.Reread.{reread-file-name}
 use Rattle.tables.specs.Laid.{LaidMetadataLog}
 use Rattle.tables.proofs.Table.{read-length}
-use Rattle.tables.proofs.Push.{pushed}
-use Rattle.tables.proofs.Each.{tidy-metadata-log, made-metadata-log}
-use Rattle.close.specs.Answers.{Filed, FilesOf}
+use Rattle.tables.proofs.Each.{tidy-metadata-log}
+use Rattle.close.specs.Answers.{joining}
 
--- the entry that joins
-abbrev entry : RunTerms → Time → FileEntry
-entry terms old = record { file = readFileName (terms .file); time = old .0 }
+-- one more, where one joins
+longer : {A : Type 0} (b : Bool) (l : List A) (x : A) → length (l ++ cond b (x ∷ []) []) ≡ cond b (length l + 1) (length l)
+longer true l x = length-append l (x ∷ [])
+longer false l x = rw append-nil
 
-abbrev withFile : Metadata → Option (List ℕ) → List FileEntry
-withFile m o = elim o [ none ↦ m .metadataLog | some name ↦ m .metadataLog ++ (record { file = name; time = m .fields .lastUpdated } ∷ []) ]
+-- no more expire than the log has, since the limit is at least 1
+pub few : (b : Bool) (n k : ℕ) → 1 ≤ k → cond b (n + 1) n - k ≤ n
+few true n k h = omega arith
+few false n k h = omega arith
 
-module _ {t : Terms} {m : Metadata} {log : MetadataLog} {terms : RunTerms} {old : Time} {limit gone : ℕ} {stay out : MetadataLog}
-    (h : LaidMetadataLog log) (q : Filed t m log terms old limit) (g : gone ≡ cond (terms .«has_file») (log .count + 1) (log .count) - limit)
-    (s : stay ≡ laidMetadataLog (drop gone (readMetadataLog log))) (x : out ≡ laidMetadataLog (take gone (readMetadataLog log))) where
-  given-file : {b : Bool} → terms .«has_file» ≡ b → joined t m ≡ withFile m (given b (readFileName (terms .file)))
-  given-file j = ap (withFile m) (sym (q .name) ∙ ap (λ (b : Bool). given b (readFileName (terms .file))) j)
+-- the metadata log and the terms as the close is handed them
+pub record Filed (t : Terms) (m : Metadata) (log : MetadataLog) (terms : RunTerms) (old : Time) (limit : ℕ) : Type 0 where
+  pub laid : LaidMetadataLog log
+  pub entries : readMetadataLog log ≡ m .metadataLog
+  pub name : given (terms .«has_file») (readFileName (terms .file)) ≡ t .file
+  pub time : old .0 ≡ m .fields .lastUpdated
+  pub most : limit ≡ limitGiven (t .limit)
+  pub least : 1 ≤ limit
 
-  gone-is : {b : Bool} → terms .«has_file» ≡ b → gone ≡ cond b (log .count + 1) (log .count) - limit
-  gone-is j = g ∙ ap (λ (b : Bool). cond b (log .count + 1) (log .count) - limit) j
+module _ {t : Terms} {m : Metadata} {log : MetadataLog} {terms : RunTerms} {old : Time} {limit : ℕ} (q : Filed t m log terms old limit) where
+  -- how many entries there are with the one that joins
+  abbrev all : ℕ
+  all = cond (terms .«has_file») (log .count + 1) (log .count)
 
-  left-count : stay .count ≡ log .count - gone
-  unfolding laidMetadataLog
-  left-count = ap (λ (u : MetadataLog). u .count) s ∙ simp length-drop (omega (arith, read-length (tidy-metadata-log h)))
+  pub gone-within : all - limit ≤ log .count
+  gone-within = few (terms .«has_file») (log .count) limit (q .least)
 
-  pub no-join : terms .«has_file» ≡ false → FilesOf t m (record { stay = stay; expired = out; «too_many» = false })
-  unfolding staying expired
-  no-join j =
-      let e : joined t m ≡ readMetadataLog log = given-file j ∙ sym (q .entries) in
-      let k : surplus t m ≡ gone = omega (arith, ap length e, q .most, read-length (tidy-metadata-log h), gone-is j) in
-      let u : staying t m ≡ drop gone (readMetadataLog log) = λ i. drop (k i) (e i) in
-      record {
-        tooMany = sym (le-ltb 128 (length (staying t m)) (rw u (simp length-drop (omega (arith, h .fits)))));
-        stay = λ z. s ∙ ap laidMetadataLog (sym u);
-        expired = x ∙ ap laidMetadataLog (λ i. take (sym k i) (sym e i));
-      }
+  count-is : length (readMetadataLog log) ≡ log .count
+  count-is = read-length (tidy-metadata-log (q .laid))
 
-  module _ (j : terms .«has_file» ≡ true) (one : 1 ≤ limit) where
-    within : gone ≤ length (readMetadataLog log)
-    within = omega (arith, read-length (tidy-metadata-log h), gone-is j)
+  withName : {o : Option (List ℕ)} → t .file ≡ o → joined t m ≡ elim o [ none ↦ m .metadataLog | some name ↦ m .metadataLog ++ (record { file = name; time = m .fields .lastUpdated } ∷ []) ]
+  withName e = rw e
 
-    all-is : joined t m ≡ readMetadataLog log ++ (entry terms old ∷ [])
-    all-is = given-file j ∙ (λ i. sym (q .entries) i ++ (record { file = readFileName (terms .file); time = sym (q .time) i } ∷ []))
+  joined-as : (b : Bool) → given b (readFileName (terms .file)) ≡ t .file → joined t m ≡ readMetadataLog log ++ cond b (record { file = readFileName (terms .file); time = old .0 } ∷ []) []
+  joined-as true e = withName (sym e) ∙ (λ i. sym (q .entries) i ++ (record { file = readFileName (terms .file); time = sym (q .time) i } ∷ []))
+  joined-as false e = withName (sym e) ∙ sym (q .entries) ∙ sym (append-nil (readMetadataLog log))
 
-    surplus-is : surplus t m ≡ gone
-    surplus-is = omega (arith, simp length-append at (ap length all-is), q .most, read-length (tidy-metadata-log h), gone-is j)
+  joined-is : joined t m ≡ readMetadataLog log ++ joining terms old
+  joined-is = joined-as (terms .«has_file») (q .name)
 
-    stays : staying t m ≡ drop gone (readMetadataLog log) ++ (entry terms old ∷ [])
-    unfolding staying
-    stays = (λ i. drop (surplus-is i) (all-is i)) ∙ drop-append-le gone (readMetadataLog log) (entry terms old ∷ []) within
+  all-is : length (joined t m) ≡ all
+  all-is = ap length joined-is ∙ longer (terms .«has_file») (readMetadataLog log) _ ∙ ap (λ (n : ℕ). cond (terms .«has_file») (n + 1) n) count-is
 
-    expires : out ≡ laidMetadataLog (expired t m)
-    unfolding expired
-    expires = x ∙ ap laidMetadataLog (sym ((λ i. take (surplus-is i) (all-is i)) ∙ take-append-le gone (readMetadataLog log) (entry terms old ∷ []) within))
+  surplus-is : surplus t m ≡ all - limit
+  surplus-is = rw (all-is, q .most)
 
-    long : length (staying t m) ≡ stay .count + 1
-    long = ap length stays ∙ simp (length-append, length-drop) (omega (arith, read-length (tidy-metadata-log h), left-count))
+  within : all - limit ≤ length (readMetadataLog log)
+  within = rw count-is gone-within
 
-    pub too-many : 128 ≤ stay .count → FilesOf t m (record { stay = stay; expired = out; «too_many» = true })
-    too-many k = record { tooMany = sym (lt-ltb 128 (length (staying t m)) (omega (arith, long))); stay = λ z. absurd (true≢false z); expired = expires }
+  pub stays : staying t m ≡ drop (all - limit) (readMetadataLog log) ++ joining terms old
+  unfolding staying
+  stays = (λ i. drop (surplus-is i) (joined-is i)) ∙ drop-append-le (all - limit) (readMetadataLog log) (joining terms old) within
 
-    pub joins : (name : FileName) → stay .count < 128 → name ≡ laidFileName (readFileName (terms .file))
-        → FilesOf t m (record { stay = record { items = set (stay .items) (stay .count) (record { «metadata_file» = name; «timestamp_ms» = old }); count = stay .count + 1 }; expired = out; «too_many» = false })
-    unfolding laidMetadataLogEntry
-    joins name k n =
-        let r : length (drop gone (readMetadataLog log)) < 128 = simp length-drop (omega (arith, read-length (tidy-metadata-log h), left-count)) in
-        let w : readFileName name ≡ readFileName (terms .file) = ap readFileName n ∙ reread-file-name (readFileName (terms .file)) in
-        let e : readMetadataLogEntry (record { «metadata_file» = name; «timestamp_ms» = old }) ≡ entry terms old = λ i. record { file = w i; time = old .0 } in
-        let b : laidMetadataLogEntry (readMetadataLogEntry (record { «metadata_file» = name; «timestamp_ms» = old })) ≡ record { «metadata_file» = name; «timestamp_ms» = old } = λ i. record { «metadata_file» = (ap laidFileName w ∙ sym n) i; «timestamp_ms» = old } in
-        record {
-          tooMany = sym (le-ltb 128 (length (staying t m)) (omega (arith, long)));
-          stay = λ z. pushed made-metadata-log _ s r b refl refl ∙ ap laidMetadataLog (ap (λ (y : FileEntry). drop gone (readMetadataLog log) ++ (y ∷ [])) e ∙ sym stays);
-          expired = expires;
-        }
+  pub expires : expired t m ≡ take (all - limit) (readMetadataLog log)
+  unfolding expired
+  expires = (λ i. take (surplus-is i) (joined-is i)) ∙ take-append-le (all - limit) (readMetadataLog log) (joining terms old) within
+
+  pub stays-length : length (staying t m) ≡ all - (all - limit)
+  unfolding staying
+  stays-length = rw (length-drop, all-is, q .most)

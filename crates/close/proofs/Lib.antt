@@ -4,5 +4,5 @@ mod Ids
 pub mod Scans
 mod Parts
 mod Logs
-mod Join
+pub mod Join
 pub mod Facts

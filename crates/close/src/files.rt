@@ -1,12 +1,14 @@
-// The metadata log at the close: the current file's entry joins it, the oldest above the limit expire.
+// The metadata log at the close: the oldest entries above the limit expire, and the current file's entry joins those that stay.
 ghost use mathlib.Core.Path.{_≡_};
-ghost use Prim.Native.Nat.{_+_, _-_, _≤_};
+ghost use Prim.Native.Nat.{_+_, _-_, _≤_, _<_};
 ghost use mathlib.Core.Bool.{true, cond};
+ghost use mathlib.Core.List.{_++_};
+ghost use lib.Dec.{ltb};
 ghost use lib.ListN.{take, drop};
-ghost use Rattle.rules.specs.Register.{Metadata, Terms};
+ghost use Rattle.rules.specs.Capacities.{metadataLogRoom};
 ghost use Rattle.rules.specs.Layout.{readFileName, laidFileName, readMetadataLog, laidMetadataLog};
 ghost use Rattle.tables.specs.Laid.{LaidMetadataLog};
-ghost use Rattle.close.specs.Answers.{Filed, FilesOf};
+ghost use Rattle.close.specs.Answers.{joining};
 use records::capacities::METADATA_LOG;
 use records::counters::Time;
 use records::metadata::MetadataLog;
@@ -14,15 +16,32 @@ use records::metadata::MetadataLogEntry;
 use records::run::RunTerms;
 use records::text::FileName;
 
-// What stays in the log, and what expires.
-pub struct FileLogs {
-    pub stay: MetadataLog,
-    pub expired: MetadataLog,
-    pub too_many: bool,
+// How many entries expire of so many and the one that joins them.
+pub fn surplus(n: usize, joins: bool, limit: u64) -> usize
+    requires { ⌜ n ≤ 128 ⌝ }
+    ensures { λ r. ⌜ r ≡ cond joins (n + 1) n - limit ⌝ }
+{
+    let mut all = n;
+    if joins {
+        all = n + 1;
+    }
+    if limit >= all as u64 {
+        return 0;
+    }
+    all - limit as usize
+}
+
+// Whether more entries would stay than the log has room for.
+pub fn is_overfull(n: usize, joins: bool, gone: usize) -> bool
+    requires { ⌜ n ≤ 128 ⌝ }
+    requires { ⌜ gone ≤ n ⌝ }
+    ensures { λ r. ⌜ r ≡ ltb metadataLogRoom (cond joins (n + 1) n - gone) ⌝ }
+{
+    joins & (n - gone >= METADATA_LOG)
 }
 
 // The entries from a place up to another.
-fn part(log: MetadataLog, from: usize, until: usize) -> MetadataLog
+pub fn part(log: MetadataLog, from: usize, until: usize) -> MetadataLog
     requires { ⌜ LaidMetadataLog log ⌝ }
     requires { ⌜ (from ≤ until) × (until ≤ log .count) ⌝ }
     ensures { λ r. ⌜ r ≡ laidMetadataLog (drop from (take until (readMetadataLog log))) ⌝ }
@@ -56,63 +75,29 @@ fn clean(name: FileName) -> FileName
     r
 }
 
-// How many entries expire of so many and the one that joins them.
-fn surplus(n: usize, joins: bool, limit: u64) -> usize
-    requires { ⌜ n ≤ 128 ⌝ }
-    ensures { λ r. ⌜ r ≡ cond joins (n + 1) n - limit ⌝ }
-{
-    let mut all = n;
-    if joins {
-        all = n + 1;
-    }
-    if limit >= all as u64 {
-        return 0;
-    }
-    all - limit as usize
-}
-
-// The metadata log with the current file's entry, if one is given, under the limit.
-pub fn files(log: MetadataLog, terms: RunTerms, old: Time, limit: u64) -> FileLogs
+// The entries that are left once the oldest are gone, and the current file's with the old last update, if one is given.
+pub fn staying(mut log: MetadataLog, gone: usize, terms: RunTerms, old: Time) -> MetadataLog
     requires { ⌜ LaidMetadataLog log ⌝ }
-    requires { ⌜ (terms .«has_file» ≡ true → terms .file .len ≤ 96) ⌝ }
-    requires { ⌜ 1 ≤ limit ⌝ }
-    ensures { λ r. ⌜ ((t : Terms) (m : Metadata) → Filed t m log terms old limit → FilesOf t m r) ⌝ }
+    requires { ⌜ gone ≤ log .count ⌝ }
+    requires { ⌜ (terms .«has_file» ≡ true → (log .count - gone < 128) × (terms .file .len ≤ 96)) ⌝ }
+    ensures { λ r. ⌜ r ≡ laidMetadataLog (drop gone (readMetadataLog log) ++ joining terms old) ⌝ }
 {
     let n = log.count;
     let joins = terms.has_file;
     let file = terms.file;
-    let gone = surplus(n, joins, limit);
-    let mut stay = log;
-    let mut expired = MetadataLog::blank();
     if gone > 0 {
-        expired = part(log, 0, gone);
-        stay = part(log, gone, n);
+        log = part(log, gone, n);
     }
     if !joins {
-        return FileLogs {
-            stay,
-            expired,
-            too_many: false,
-        };
+        return log;
     }
-    let k = stay.count;
-    if k >= METADATA_LOG {
-        return FileLogs {
-            stay,
-            expired,
-            too_many: true,
-        };
-    }
+    let k = log.count;
     let metadata_file = clean(file);
     let e = MetadataLogEntry {
         metadata_file,
         timestamp_ms: old,
     };
-    stay.items[k] = e;
-    stay.count = k + 1;
-    FileLogs {
-        stay,
-        expired,
-        too_many: false,
-    }
+    log.items[k] = e;
+    log.count = k + 1;
+    log
 }

@@ -1,16 +1,19 @@
-// The close of a run: what becomes of the snapshot log and of the metadata log, the checks 20 to 22, the last update.
+// The close of a run: what becomes of the snapshot log and of the metadata log, the checks 20 to 23, the last update.
 // Document 01 decides, as the crate `rules` writes it in Close.
 ghost use mathlib.Core.Path.{_≡_};
 ghost use mathlib.Core.Bool.{true};
 ghost use mathlib.Core.List.{List};
+ghost use lib.Dec.{ltb};
+ghost use lib.ListN.{length};
+ghost use Rattle.rules.specs.Capacities.{metadataLogRoom};
 ghost use Rattle.rules.specs.Words.{any, firstOf, orElse};
-ghost use Rattle.rules.specs.Register.{Metadata, Update, State};
+ghost use Rattle.rules.specs.Register.{Metadata, Update, Terms, State};
 ghost use Rattle.rules.specs.WellFormed.{hasSchema, hasOrder};
 ghost use Rattle.rules.specs.Layout.{readFields, readSnapshotLog, readSchemas, readSortOrders};
-ghost use Rattle.rules.specs.Close.{isDefaultUnfit};
+ghost use Rattle.rules.specs.Close.{isDefaultUnfit, staying, closeChecks};
 ghost use Rattle.tables.specs.Laid.{LaidSnapshotLog, LaidRefs, LaidSchemas, LaidOrders};
 ghost use Rattle.builder.specs.Pieces.{laidBuilder};
-ghost use Rattle.close.specs.Answers.{HistoryOf, Handed, endsOff, numberChecks};
+ghost use Rattle.close.specs.Answers.{HistoryOf, Handed, endsOff};
 use builder::builder::TableMetadataBuilder;
 use history::History;
 use records::counters::Time;
@@ -20,6 +23,7 @@ use records::replies::ACCEPTED;
 use records::replies::DEFAULT_ORDER_UNFIT;
 use records::replies::LOG_ENDS_ELSEWHERE;
 use records::replies::MAIN_DISAGREES;
+use records::replies::TOO_MANY_FILES;
 use records::schema::Schemas;
 use records::sort_order::SortOrders;
 use tables::ids::same_snapshot;
@@ -68,20 +72,21 @@ fn ends_elsewhere(h: History, f: SingleFields) -> bool
     !same_snapshot(id, current)
 }
 
-// 20, 21 or 22, the first that fails; 0 where none does.
+// 20, 21, 22 or 23, the first that fails; 0 where none does. 23 is that more files would stay than the metadata log has room for.
 pub fn close_number(
     h: History,
     f: SingleFields,
     refs: Refs,
     schemas: Schemas,
     orders: SortOrders,
+    overfull: bool,
 ) -> u8
     requires { ⌜ LaidSnapshotLog (h .log) ⌝ }
     requires { ⌜ LaidRefs refs ⌝ }
     requires { ⌜ LaidSchemas schemas ⌝ }
     requires { ⌜ LaidOrders orders ⌝ }
     requires { ⌜ (any (hasSchema (f .«current_schema_id» .0)) (readSchemas schemas) ≡ true) × (any (hasOrder (f .«default_sort_order_id» .0)) (readSortOrders orders) ≡ true) ⌝ }
-    ensures { λ r. ⌜ ((l : List Update) (p : Metadata) → HistoryOf l p h → Handed p f refs schemas orders → r ≡ firstOf (numberChecks l p)) ⌝ }
+    ensures { λ r. ⌜ ((t : Terms) (l : List Update) (p : Metadata) → HistoryOf l p h → Handed p f refs schemas orders → overfull ≡ ltb metadataLogRoom (length (staying t p)) → r ≡ firstOf (closeChecks t l p)) ⌝ }
 {
     if is_default_unfit(f, schemas, orders) {
         return DEFAULT_ORDER_UNFIT;
@@ -91,6 +96,9 @@ pub fn close_number(
     }
     if !formed::metadata::main_agrees(f, refs) {
         return MAIN_DISAGREES;
+    }
+    if overfull {
+        return TOO_MANY_FILES;
     }
     ACCEPTED
 }

@@ -1,29 +1,29 @@
 -- The close: what it is told, and what its answer makes of the run.
-use Prim.Native.Nat.{ℕ, _≤_}
+use Prim.Native.Nat.{ℕ, _+_, _-_, _≤_, _<_}
 use native.Mathlib.Omega.{arith}
 use mathlib.Core.Path.{_≡_, refl, sym, ap, _∙_}
-use mathlib.Core.Bool.{Bool, true, false, cond, not}
-use mathlib.Core.List.{List, [], _∷_}
+use mathlib.Core.Bool.{Bool, true, cond}
+use mathlib.Core.List.{List, _++_}
 use lib.Dec.{ltb}
 use lib.IntN.{pos}
-use lib.ListN.{length, take, length-map}
-use borrow.Author.Tests.{ne-eqb}
+use lib.ListN.{length, take, drop, length-map}
+use borrow.Author.Tests.{ne-eqb, ltb-false}
+use Rattle.records.specs.declared.metadata.MetadataLog.{MetadataLog}
 use Rattle.records.specs.declared.metadata.SingleFields.{SingleFields}
 use Rattle.records.specs.declared.counters.Time.{Time}
 use Rattle.records.specs.declared.snapshot.Snapshots.{Snapshots}
 use Rattle.records.specs.declared.run.Answer.{Answer}
 use Rattle.rules.specs.Words.{firstOf, orElse, Check}
 use Rattle.rules.specs.Capacities.{metadataLogRoom}
-use Rattle.rules.specs.Replies.{defaultOrderUnfit, logEndsElsewhere, mainDisagrees}
 use Rattle.rules.specs.Register.{State}
 use Rattle.rules.specs.Register.Outcome.{Refused, Accepted}
-use Rattle.rules.specs.WellFormed.{mainAgrees, metadataLogFormed, fileNameFormed}
+use Rattle.rules.specs.WellFormed.{metadataLogFormed, fileNameFormed}
 use Rattle.rules.specs.ChangeLog.{logsMain, mainTarget}
 use Rattle.rules.specs.Limit.{limitOf, isNumber, afterPlus}
-use Rattle.rules.proofs.Checks.{by-test}
-use Rattle.rules.specs.Close.{isDefaultUnfit, endsElsewhere, history, staying, expired, closeChecks, closed}
+use Rattle.rules.proofs.Checks.{by-test, passed}
+use Rattle.rules.specs.Close.{staying, expired, closeChecks, closed}
 use Rattle.rules.specs.Run.{close}
-use Rattle.rules.specs.Layout.{laidSnapshots, laidFields, laidMetadata}
+use Rattle.rules.specs.Layout.{laidSnapshots, laidFields, laidMetadata, readMetadataLog, laidMetadataLog}
 use Rattle.rules.specs.Kinds.{laidUpdates}
 use Rattle.rules.specs.Answer.{laidOutcome}
 use Rattle.rules.proofs.Reread.{reread-fields}
@@ -32,13 +32,19 @@ use Rattle.rules.specs.Register as plain
 use Rattle.builder.specs.declared.builder.TableMetadataBuilder.{TableMetadataBuilder}
 use Rattle.builder.specs.Pieces.{laidBuilder, idsOf}
 use Rattle.tables.specs.Laid.{LaidMetadataLog}
+use Rattle.tables.proofs.Table.{within}
+use Rattle.tables.proofs.Each.{tidy-metadata-log}
 use Rattle.close.specs.declared.history.History.{History}
-use Rattle.close.specs.declared.files.FileLogs.{FileLogs}
 use Rattle.close.specs.Facts.{addition, additions, Told}
-use Rattle.close.specs.Answers.{HistoryOf, Handed, Filed, FilesOf}
+use Rattle.close.specs.Answers.{HistoryOf, Handed, joining}
+use Rattle.close.proofs.Join.{Filed, gone-within, stays, expires, stays-length}
 use Rattle.laws.specs.Standing.{Given, Pieces, Represents, termsOf}
 use Rattle.laws.proofs.Slots.{pad-length, pad-front, collect-length}
 use Rattle.laws.proofs.Beginning.{read-fields, read-refs, read-log, read-schemas, read-orders, snapshots-fit}
+
+pub limit-least : (text : List ℕ) → 1 ≤ limitOf text
+unfolding limitOf
+limit-least text = by-test (λ (n : ℕ). 1 ≤ n) (isNumber (afterPlus text)) (λ e. omega arith) (λ e. omega arith)
 
 module _ {g : Given} {st : State} {p : Pieces} (E : Represents g st p) where
   pub held-count : p .held .snapshots .count ≡ length (st .metadata .snapshots)
@@ -94,59 +100,62 @@ module _ {g : Given} {st : State} {p : Pieces} (E : Represents g st p) where
   unfolding metadataLogFormed
   files-laid = record { back = E .kept .back; fits = rw (← (E .kept .files)) (log-fits metadataLogRoom (λ (e : plain.FileEntry). fileNameFormed (e .file)) (st .metadata .metadataLog) (E .sound .metadataLog)) }
 
-  pub filed : {limit : ℕ} → limit ≡ limitOf (g .text) → Filed (termsOf g) (st .metadata) (g .metadata .«metadata_log») (g .terms) (g .metadata .fields .«last_updated_ms») limit
-  filed e = record { entries = sym (E .kept .files); name = refl; time = sym (E .kept .old); most = e }
+  abbrev pub checks : List Check
+  checks = closeChecks (termsOf g) (st .log) (st .metadata)
 
-  abbrev pub firstThree : List Check
-  firstThree = (isDefaultUnfit (st .metadata), defaultOrderUnfit) ∷ (endsElsewhere (st .log) (st .metadata), logEndsElsewhere) ∷ (not (mainAgrees (st .metadata)), mainDisagrees) ∷ []
+  pub files-fit : g .metadata .«metadata_log» .count ≤ 128
+  files-fit = within (tidy-metadata-log files-laid)
 
-  -- the first three decide, or the fourth does
-  more : (d q w z : Bool) (n : ℕ) → n ≡ firstOf ((d, 20) ∷ (q, 21) ∷ (w, 22) ∷ []) → (n ≡ 0 → ⊥) → firstOf ((d, 20) ∷ (q, 21) ∷ (w, 22) ∷ (z, 23) ∷ []) ≡ n
-  more true q w z n e y = sym e
-  more false true w z n e y = sym e
-  more false false true z n e y = sym e
-  more false false false z n e y = absurd (y e)
+  -- the metadata log, under the limit that is given, with so many gone
+  module _ {limit gone : ℕ} (e : limit ≡ limitOf (g .text)) (k : gone ≡ cond (g .terms .«has_file») (g .metadata .«metadata_log» .count + 1) (g .metadata .«metadata_log» .count) - limit) where
+    filed : Filed (termsOf g) (st .metadata) (g .metadata .«metadata_log») (g .terms) (g .metadata .fields .«last_updated_ms») limit
+    filed = record { laid = files-laid; entries = sym (E .kept .files); name = refl; time = sym (E .kept .old); most = e; least = rw e (limit-least (g .text)) }
 
-  last : (d q w z : Bool) → firstOf ((d, 20) ∷ (q, 21) ∷ (w, 22) ∷ []) ≡ 0 → firstOf ((d, 20) ∷ (q, 21) ∷ (w, 22) ∷ (z, 23) ∷ []) ≡ cond z 23 0
-  last true q w z e = absurd (let y : _≡_ {A = ℕ} 20 0 = e in omega arith)
-  last false true w z e = absurd (let y : _≡_ {A = ℕ} 21 0 = e in omega arith)
-  last false false true z e = absurd (let y : _≡_ {A = ℕ} 22 0 = e in omega arith)
-  last false false false z e = refl
+    pub gone-fits : gone ≤ g .metadata .«metadata_log» .count
+    gone-fits = rw k (gone-within filed)
 
-  abbrev tooMany : Bool
-  tooMany = ltb metadataLogRoom (length (staying (termsOf g) (st .metadata)))
+    stays-count : length (staying (termsOf g) (st .metadata)) ≡ cond (g .terms .«has_file») (g .metadata .«metadata_log» .count + 1) (g .metadata .«metadata_log» .count) - gone
+    stays-count = rw k (stays-length filed)
 
-  pub close-refused : (place : ℕ) {n : ℕ} → n ≡ firstOf firstThree → (n ≡ 0 → ⊥) → laidOutcome (g .metadata) (Refused n place) ≡ laidOutcome (g .metadata) (close (termsOf g) place (st .log) st)
-  unfolding close closeChecks
-  close-refused place {n} e z =
-      let w = more (isDefaultUnfit (st .metadata)) (endsElsewhere (st .log) (st .metadata)) (not (mainAgrees (st .metadata))) tooMany n e z in
-      rw (w, ne-eqb n 0 z)
+    pub overfull-is : {b : Bool} → b ≡ ltb metadataLogRoom (cond (g .terms .«has_file») (g .metadata .«metadata_log» .count + 1) (g .metadata .«metadata_log» .count) - gone) → b ≡ ltb metadataLogRoom (length (staying (termsOf g) (st .metadata)))
+    overfull-is q = q ∙ ap (ltb metadataLogRoom) (sym stays-count)
 
-  pub files-refused : (place : ℕ) → firstOf firstThree ≡ 0 → tooMany ≡ true → laidOutcome (g .metadata) (Refused 23 place) ≡ laidOutcome (g .metadata) (close (termsOf g) place (st .log) st)
-  unfolding close closeChecks
-  files-refused place e l =
-      let w = last (isDefaultUnfit (st .metadata)) (endsElsewhere (st .log) (st .metadata)) (not (mainAgrees (st .metadata))) tooMany e in
-      rw (w, l)
+    -- an entry that joins has room, and its name is no longer than a name may be
+    pub joins-fit : firstOf checks ≡ 0 → g .terms .«has_file» ≡ true → (g .metadata .«metadata_log» .count - gone < 128) × (g .terms .file .len ≤ 96)
+    unfolding closeChecks
+    joins-fit z j =
+        let few : length (staying (termsOf g) (st .metadata)) ≤ 128 = ltb-false metadataLogRoom _ (passed checks refl z .1 .1 .1 .0) in
+        (omega (arith, few, gone-fits, stays-count ∙ ap (λ (b : Bool). cond b (g .metadata .«metadata_log» .count + 1) (g .metadata .«metadata_log» .count) - gone) j), E .kept .short j)
 
-  first-three : firstOf firstThree ≡ 0 → tooMany ≡ false → (place : ℕ) → close (termsOf g) place (st .log) st ≡ Accepted (closed (termsOf g) (st .log) st) (st .log) (expired (termsOf g) (st .metadata))
-  unfolding close closeChecks
-  first-three e l place =
-      let w = last (isDefaultUnfit (st .metadata)) (endsElsewhere (st .log) (st .metadata)) (not (mainAgrees (st .metadata))) tooMany e in
-      rw (w, l)
+    pub stay-is : {stay : MetadataLog} → stay ≡ laidMetadataLog (drop gone (readMetadataLog (g .metadata .«metadata_log»)) ++ joining (g .terms) (g .metadata .fields .«last_updated_ms»)) → stay ≡ laidMetadataLog (staying (termsOf g) (st .metadata))
+    stay-is q = q ∙ ap laidMetadataLog (ap (λ (n : ℕ). drop n (readMetadataLog (g .metadata .«metadata_log»)) ++ joining (g .terms) (g .metadata .fields .«last_updated_ms»)) k ∙ sym (stays filed))
+
+    pub gone-is : {out : MetadataLog} → out ≡ laidMetadataLog (take gone (readMetadataLog (g .metadata .«metadata_log»))) → out ≡ laidMetadataLog (expired (termsOf g) (st .metadata))
+    gone-is q = q ∙ ap laidMetadataLog (ap (λ (n : ℕ). take n (readMetadataLog (g .metadata .«metadata_log»))) k ∙ sym (expires filed))
+
+  pub close-refused : (place : ℕ) {n : ℕ} → n ≡ firstOf checks → (n ≡ 0 → ⊥) → laidOutcome (g .metadata) (Refused n place) ≡ laidOutcome (g .metadata) (close (termsOf g) place (st .log) st)
+  unfolding close
+  close-refused place {n} e z = rw (← e, ne-eqb n 0 z)
+
+  accepts : firstOf checks ≡ 0 → (place : ℕ) → close (termsOf g) place (st .log) st ≡ Accepted (closed (termsOf g) (st .log) st) (st .log) (expired (termsOf g) (st .metadata))
+  unfolding close
+  accepts e place = rw e
 
   -- the single fields with another last update
   abbrev pub updated : Time → SingleFields → SingleFields
   updated x f = record { «format_version» = f .«format_version»; «table_uuid» = f .«table_uuid»; location = f .location; «last_updated_ms» = x; «last_sequence_number» = f .«last_sequence_number»; «next_row_id» = f .«next_row_id»; «last_column_id» = f .«last_column_id»; «has_current» = f .«has_current»; «current_snapshot_id» = f .«current_snapshot_id»; «current_schema_id» = f .«current_schema_id»; «default_sort_order_id» = f .«default_sort_order_id» }
 
-  pub close-accepted : (place : ℕ) → firstOf firstThree ≡ 0 → {y : History} → HistoryOf (st .log) (st .metadata) y → {z : FileLogs} → FilesOf (termsOf g) (st .metadata) z → z .«too_many» ≡ false → {x : Time} → x .0 ≡ orElse (st .own) (g .terms .«clock_ms» .0)
-      → _≡_ {A = Answer} (record { number = 0; place = 0; metadata = record { fields = updated x (p .held .builder .fields); snapshots = p .held .snapshots; refs = p .held .refs; «snapshot_log» = y .log; «metadata_log» = z .stay; schemas = p .held .schemas; «sort_orders» = p .held .orders }; changes = record { items = p .changes .entries; count = p .changes .count }; expired = z .expired })
+  pub close-accepted : (place : ℕ) → firstOf checks ≡ 0 → {y : History} → HistoryOf (st .log) (st .metadata) y
+      → {stay gone : MetadataLog} → stay ≡ laidMetadataLog (staying (termsOf g) (st .metadata)) → gone ≡ laidMetadataLog (expired (termsOf g) (st .metadata))
+      → {x : Time} → x .0 ≡ orElse (st .own) (g .terms .«clock_ms» .0)
+      → _≡_ {A = Answer} (record { number = 0; place = 0; metadata = record { fields = updated x (p .held .builder .fields); snapshots = p .held .snapshots; refs = p .held .refs; «snapshot_log» = y .log; «metadata_log» = stay; schemas = p .held .schemas; «sort_orders» = p .held .orders }; changes = record { items = p .changes .entries; count = p .changes .count }; expired = gone })
       (laidOutcome (g .metadata) (close (termsOf g) place (st .log) st))
   unfolding laidOutcome closed laidMetadata laidFields laidUpdates
-  close-accepted place e {y} Y {z} Z n {x} u =
+  close-accepted place e {y} Y S G {x} u =
       let T = E .tables in
       let F : updated x (p .held .builder .fields) ≡ updated (record { 0 = orElse (st .own) (g .terms .«clock_ms» .0) }) (laidFields (st .metadata .fields)) = λ i. updated (record { 0 = u i }) (fields-laid i) in
-      (λ i. record { number = 0; place = 0; metadata = record { fields = F i; snapshots = T .snapshots i; refs = T .refs i; «snapshot_log» = Y .log i; «metadata_log» = Z .stay n i; schemas = T .schemas i; «sort_orders» = T .orders i }; changes = record { items = E .logs .entries i; count = E .logs .count i }; expired = Z .expired i })
-      ∙ ap (laidOutcome (g .metadata)) (sym (first-three e (sym (Z .tooMany) ∙ n) place))
+      (λ i. record { number = 0; place = 0; metadata = record { fields = F i; snapshots = T .snapshots i; refs = T .refs i; «snapshot_log» = Y .log i; «metadata_log» = S i; schemas = T .schemas i; «sort_orders» = T .orders i }; changes = record { items = E .logs .entries i; count = E .logs .count i }; expired = G i })
+      ∙ ap (laidOutcome (g .metadata)) (sym (accepts e place))
 
   -- the parts that are lent
   pub held-within : p .held .snapshots .count ≤ length (p .held .ids)
@@ -166,7 +175,3 @@ module _ {g : Given} {st : State} {p : Pieces} (E : Represents g st p) where
 
   pub main-slice : p .changes .mains ≡ length (take (p .changes .mains) (p .changes .mained))
   main-slice = E .logs .mains ∙ sym (ap length main-ids)
-
-pub limit-least : (text : List ℕ) → 1 ≤ limitOf text
-unfolding limitOf
-limit-least text = by-test (λ (n : ℕ). 1 ≤ n) (isNumber (afterPlus text)) (λ e. omega arith) (λ e. omega arith)

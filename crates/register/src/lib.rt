@@ -15,7 +15,10 @@ use builder::facts::is_last;
 use builder::facts::last_time;
 use builder::facts::position;
 use close::close_number;
-use close::files::files;
+use close::files::is_overfull;
+use close::files::part;
+use close::files::staying;
+use close::files::surplus;
 use close::history::close_log;
 use close::last_update;
 use leaves::limit::limit;
@@ -24,7 +27,6 @@ use order_updates::orders_after;
 use order_updates::set_default_sort_order;
 use records::metadata::TableMetadata;
 use records::replies::ACCEPTED;
-use records::replies::TOO_MANY_FILES;
 use records::replies::UPDATE_NOT_FORMED;
 use records::run::Answer;
 use records::run::RunTerms;
@@ -253,21 +255,20 @@ pub fn run(metadata: TableMetadata, updates: UpdateList, terms: RunTerms, text: 
         &mained[..mains],
         removal,
     );
-    number = close_number(history, fields, refs, schemas, orders);
-    if number != ACCEPTED {
-        return refused(metadata, number, place);
-    }
     let most = limit(text);
-    let filed = files(metadata.metadata_log, terms, first.last_updated_ms, most);
-    if filed.too_many {
-        return refused(metadata, TOO_MANY_FILES, place);
+    let stored = metadata.metadata_log.count;
+    let gone = surplus(stored, terms.has_file, most);
+    let overfull = is_overfull(stored, terms.has_file, gone);
+    number = close_number(history, fields, refs, schemas, orders, overfull);
+    if number != ACCEPTED {
+        return refused(metadata, number, listed);
     }
+    let expired = part(metadata.metadata_log, 0, gone);
+    let metadata_log = staying(metadata.metadata_log, gone, terms, first.last_updated_ms);
     let updated = last_update(builder, clock);
     let mut closed = fields;
     closed.last_updated_ms = updated;
     let snapshot_log = history.log;
-    let metadata_log = filed.stay;
-    let expired = filed.expired;
     let ended = TableMetadata {
         fields: closed,
         snapshots,

@@ -7,7 +7,7 @@ use borrow.Author.Tests.{not-true, not-false}
 use Rattle.rules.specs.Words.{eqZ, sameOption}
 use Rattle.rules.specs.Register.{Metadata, Update}
 use Rattle.rules.specs.WellFormed.{mainSnapshot, mainAgrees}
-use Rattle.rules.specs.Close.{isDefaultUnfit, endsElsewhere}
+use Rattle.rules.specs.Close.{isDefaultUnfit, endsElsewhere, closeChecks}
 use Rattle.close.specs.Answers.{HistoryOf, Handed}
 use Rattle.close.proofs.Facts.{ends-is}
 use Rattle.close.proofs.close_number.Statement.{statement}
@@ -27,13 +27,15 @@ unfolding mainAgrees
 main c q e = sym (c .main-agrees .ensures ∙ (λ i. sameOption eqZ (q .single i .current) (mainSnapshot (q .named i)))) ∙ e
 
 pub close-number-spec : {M : Type 1} → statement M
+unfolding closeChecks
 close-number-spec =
     tie.close
     (tie.spec
     (λ c κs. search needs)
-    (λ c l p k q. rw (unfit (c .before) q (c .if1 .taken)))
+    (λ c t l p k q o. rw (unfit (c .before) q (c .if1 .taken)))
     (λ c κs. search needs)
-    (λ c l p k q. rw (unfit (c .before .before .before) q (c .before .before .if1 .left), ends (c .before) k q (c .if2 .taken)))
+    (λ c t l p k q o. rw (unfit (c .before .before .before) q (c .before .before .if1 .left), ends (c .before) k q (c .if2 .taken)))
     (λ c κs. search needs)
-    (λ c l p k q. rw (unfit (c .before .before .before .before .before) q (c .before .before .before .before .if1 .left), ends (c .before .before .before) k q (c .before .before .if2 .left), main (c .before) q (not-true _ (c .if3 .taken))))
-    (λ c l p k q. rw (unfit (c .before .before .before .before .before) q (c .before .before .before .before .if1 .left), ends (c .before .before .before) k q (c .before .before .if2 .left), main (c .before) q (not-false _ (c .if3 .left)))))
+    (λ c t l p k q o. rw (unfit (c .before .before .before .before .before) q (c .before .before .before .before .if1 .left), ends (c .before .before .before) k q (c .before .before .if2 .left), main (c .before) q (not-true _ (c .if3 .taken))))
+    (λ c t l p k q o. rw (unfit (c .before .before .before .before .before .before) q (c .before .before .before .before .before .if1 .left), ends (c .before .before .before .before) k q (c .before .before .before .if2 .left), main (c .before .before) q (not-false _ (c .before .if3 .left)), ← o, c .if4 .taken))
+    (λ c t l p k q o. rw (unfit (c .before .before .before .before .before .before) q (c .before .before .before .before .before .if1 .left), ends (c .before .before .before .before) k q (c .before .before .before .if2 .left), main (c .before .before) q (not-false _ (c .before .if3 .left)), ← o, c .if4 .left)))

@@ -15,7 +15,6 @@ use lib.Dec.{eqb, ltb}
 use lib.IntN.{ℤ, pos}
 use lib.ListN.{length, drop, take, length-map}
 use Rattle.records.specs.Blanks.{noSnapshot}
-use Rattle.records.specs.declared.run.Answer.{Answer}
 use Rattle.records.specs.declared.update.TableUpdate.{TableUpdate}
 use Rattle.rules.specs.Words.{total, eqZ, firstOf, put}
 use Rattle.rules.specs.Names.{isMain}
@@ -25,10 +24,7 @@ use Rattle.rules.specs.SnapshotUpdates.{addSnapshotChecks}
 use Rattle.rules.specs.Run.{weight, listSum}
 use Rattle.rules.specs.Layout.{pad, readSnapshot, laidSnapshot, laidSnapshots, readSnapshotIds, readSchemaIds, readRefName}
 use Rattle.rules.specs.Kinds.{isTidyUpdate, readUpdate, readUpdates, assignUuidKind, upgradeFormatVersionKind, setLocationKind, addSnapshotKind, setBranchSnapshotKind, removeSnapshotsKind, setRefKind, removeRefKind, addSchemaKind, setCurrentSchemaKind, removeSchemasKind, addSortOrderKind, setDefaultSortOrderKind}
-use Rattle.rules.specs.Run.{close}
-use Rattle.rules.specs.Answer.{laidOutcome}
-use Rattle.rules.specs.Register.Outcome.{Refused}
-use Rattle.close.specs.Answers.{HistoryOf, FilesOf}
+use Rattle.close.specs.Answers.{HistoryOf}
 use Rattle.rules.proofs.Checks.{and-left, and-right, by-either, neither}
 use Rattle.tables.specs.Laid.{LaidName}
 use Rattle.tables.specs.Places.{indexOf}
@@ -41,10 +37,10 @@ use Rattle.ref_updates.specs.Refs.{RefSet}
 use Rattle.start.specs.Start.{startNumber}
 use Rattle.start.proofs.Reading.{formed-tidy, formed-kind, known, kinds, read-remove-snapshots, read-set-ref, read-remove-ref, read-remove-schemas, here, all-read, weight-read, counts}
 use Rattle.start.proofs.Started.{refused-start}
-use Rattle.laws.specs.Standing.{Given, termsOf, answerOf, Pieces, Standing}
+use Rattle.laws.specs.Standing.{Given, termsOf, Pieces, Represents, Standing}
 use Rattle.laws.specs.Turns.{nothing, updateAt, nameAt, Midway, Stands, Decided, Turn}
 use Rattle.laws.proofs.Beginning.{start-snapshots, start-log, start-short, standing-start, laid-snapshots, laid-refs, laid-log, laid-schemas, laid-orders, location-fits, snapshots-ascend, schemas-ascend, refs-ascend, orders-formed, schema-held, order-held}
-use Rattle.laws.proofs.Closed.{firstThree, held-ids, held-fits, held-within, held-slice, adds-within, added-slice, mains-within, main-slice, adds-most, mains-most, told, handed, files-laid, filed, limit-least, close-refused, files-refused, close-accepted}
+use Rattle.laws.proofs.Closed.{held-ids, held-fits, held-within, held-slice, adds-within, added-slice, mains-within, main-slice, adds-most, mains-most, told, handed, files-laid, files-fit, gone-fits, overfull-is, joins-fit, stay-is, gone-is, checks, close-refused, close-accepted}
 use Rattle.laws.proofs.Moving.{fits, ends}
 use Rattle.laws.proofs.Deciding.{whole, not-formed-decided, fields-decided, refs-decided, schemas-decided, orders-decided, refs-left, schemas-left, schemas-grown, orders-grown}
 use Rattle.laws.proofs.Removing.{left-laid, removed-decided}
@@ -437,36 +433,30 @@ module _ (c : tie.Else20 Inv-loop μ-loop Inv-loop2 μ-loop2) where
   passed : given end-at .updates .count ≤ end-at .loop2 .place
   passed = ltb-false _ _ (neither (end-at .loop2 .waits) (ltb (end-at .loop2 .place) (given end-at .updates .count)) over .1)
 
-  -- the place is the list's length
-  end-place : end-at .loop2 .place ≡ given end-at .updates .count
-  end-place = omega (arith, passed, end-at .loop2 .inv .within)
-
   end : Standing (given end-at) (end-at .loop2 .place) (here-pieces end-at)
   end = at-the-end (end-at .loop2 .inv .stands (c .if20 .left) (neither (end-at .loop2 .waits) (ltb (end-at .loop2 .place) (given end-at .updates .count)) over .0)) passed
 
-  -- a refusal of the close
-  end-refused : (n : ℕ) {x : Answer} → x ≡ laidOutcome (given end-at .metadata) (Refused n (end-at .loop2 .place)) → laidOutcome (given end-at .metadata) (Refused n (given end-at .updates .count)) ≡ laidOutcome (given end-at .metadata) (close (termsOf (given end-at)) (given end-at .updates .count) (end .state .log) (end .state)) → x ≡ answerOf (given end-at)
-  end-refused n q w = q ∙ ap (λ (k : ℕ). laidOutcome (given end-at .metadata) (Refused n k)) end-place ∙ w ∙ ends end passed
+module _ (c : tie.After-surplus Inv-loop μ-loop Inv-loop2 μ-loop2) where
+  abbrev closing : tie.Else20 Inv-loop μ-loop Inv-loop2 μ-loop2
+  closing = c .before .before .before .before .before .before .before
+
+  history : HistoryOf (end closing .state .log) (end closing .state .metadata) (c .before .before .close-log .result)
+  history = c .before .before .close-log .ensures .0 (end closing .state .log) (end closing .state .metadata) (told (end closing .stands))
+
+  abbrev E : Represents (given (end-at closing)) (end closing .state) (here-pieces (end-at closing))
+  E = end closing .stands
+
+  gone-within : c .surplus .result ≤ given (end-at closing) .metadata .«metadata_log» .count
+  gone-within = gone-fits E (c .before .limit .ensures) (c .surplus .ensures)
 
 module _ (c : tie.After-close-number Inv-loop μ-loop Inv-loop2 μ-loop2) where
-  abbrev closing : tie.Else20 Inv-loop μ-loop Inv-loop2 μ-loop2
-  closing = c .before .before .before .before .before .before
+  abbrev filing : tie.After-surplus Inv-loop μ-loop Inv-loop2 μ-loop2
+  filing = c .before .before
 
-  history : HistoryOf (end closing .state .log) (end closing .state .metadata) (c .before .close-log .result)
-  history = c .before .close-log .ensures .0 (end closing .state .log) (end closing .state .metadata) (told (end closing .stands))
-
-  numbered : c .close-number .result ≡ firstOf (firstThree (end closing .stands))
-  numbered = c .close-number .ensures (end closing .state .log) (end closing .state .metadata) history (handed (end closing .stands))
-
-module _ (c : tie.After-files Inv-loop μ-loop Inv-loop2 μ-loop2) where
-  abbrev counted-at : tie.After-close-number Inv-loop μ-loop Inv-loop2 μ-loop2
-  counted-at = c .before .before .before
-
-  none-fails : firstOf (firstThree (end (closing counted-at) .stands)) ≡ 0
-  none-fails = sym (numbered counted-at) ∙ c .before .before .if21 .left
-
-  filed-so : FilesOf (termsOf (given (end-at (closing counted-at)))) (end (closing counted-at) .state .metadata) (c .files .result)
-  filed-so = c .files .ensures (termsOf (given (end-at (closing counted-at)))) (end (closing counted-at) .state .metadata) (filed (end (closing counted-at) .stands) (c .before .limit .ensures))
+  numbered : c .close-number .result ≡ firstOf (checks (E filing))
+  numbered =
+      c .close-number .ensures (termsOf (given (end-at (closing filing)))) (end (closing filing) .state .log) (end (closing filing) .state .metadata) (history filing) (handed (E filing))
+      (overfull-is (E filing) (filing .before .limit .ensures) (filing .surplus .ensures) (c .before .is-overfull .ensures))
 
 loop-holds : tie.Need-loop-holds Inv-loop μ-loop Inv-loop2 μ-loop2
 unfolding listSum
@@ -984,24 +974,37 @@ slice-aggregate-close-log-3 c = main-slice (end (c .before .before .before .befo
 close-log-requires : tie.Need-close-log-requires Inv-loop μ-loop Inv-loop2 μ-loop2
 close-log-requires c κs = laid-log (end (c .before .before .before .before) .stands)
 
+surplus-requires : tie.Need-surplus-requires Inv-loop μ-loop Inv-loop2 μ-loop2
+surplus-requires c κs = files-fit (end (c .before .before .before .before .before .before) .stands)
+
+is-overfull-requires : tie.Need-is-overfull-requires Inv-loop μ-loop Inv-loop2 μ-loop2
+is-overfull-requires c κs = (files-fit (E c), gone-within c)
+
 close-number-requires : tie.Need-close-number-requires Inv-loop μ-loop Inv-loop2 μ-loop2
-close-number-requires c κs = let E = end (c .before .before .before .before .before) .stands in (c .close-log .ensures .1, (laid-refs E, (laid-schemas E, (laid-orders E, (schema-held E, order-held E)))))
+close-number-requires c κs = let e = E (c .before) in (c .before .before .before .close-log .ensures .1, (laid-refs e, (laid-schemas e, (laid-orders e, (schema-held e, order-held e)))))
 
 returns-2 : tie.Need-returns-2 Inv-loop μ-loop Inv-loop2 μ-loop2
-returns-2 c = let n = c .before .before in end-refused (closing n) (n .close-number .result) (c .refused2 .ensures) (close-refused (end (closing n) .stands) _ (numbered n) (c .before .if21 .taken))
+returns-2 c = let n = c .before .before in let e = closing (filing n) in c .refused2 .ensures ∙ close-refused (E (filing n)) _ (numbered n) (c .before .if21 .taken) ∙ ends (end e) (passed e)
 
-files-requires : tie.Need-files-requires Inv-loop μ-loop Inv-loop2 μ-loop2
-files-requires c κs = let E = end (closing (c .before .before)) .stands in (files-laid E, (E .kept .short, rw (c .limit .ensures) (limit-least _)))
+part-requires : tie.Need-part-requires Inv-loop μ-loop Inv-loop2 μ-loop2
+part-requires c κs = let f = filing (c .before) in (files-laid (E f), (search needs, gone-within f))
+
+staying-requires : tie.Need-staying-requires Inv-loop μ-loop Inv-loop2 μ-loop2
+staying-requires c κs =
+    let n = c .before .before in
+    let f = filing n in
+    (files-laid (E f), (gone-within f, joins-fit (E f) (f .before .limit .ensures) (f .surplus .ensures) (sym (numbered n) ∙ c .before .if21 .left)))
 
 returns-3 : tie.Need-returns-3 Inv-loop μ-loop Inv-loop2 μ-loop2
-returns-3 c = let f = c .before .before in let n = counted-at f in end-refused (closing n) 23 (c .refused3 .ensures) (files-refused (end (closing n) .stands) _ (none-fails f) (sym (filed-so f .tooMany) ∙ c .before .if22 .taken))
-
-returns-4 : tie.Need-returns-4 Inv-loop μ-loop Inv-loop2 μ-loop2
-returns-4 c =
-    let l = c .before .before .before in
-    let f = l .before .before in
-    let n = counted-at f in
-    close-accepted (end (closing n) .stands) _ (none-fails f) (history n) (filed-so f) (l .before .if22 .left) (l .last-update .ensures (end (closing n) .state) (end (closing n) .stands .tables .builder)) ∙ ends (end (closing n)) (passed (closing n))
+returns-3 c =
+    let l = c .before in
+    let n = l .before .before .before .before in
+    let f = filing n in
+    close-accepted (E f) _ (sym (numbered n) ∙ l .before .before .before .if21 .left) (history f)
+    (stay-is (E f) (f .before .limit .ensures) (f .surplus .ensures) (l .before .staying .ensures))
+    (gone-is (E f) (f .before .limit .ensures) (f .surplus .ensures) (l .before .before .part .ensures))
+    (l .last-update .ensures (end (closing f) .state) (E f .tables .builder))
+    ∙ ends (end (closing f)) (passed (closing f))
 
 pub run-spec : {M : Type 1} → statement M
 run-spec =
@@ -1132,12 +1135,13 @@ run-spec =
     array-share-prefix-mained
     slice-aggregate-close-log-3
     close-log-requires
+    (λ c κs. search needs)
+    surplus-requires
+    is-overfull-requires
     close-number-requires
     (λ c κs. search needs)
     returns-2
+    part-requires
+    staying-requires
     (λ c κs. search needs)
-    files-requires
-    (λ c κs. search needs)
-    returns-3
-    (λ c κs. search needs)
-    returns-4)
+    returns-3)
