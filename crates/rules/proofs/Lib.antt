@@ -33,3 +33,5 @@ pub mod AnswerLaws
 pub mod AnswerReplays
 pub mod AnswerInstances
 pub mod AnswerFits
+pub mod HistoryLists
+pub mod Accounted
