@@ -5,7 +5,7 @@ use native.Mathlib.Numerals.{unary-clauses}
 use native.Mathlib.Omega.{arith}
 use mathlib.Core.Path.{_≡_, refl, sym, ap, _∙_}
 use mathlib.Core.Bool.{Bool, true, false, cond, not, _||_, false≢true}
-use mathlib.Core.List.{List, [], _∷_, _++_, map, List·Memᴰ, List·Memᴰ·cases-cons}
+use mathlib.Core.List.{List, [], _∷_, _++_, map, List·Memᴰ, List·Memᴰ·not-nil, List·Memᴰ·cases-cons}
 use mathlib.Core.Logic.{⊎-elim}
 use mathlib.Core.List.List·Memᴰ.{List·Memᴰ·head, List·Memᴰ·tail}
 use mathlib.Core.Option.{Option, none, some}
@@ -14,7 +14,7 @@ use lib.ListN.{length, drop}
 use Rattle.rules.specs.Words.{eqZ, orElse, all, any, keep, lastOf, afterLast, isIn}
 use Rattle.rules.proofs.Checks.{by-test, both, or-left, or-right, by-either, neither}
 use Rattle.rules.proofs.Orders.{numbers-told}
-use Rattle.rules.proofs.Tables.{any-keep, all-drop}
+use Rattle.rules.proofs.Tables.{all-head, all-tail, any-keep, all-drop}
 use Rattle.rules.proofs.ReplayLists.{keep-append, keep-all}
 
 -- ---- numbers in lists
@@ -95,6 +95,10 @@ module _ {A : Type 0} where
       go (some y) = refl
 
   -- ---- what stands in a list
+
+  pub all-in : (p : A → Bool) (l : List A) {a : A} → all p l ≡ true → List·Memᴰ a l → p a ≡ true
+  all-in p [] h k = absurd (List·Memᴰ·not-nil k)
+  all-in p (x ∷ l) h k = ⊎-elim (λ q. rw q (all-head p x l h)) (λ q. all-in p l (all-tail p x l h) q) (List·Memᴰ·cases-cons k)
 
   pub in-drop : (n : ℕ) (l : List A) {a : A} → List·Memᴰ a (drop n l) → List·Memᴰ a l
   in-drop zero l h = h

@@ -35,3 +35,5 @@ pub mod AnswerInstances
 pub mod AnswerFits
 pub mod HistoryLists
 pub mod Accounted
+pub mod Whole
+pub mod Kept
