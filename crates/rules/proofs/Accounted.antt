@@ -2,13 +2,13 @@
 -- entries of snapshots to which a logged `main` ref went, and of the start's snapshots the log adds only those that it removed.
 use Prim.Native.Nat.{ℕ}
 use mathlib.Core.Path.{_≡_, refl, sym, ap, _∙_}
-use mathlib.Core.Bool.{Bool, true, false, cond, not, _||_, false≢true}
-use mathlib.Core.List.{List, [], _∷_, _++_, map, append-nil, append-assoc}
+use mathlib.Core.Bool.{Bool, true, false, _||_, false≢true}
+use mathlib.Core.List.{List, [], _∷_, _++_, append-nil, append-assoc}
 use mathlib.Core.Option.{Option, none, some}
 use lib.Dec.{eqb}
 use lib.IntN.{ℤ}
 use borrow.Author.Tests.{not-false}
-use Rattle.rules.specs.Words.{eqZ, isSome, someWith, all, any, keep, isEmpty, isIn, put, collect, sameBytes, firstOf}
+use Rattle.rules.specs.Words.{eqZ, isSome, someWith, all, any, isEmpty, isIn, put, collect, sameBytes, firstOf}
 use Rattle.rules.specs.Names.{isMain, trimmed}
 use Rattle.rules.specs.Register.{Snapshot, Reference, LogEntry, Metadata, Update, Terms, State}
 use Rattle.rules.specs.Register.Update.{AssignUuid, UpgradeFormatVersion, SetLocation, AddSnapshot, SetBranchSnapshot, RemoveSnapshots, SetRef, RemoveRef, AddSchema, SetCurrentSchema, RemoveSchemas, AddSortOrder, SetDefaultSortOrder, NotFormed}
@@ -44,6 +44,7 @@ in-before l r x h = rw (any-append (eqZ x) l r) (or-left (isIn r x) h)
 in-behind : (l r : List ℤ) (x : ℤ) → isIn r x ≡ true → isIn (l ++ r) x ≡ true
 in-behind l r x h = rw (any-append (eqZ x) l r) (or-right (isIn l x) h)
 
+-- what two logs joined remove, and to what they set `main`, is what each does
 removed-append : (a b : List Update) → logsRemoved (a ++ b) ≡ logsRemoved a ++ logsRemoved b
 removed-append [] b = refl
 removed-append (u ∷ a) b = rw (removed-append a b) (sym (append-assoc (removedIds u) (logsRemoved a) (logsRemoved b)))
@@ -62,10 +63,13 @@ mains-append (u ∷ a) b = go (mainTarget u) (mains-append a b)
 main-logged : (log : List Update) (name : List ℕ) (r : Reference) → isMain name ≡ true → isIn (logsMain (log ++ (SetRef name r ∷ []))) (r .snapshot) ≡ true
 unfolding logsMain
 main-logged log name r e =
-    let target : Bool → List ℤ = λ t. collect (λ (o : Option ℤ). o) (cond t (some (r .snapshot)) none ∷ []) in
-    rw (mains-append log (SetRef name r ∷ []))
-    (in-behind (logsMain log) (target (isMain name)) (r .snapshot) (rw (ap target e) (or-left false (numbers-told .itself (r .snapshot)))))
+    let u : Update = SetRef name r in
+    let only : Option ℤ → List ℤ = λ o. elim o [ none ↦ [] | some id ↦ id ∷ [] ] in
+    let target : mainTarget u ≡ some (r .snapshot) = rw e in
+    rw (mains-append log (u ∷ []))
+    (in-behind (logsMain log) (only (mainTarget u)) (r .snapshot) (rw (ap only target) (or-left false (numbers-told .itself (r .snapshot)))))
 
+-- an update that is no removal of snapshots removes none
 removes-none : (u : Update) → isSnapshotRemoval u ≡ false → removedIds u ≡ []
 removes-none (AssignUuid uuid) e = refl
 removes-none (UpgradeFormatVersion v) e = refl
@@ -99,6 +103,7 @@ abbrev pub isMainOf : List Update → LogEntry → Bool
 isMainOf log e = isIn (logsMain log) (e .snapshot)
 
 module _ (m : Metadata) where
+  -- the log accounts for the snapshots and the history that a run from m has come to
   pub record Accounted (snapshots : List Snapshot) (history : List LogEntry) (log : List Update) : Type 0 where
     pub joined : List LogEntry
     pub appended : history ≡ m .snapshotLog ++ joined
@@ -110,6 +115,7 @@ module _ (m : Metadata) where
   abbrev pub AccountedState : State → Type 0
   AccountedState st = Accounted (st .metadata .snapshots) (st .metadata .snapshotLog) (st .log)
 
+  -- at the start
   nothing-yet : AccountedState (started m)
   unfolding logsAddition
   nothing-yet = record {
@@ -125,12 +131,15 @@ module _ (m : Metadata) where
   module _ (u : Update) (l l′ : List Snapshot) (log : List Update)
       (stays : (id : ℤ) → holdsSnapshot l id ≡ true → isKnown l′ (log ++ (u ∷ [])) id ≡ true)
       (adds : (id : ℤ) → isAddition id u ≡ true → holdsSnapshot l id ≡ false) where
+    -- what was removed stays so
     removed-stays : (id : ℤ) → isIn (logsRemoved log) id ≡ true → isIn (logsRemoved (log ++ (u ∷ []))) id ≡ true
     removed-stays id k = rw (removed-append log (u ∷ [])) (in-before (logsRemoved log) (logsRemoved (u ∷ [])) id k)
 
+    -- what is known stays known
     known-stays : (id : ℤ) → isKnown l log id ≡ true → isKnown l′ (log ++ (u ∷ [])) id ≡ true
     known-stays id = by-either (holdsSnapshot l id) (isIn (logsRemoved log) id) (stays id) (λ k. or-right (holdsSnapshot l′ id) (removed-stays id k))
 
+    -- so the log accounts for what is then
     logs : {h : List LogEntry} → Accounted l h log → Accounted l′ h (log ++ (u ∷ []))
     unfolding logsAddition
     logs a = record {
@@ -165,6 +174,7 @@ module _ (m : Metadata) where
 
   -- ---- the updates that add, remove or set
 
+  -- 5: what is added was not held
   add-snapshot-accounted : (s : Snapshot) (st : State) → firstOf (addSnapshotChecks s st) ≡ 0 → AccountedState st → AccountedState (addSnapshot s st)
   unfolding addSnapshot
   add-snapshot-accounted s st e =
@@ -173,6 +183,7 @@ module _ (m : Metadata) where
       (λ id k. or-left (isIn (logsRemoved (st .log ++ (AddSnapshot s ∷ []))) id) (any-put numbers-ordered (λ (x : Snapshot). x .id) (λ (k : ℤ). eqZ k id) s l k))
       (λ id q. rw (numbers-told .equal (s .id) id q) at (add-new s st e))
 
+  -- what goes is logged
   remove-snapshots-accounted : (ids : List ℤ) (st : State) → AccountedState st → AccountedState (removeSnapshots ids st)
   unfolding removeSnapshots
   remove-snapshots-accounted ids st a =
@@ -188,7 +199,7 @@ module _ (m : Metadata) where
       (stays-or-goes idOf ids l id k))
       (λ id q. absurd (false≢true q)) a)
 
-  -- 12: the snapshot is held
+  -- 12: what `main` is set to is held
   set-ref-accounted : (terms : Terms) (name : List ℕ) (r : Reference) (st : State) → firstOf (setRefChecks name r st) ≡ 0 → AccountedState st → AccountedState (setRef terms name r st)
   unfolding setRef setRefChecks
   set-ref-accounted terms name r st e a =
@@ -203,6 +214,7 @@ module _ (m : Metadata) where
 
   -- ---- any update
 
+  -- 5 and 12 aside, nothing is asked: the other updates change neither snapshots nor history, and add no snapshot
   effect-accounted : (terms : Terms) (u : Update) (st : State) → updateNumber u st ≡ 0 → AccountedState st → AccountedState (effect terms u st)
   unfolding checks effect assignUuid upgradeFormatVersion setLocation setBranchSnapshot removeRef addSchema setCurrentSchema removeSchemas addSortOrder setDefaultSortOrder
   effect-accounted terms (AssignUuid uuid) st e a = by-test AccountedState (sameBytes uuid (st .metadata .fields .uuid)) (λ q. a) (λ q. logs-quiet (AssignUuid uuid) (λ id. refl) a)

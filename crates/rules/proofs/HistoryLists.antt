@@ -1,10 +1,9 @@
 -- Laws of lists on which it rests what a run does to a history: what stands after the last of some, what is kept of two lists joined, which is their last.
 use Prim.Native.Nat.{ℕ, zero, suc, _-_}
-use native.Mathlib.Nat.{zero-sub}
-use native.Mathlib.Numerals.{unary-clauses}
+use native.Mathlib.Nat.{sub-zero, zero-sub, suc-sub-suc}
 use native.Mathlib.Omega.{arith}
-use mathlib.Core.Path.{_≡_, refl, sym, ap, _∙_}
-use mathlib.Core.Bool.{Bool, true, false, cond, not, _||_, false≢true}
+use mathlib.Core.Path.{_≡_, refl, ap}
+use mathlib.Core.Bool.{Bool, true, false, not, _||_}
 use mathlib.Core.List.{List, [], _∷_, _++_, map, List·Memᴰ, List·Memᴰ·not-nil, List·Memᴰ·cases-cons}
 use mathlib.Core.Logic.{⊎-elim}
 use mathlib.Core.List.List·Memᴰ.{List·Memᴰ·head, List·Memᴰ·tail}
@@ -49,11 +48,12 @@ module _ {A : Type 0} (key : A → ℤ) where
 -- ---- what stands after the last of some
 
 module _ {A : Type 0} where
+  -- a test that holds for none fails for each
   none-any : (p : A → Bool) (l : List A) → any p l ≡ false → all (λ x. not (p x)) l ≡ true
   none-any p [] e = refl
   none-any p (x ∷ l) e = let k = neither (p x) (any p l) e in both (ap not (k .0)) (none-any p l (k .1))
 
-  -- none of those that stand there
+  -- those that stand there fail the test
   pub afterLast-none : (p : A → Bool) (l : List A) → all (λ x. not (p x)) (afterLast p l) ≡ true
   afterLast-none p [] = refl
   afterLast-none p (x ∷ l) =
@@ -62,11 +62,12 @@ module _ {A : Type 0} where
       (λ e. afterLast-none p l)
       (λ e. by-test P (p x) (λ f. none-any p l e) (λ f. both (ap not f) (none-any p l e)))
 
-  -- it is the list without so many
+  -- a list is another without its first elements
   pub record Dropped (l r : List A) : Type 0 where
     pub count : ℕ
     pub is : r ≡ drop count l
 
+  -- what stands after the last of some is such a list
   pub afterLast-drop : (p : A → Bool) (l : List A) → Dropped l (afterLast p l)
   afterLast-drop p [] = record { count = 0; is = refl }
   afterLast-drop p (x ∷ l) =
@@ -75,17 +76,19 @@ module _ {A : Type 0} where
       (λ e. record { count = suc (ih .count); is = ih .is })
       (λ e. by-test (Dropped (x ∷ l)) (p x) (λ f. record { count = 1; is = refl }) (λ f. record { count = 0; is = refl }))
 
+  -- two lists joined, without their first elements
   drop-append : (n : ℕ) (xs ys : List A) → drop n (xs ++ ys) ≡ drop n xs ++ drop (n - length xs) ys
   drop-append zero xs ys = rw zero-sub
-  drop-append (suc n) [] ys = simp unary-clauses
-  drop-append (suc n) (x ∷ xs) ys = simp unary-clauses (drop-append n xs ys)
+  drop-append (suc n) [] ys = rw sub-zero
+  drop-append (suc n) (x ∷ xs) ys = rw suc-sub-suc (drop-append n xs ys)
 
-  -- of two lists joined, where all of the first would be kept
+  -- what is kept of two lists joined, without their first elements, where the test holds for all of the first list
   pub keep-second : (p : A → Bool) (n : ℕ) (xs ys : List A) → all p xs ≡ true → keep p (drop n (xs ++ ys)) ≡ drop n xs ++ keep p (drop (n - length xs) ys)
   keep-second p n xs ys h = rw (drop-append n xs ys, keep-append p (drop n xs) (drop (n - length xs) ys), keep-all p (drop n xs) (all-drop p n xs h))
 
   -- ---- the last
 
+  -- the last of two lists joined is the second's, or the first's where the second has none
   pub last-append : (xs ys : List A) → lastOf (xs ++ ys) ≡ elim (lastOf ys) [ none ↦ lastOf xs | some y ↦ some y ]
   last-append [] ys = elim (lastOf ys) as (λ (o : Option A). o ≡ elim o [ none ↦ none | some y ↦ some y ]) [ none ↦ refl | some y ↦ refl ]
   last-append (x ∷ xs) ys = rw (last-append xs ys) (go (lastOf ys))
@@ -96,10 +99,12 @@ module _ {A : Type 0} where
 
   -- ---- what stands in a list
 
+  -- what holds for all holds for each that stands in the list
   pub all-in : (p : A → Bool) (l : List A) {a : A} → all p l ≡ true → List·Memᴰ a l → p a ≡ true
   all-in p [] h k = absurd (List·Memᴰ·not-nil k)
   all-in p (x ∷ l) h k = ⊎-elim (λ q. rw q (all-head p x l h)) (λ q. all-in p l (all-tail p x l h) q) (List·Memᴰ·cases-cons k)
 
+  -- what stands in a part of a list stands in the list
   pub in-drop : (n : ℕ) (l : List A) {a : A} → List·Memᴰ a (drop n l) → List·Memᴰ a l
   in-drop zero l h = h
   in-drop (suc n) [] h = h
@@ -112,6 +117,7 @@ module _ {A : Type 0} where
       (λ e k. ⊎-elim (λ q. List·Memᴰ·head q) (λ q. List·Memᴰ·tail (in-keep p l q)) (List·Memᴰ·cases-cons k))
       (λ e k. List·Memᴰ·tail (in-keep p l k)) h
 
+  -- so does its last
   pub in-last : (l : List A) {a : A} → lastOf l ≡ some a → List·Memᴰ a l
   in-last [] e = absurd (let z : _≡_ {A = ℕ} 0 1 = cc in omega arith)
   in-last (x ∷ l) {a} e = go (lastOf l) (λ q. in-last l q) e

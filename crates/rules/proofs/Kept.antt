@@ -1,25 +1,24 @@
 -- What a run leaves of a whole history, and of the answer which snapshot was current at a time, where its log gives no removed snapshot again.
 use Prim.Native.Nat.{ℕ, _-_}
 use mathlib.Core.Path.{_≡_, refl, sym, ap, _∙_, subst}
-use mathlib.Core.Bool.{Bool, true, false, cond, not, _&&_, false≢true}
-use mathlib.Core.List.{List, [], _∷_, _++_, List·Memᴰ}
+use mathlib.Core.Bool.{Bool, true, false, not, _&&_}
+use mathlib.Core.List.{List, [], _++_, List·Memᴰ}
 use mathlib.Core.Option.{Option, none, some}
 use lib.IntN.{ℤ}
 use lib.ListN.{length, take, drop, take-append-drop}
 use lib.Seq.{drop-append-seam}
-use Rattle.rules.specs.Words.{eqZ, someWith, all, keep, lastOf, afterLast, isIn}
+use Rattle.rules.specs.Words.{eqZ, someWith, all, keep, lastOf, afterLast}
 use Rattle.rules.specs.Register.{LogEntry, FileEntry, Metadata, Update, Terms, State}
 use Rattle.rules.specs.Register.Outcome.{Accepted}
-use Rattle.rules.specs.WellFormed.{holdsSnapshot}
 use Rattle.rules.specs.ChangeLog.{logsAddition, logsMain, logsRemoval}
 use Rattle.rules.specs.Moment.{isBy, currentAt, isWhole, logsRemoved, givesAgain}
 use Rattle.rules.specs.Close.{intermediates, isRebuilt, isMissing, isIntermediate, rebuilt, history, closed}
 use Rattle.rules.specs.Run.{Ran, runFrom, started, run}
 use Rattle.rules.specs.Run.Ran.{Stopped, Reached}
 use Rattle.rules.proofs.Checks.{by-test, by-option, both, and-left}
-use Rattle.rules.proofs.Tables.{all-then, all-kept, all-append}
+use Rattle.rules.proofs.Tables.{all-then, all-kept}
 use Rattle.rules.proofs.AcceptedRun.{Ends, run-accepted}
-use Rattle.rules.proofs.ReplayLists.{keep-append}
+use Rattle.rules.proofs.ReplayLists.{keep-append, keep-all}
 use Rattle.rules.proofs.ReplayKeys.{in-all}
 use Rattle.rules.proofs.HistoryLists.{in-any, Dropped, afterLast-drop, keep-second, last-append, all-in, in-drop, in-keep, in-last}
 use Rattle.rules.proofs.Accounted.{isMainOf, AccountedState, run-accounted}
@@ -35,12 +34,13 @@ historyOf (Reached st) = st .metadata .snapshotLog
 unfoldable pub joinedBy : Terms → Metadata → List Update → List LogEntry
 joinedBy terms m us = drop (length (m .snapshotLog)) (historyOf (runFrom terms us 0 (started m)))
 
--- a new history is the old one without its first entries, followed by some of those that joined, each of a snapshot to which a logged `main` ref went
+-- a new history is the old one without its first entries, followed by those that joined, without the first of them and some others, in their order;
+-- each that joined is of a snapshot to which a logged `main` ref went
 pub record HistoryKept (joined : List LogEntry) (log : List Update) (old new : List LogEntry) : Type 0 where
   pub dropped : ℕ
-  pub behind : List LogEntry
-  pub is : new ≡ drop dropped old ++ behind
-  pub joins : {e : LogEntry} → List·Memᴰ e behind → List·Memᴰ e joined
+  pub skipped : ℕ
+  pub stays : LogEntry → Bool
+  pub is : new ≡ drop dropped old ++ keep stays (drop skipped joined)
   pub mains : all (isMainOf log) joined ≡ true
 
 -- what a run may make of an answer: as it was, or an entry of this run, or none
@@ -73,12 +73,13 @@ module _ {joined : List LogEntry} {log : List Update} {old new : List LogEntry} 
   answer-kept : Kept joined log (currentAt time old) (currentAt time new)
   unfolding currentAt
   answer-kept =
-      let behind : List LogEntry = k .behind in
+      let later : List LogEntry = drop (k .skipped) joined in
+      let behind : List LogEntry = keep (k .stays) later in
       let P : Option LogEntry → Type 0 = Kept joined log (currentAt time old) in
       rw (k .is, keep-append (isBy time) (drop (k .dropped) old) behind, last-append (keep (isBy time) (drop (k .dropped) old)) (keep (isBy time) behind))
       (by-option P (lastOf (keep (isBy time) behind))
       (λ q. old-kept)
-      (λ e q. let here : List·Memᴰ e joined = k .joins (in-keep (isBy time) behind (in-last (keep (isBy time) behind) q)) in OfThisRun e refl here (all-in (isMainOf log) joined (k .mains) here)))
+      (λ e q. let here : List·Memᴰ e joined = in-drop (k .skipped) joined (in-keep (k .stays) later (in-keep (isBy time) behind (in-last (keep (isBy time) behind) q))) in OfThisRun e refl here (all-in (isMainOf log) joined (k .mains) here)))
 
 -- ---- the close
 
@@ -100,15 +101,13 @@ module _ (m : Metadata) (st : State) (a : AccountedState m st) (w : isWhole m �
   -- what a test that holds for the start's entries keeps of the history, without its first entries
   kept-of : (q : LogEntry → Bool) → ((e : LogEntry) → isHeldIn m e ≡ true → q e ≡ true) → (n : ℕ) → HistoryKept (a .joined) (st .log) (m .snapshotLog) (keep q (drop n (st .metadata .snapshotLog)))
   unfolding isWhole
-  kept-of q f n =
-      let later : List LogEntry = drop (n - length (m .snapshotLog)) (a .joined) in
-      record {
-        dropped = n;
-        behind = keep q later;
-        is = ap (λ (l : List LogEntry). keep q (drop n l)) (a .appended) ∙ keep-second q n (m .snapshotLog) (a .joined) (all-then (isHeldIn m) q f (m .snapshotLog) w);
-        joins = λ h. in-drop (n - length (m .snapshotLog)) (a .joined) (in-keep q later h);
-        mains = a .mains;
-      }
+  kept-of q f n = record {
+    dropped = n;
+    skipped = n - length (m .snapshotLog);
+    stays = q;
+    is = ap (λ (l : List LogEntry). keep q (drop n l)) (a .appended) ∙ keep-second q n (m .snapshotLog) (a .joined) (all-then (isHeldIn m) q f (m .snapshotLog) w);
+    mains = a .mains;
+  }
 
   -- the history that the close leaves
   close-kept : HistoryKept (a .joined) (st .log) (m .snapshotLog) (history (st .log) (st .metadata))
@@ -124,7 +123,13 @@ module _ (m : Metadata) (st : State) (a : AccountedState m st) (w : isWhole m �
       (λ e. subst (λ (l : List LogEntry). P (keep lasting l)) (sym (cut .is)) (kept-of lasting start-not-intermediate (cut .count)))
       (λ e. kept-of (λ x. not (isMissing p x) && lasting x)
       (λ x h. both (ap (λ (t : Bool). not (not t)) (known-held (p .snapshots) log (x .snapshot) e (a .startKnown (x .snapshot) h))) (start-not-intermediate x h)) 0))
-      (λ r. record { dropped = 0; behind = a .joined; is = a .appended; joins = λ h. h; mains = a .mains })
+      (λ r. record {
+        dropped = 0;
+        skipped = 0;
+        stays = isMainOf log;
+        is = a .appended ∙ ap (λ (l : List LogEntry). m .snapshotLog ++ l) (sym (keep-all (isMainOf log) (a .joined) (a .mains)));
+        mains = a .mains;
+      })
 
 -- ---- the run
 

@@ -1,7 +1,7 @@
 -- What a run does to a whole history, one that names held snapshots alone: it stays whole, and a logged removal makes any history whole.
 use mathlib.Core.Path.{_≡_, refl, subst}
-use mathlib.Core.Bool.{Bool, true, false, not, _&&_, _||_, false≢true}
-use mathlib.Core.List.{List, _++_}
+use mathlib.Core.Bool.{Bool, true, false, not, _&&_, false≢true}
+use mathlib.Core.List.{List}
 use lib.IntN.{ℤ}
 use borrow.Author.Tests.{not-true, not-false}
 use Rattle.rules.specs.Words.{all, afterLast}
@@ -9,7 +9,7 @@ use Rattle.rules.specs.Register.{Snapshot, LogEntry, FileEntry, Metadata
 use Rattle.rules.specs.Register.Outcome.{Accepted}
 use Rattle.rules.specs.WellFormed.{holdsSnapshot}
 use Rattle.rules.specs.ChangeLog.{logsRemoval}
-use Rattle.rules.specs.Moment.{isWhole, logsRemoved}
+use Rattle.rules.specs.Moment.{isWhole}
 use Rattle.rules.specs.Close.{isRebuilt, isMissing, isIntermediate, rebuilt, history, closed}
 use Rattle.rules.specs.Run.{run}
 use Rattle.rules.proofs.Checks.{by-test, by-either}

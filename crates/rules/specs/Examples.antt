@@ -461,4 +461,8 @@ examples =
     -- moment where times step back: order in the log decides, so at 0 it is the third entry of 0, 1, 0
     ∷ (OfMoment (pos 0) stepsBack gives Current (some (entry 3 0)) 1)
     ∷ (OfMoment (negsuc 0) stepsBack gives Current none 3)
+    -- moment after a run: as before, an entry of this run, or none
+    ∷ (OfRun (AtMoment (pos 250000)) terms three overFour gives Current (some (entry 2 200000)) 3)
+    ∷ (OfRun (AtMoment (pos 410000)) terms three overFour gives Current (some (entry 5 410000)) 1)
+    ∷ (OfRun (AtMoment (pos 250000)) terms three (RemoveSnapshots (pos 2 ∷ []) ∷ []) gives Current none 1)
     ∷ []
