@@ -70,6 +70,7 @@ module _ {joined : List LogEntry} {log : List Update} {old new : List LogEntry} 
       go none q = Gone refl
       go (some e) q = AsBefore (sym q)
 
+  -- the last entry by a time is one that joined, or what the old ones answer
   answer-kept : Kept joined log (currentAt time old) (currentAt time new)
   unfolding currentAt
   answer-kept =
@@ -133,6 +134,7 @@ module _ (m : Metadata) (st : State) (a : AccountedState m st) (w : isWhole m �
 
 -- ---- the run
 
+-- what joined by the account is what joined
 joined-same : (terms : Terms) (m : Metadata) (us : List Update) (st : State) (a : AccountedState m st) → runFrom terms us 0 (started m) ≡ Reached st → joinedBy terms m us ≡ a .joined
 unfolding joinedBy
 joined-same terms m us st a e =
@@ -146,6 +148,7 @@ joined-is terms m us st e =
     let a : AccountedState m st = run-accounted m terms us st e in
     a .appended ∙ ap (λ (l : List LogEntry). m .snapshotLog ++ l) (sym (joined-same terms m us st a e))
 
+-- the same of equal ones
 alike : {joined joined′ : List LogEntry} {log log′ : List Update} {old new new′ : List LogEntry} → joined′ ≡ joined → log′ ≡ log → new′ ≡ new → HistoryKept joined log old new → HistoryKept joined′ log′ old new′
 alike p q r k = rw (p, q, r) k
 
