@@ -33,3 +33,7 @@ pub mod AnswerLaws
 pub mod AnswerReplays
 pub mod AnswerInstances
 pub mod AnswerFits
+pub mod HistoryLists
+pub mod Accounted
+pub mod Whole
+pub mod Kept

@@ -19,7 +19,7 @@ use Rattle.rules.proofs.Tables.{byKey, all-head, all-tail}
 -- ---- numbers in lists
 
 -- a test of all holds for each that stands in the list
-in-all : (p : ℤ → Bool) (l : List ℤ) (x : ℤ) → all p l ≡ true → isIn l x ≡ true → p x ≡ true
+pub in-all : (p : ℤ → Bool) (l : List ℤ) (x : ℤ) → all p l ≡ true → isIn l x ≡ true → p x ≡ true
 in-all p [] x h e = absurd (false≢true e)
 in-all p (y ∷ l) x h e = go (eqZ x y) refl (in-all p l x (all-tail p y l h)) e
   where

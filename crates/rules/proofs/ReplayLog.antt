@@ -89,7 +89,7 @@ strip-strip log = keep-keep (λ u. not (isEmptySchemaRemoval u)) log
 abbrev pub SameAdditions : List Update → List Update → Type 0
 SameAdditions a b = (id : ℤ) → logsAddition a id ≡ logsAddition b id
 
-additions-append : (a b : List Update) (id : ℤ) → logsAddition (a ++ b) id ≡ logsAddition a id || logsAddition b id
+pub additions-append : (a b : List Update) (id : ℤ) → logsAddition (a ++ b) id ≡ logsAddition a id || logsAddition b id
 unfolding logsAddition
 additions-append a b id = any-append (isAddition id) a b
 

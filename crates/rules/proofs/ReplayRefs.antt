@@ -71,7 +71,7 @@ module _ (name : List ℕ) (s : Snapshot) (st : State) (e : updateNumber (SetBra
   commit-form = accepted-form (SetBranchSnapshot name s) st e
 
   -- the checks of a commit, after 13, are those of its two parts
-  commit-checks : firstOf (addSnapshotChecks s st ++ setRefChecks name commit (addSnapshot s st)) ≡ 0
+  pub commit-checks : firstOf (addSnapshotChecks s st ++ setRefChecks name commit (addSnapshot s st)) ≡ 0
   unfolding checks setBranchSnapshotChecks
   commit-checks =
       passed-after

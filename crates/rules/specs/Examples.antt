@@ -2,6 +2,7 @@
 -- and, each with a name, examples of clauses that no P shows; docs/RULES.md cites them by these names.
 -- That the rules give these replies is one statement over the list (`examples-hold`, in proofs/Examples).
 use Prim.Native.Nat.{ℕ}
+use mathlib.Core.Bool.{Bool, true, false}
 use mathlib.Core.List.{List, [], _∷_}
 use mathlib.Core.Option.{Option, none, some}
 use lib.IntN.{ℤ, pos, negsuc}
@@ -14,13 +15,16 @@ use Rattle.rules.specs.Register.Outcome.{Refused, Accepted}
 use Rattle.rules.specs.Register.Update.{AssignUuid, UpgradeFormatVersion, SetLocation, AddSnapshot, SetBranchSnapshot, RemoveSnapshots, SetRef, RemoveRef, AddSchema, SetCurrentSchema, RemoveSchemas, AddSortOrder, SetDefaultSortOrder}
 use Rattle.rules.specs.Limit.{limitGiven}
 use Rattle.rules.specs.Walk.{Walk, Listed, Twice, Bad, ancestors, recordAncestors}
+use Rattle.rules.specs.Moment.{currentAt, entriesRead, isWhole, givesAgain}
 use Rattle.rules.specs.Run.{run}
 
 -- ---- questions and replies
 
 -- what of an accepted run an example looks at
 pub data Look : Type 0 where
-  AtHistory AtSnapshots AtSequence AtNextRow AtColumn AtUpdated AtLog AtFiles : Look
+  AtHistory AtSnapshots AtSequence AtNextRow AtColumn AtUpdated AtLog AtFiles AtGivenAgain : Look
+  -- which snapshot was current at a time
+  AtMoment : ℤ → Look
 
 pub data Question : Type 0 where
   -- a run
@@ -32,6 +36,10 @@ pub data Question : Type 0 where
   OfWalk : List ℤ → List ℤ → ℤ → Option ℤ → Question
   -- snapshots, start, excluded id
   OfRecords : List Snapshot → ℤ → Option ℤ → Question
+  -- which snapshot was current at a time, by a history
+  OfMoment : ℤ → List LogEntry → Question
+  -- a history names held snapshots alone
+  OfWhole : Metadata → Question
 
 pub data Reply : Type 0 where
   -- number and place
@@ -47,6 +55,14 @@ pub data Reply : Type 0 where
   Files : List FileEntry → List FileEntry → Reply
   Limit : ℕ → Reply
   Walked : Walk → Reply
+  -- the entry, and how many were read
+  Current : Option LogEntry → ℕ → Reply
+  Whole : Bool → Reply
+  -- the log gives a removed snapshot again
+  GivenAgain : Bool → Reply
+
+abbrev pub moment : ℤ → List LogEntry → Reply
+moment time log = Current (currentAt time log) (entriesRead time log)
 
 abbrev pub look : Look → Outcome → Reply
 look at (Refused number place) = Refusal number place
@@ -58,6 +74,8 @@ look AtColumn (Accepted m log expired) = Column (m .fields .lastColumn)
 look AtUpdated (Accepted m log expired) = Updated (m .fields .lastUpdated)
 look AtLog (Accepted m log expired) = Log log
 look AtFiles (Accepted m log expired) = Files expired (m .metadataLog)
+look AtGivenAgain (Accepted m log expired) = GivenAgain (givesAgain log)
+look (AtMoment time) (Accepted m log expired) = moment time (m .snapshotLog)
 
 abbrev pub rerun : Terms → Metadata → Outcome → Outcome
 rerun terms m (Refused number place) = Refused number place
@@ -69,6 +87,8 @@ replyTo (OfReplay at terms m us) = look at (rerun terms m (run terms m us))
 replyTo (OfLimit text) = Limit (limitGiven text)
 replyTo (OfWalk ids parents start excluded) = Walked (ancestors ids parents start excluded)
 replyTo (OfRecords snapshots start excluded) = Walked (recordAncestors snapshots start excluded)
+replyTo (OfMoment time log) = moment time log
+replyTo (OfWhole m) = Whole (isWhole m)
 
 -- ---- what the examples are made of
 
@@ -170,6 +190,18 @@ holed = atThree (snap 1 none 1 (pos 100000) ∷ snap 3 (some (pos 2)) 5 (pos 300
 -- no snapshots yet: the version, the next row id, the last update, the metadata log
 abbrev pub empty : ℕ → ℕ → ℤ → List FileEntry → Metadata
 empty version next updated files = register version 0 next updated [] none [] [] files
+
+-- 4 and 5 are added, and 4 is `main` on the way to 5
+abbrev pub overFour : List Update
+overFour = adding 4 400000 ∷ adding 5 410000 ∷ toMain 4 ∷ toMain 5 ∷ []
+
+-- 2 is removed, added again, and `main` on the way to 5
+abbrev pub overTwoAgain : List Update
+overTwoAgain = RemoveSnapshots (pos 2 ∷ []) ∷ adding 2 400000 ∷ toMain 2 ∷ adding 5 410000 ∷ toMain 5 ∷ []
+
+-- a history whose times step back: 0, 1, 0
+abbrev pub stepsBack : List LogEntry
+stepsBack = entry 1 0 ∷ entry 2 1 ∷ entry 3 0 ∷ []
 
 -- as `first`, with an entry of a snapshot that is no longer held before the last entry, and after it
 abbrev pub gapped : Metadata
@@ -381,11 +413,18 @@ examples =
     -- removal too: intermediate entries go also where a removal is logged
     ∷ (OfRun AtHistory terms three (RemoveSnapshots (pos 1 ∷ []) ∷ adding 4 400000 ∷ adding 5 410000 ∷ toMain 4 ∷ toMain 5 ∷ [])
     gives History (entry 2 200000 ∷ entry 3 300000 ∷ entry 5 410000 ∷ []))
-    -- missing entry: with an intermediate snapshot and no removal the missing entry alone goes. At 250000 it was 2, and is now 1
-    ∷ (OfRun AtHistory terms holed (adding 4 400000 ∷ adding 5 410000 ∷ toMain 4 ∷ toMain 5 ∷ []) gives History (entry 1 100000 ∷ entry 3 300000 ∷ entry 5 410000 ∷ []))
-    -- added again: 2 is held at the close and intermediate, so its old entry goes too. At 250000 it was 2, and is now 1
-    ∷ (OfRun AtHistory terms three (RemoveSnapshots (pos 2 ∷ []) ∷ adding 2 400000 ∷ toMain 2 ∷ adding 5 410000 ∷ toMain 5 ∷ [])
-    gives History (entry 1 100000 ∷ entry 3 300000 ∷ entry 5 410000 ∷ []))
+    -- missing entry: with an intermediate snapshot and no removal the missing entry alone goes. At 250000 it was 2, and is now 1: the history was not whole
+    ∷ (OfRun AtHistory terms holed overFour gives History (entry 1 100000 ∷ entry 3 300000 ∷ entry 5 410000 ∷ []))
+    ∷ (OfWhole holed gives Whole false)
+    ∷ (OfRun AtGivenAgain terms holed overFour gives GivenAgain false)
+    ∷ (OfMoment (pos 250000) (holed .snapshotLog) gives Current (some (entry 2 200000)) 2)
+    ∷ (OfRun (AtMoment (pos 250000)) terms holed overFour gives Current (some (entry 1 100000)) 3)
+    -- added again: 2 is held at the close and intermediate, so its old entry goes too. At 250000 it was 2, and is now 1: the history was whole, but the log gives 2 again
+    ∷ (OfRun AtHistory terms three overTwoAgain gives History (entry 1 100000 ∷ entry 3 300000 ∷ entry 5 410000 ∷ []))
+    ∷ (OfWhole three gives Whole true)
+    ∷ (OfRun AtGivenAgain terms three overTwoAgain gives GivenAgain true)
+    ∷ (OfMoment (pos 250000) (three .snapshotLog) gives Current (some (entry 2 200000)) 2)
+    ∷ (OfRun (AtMoment (pos 250000)) terms three overTwoAgain gives Current (some (entry 1 100000)) 3)
     -- none current: the end of the history is not checked
     ∷ (OfRun AtHistory terms three (RemoveSnapshots (pos 3 ∷ []) ∷ RemoveRef mainName ∷ []) gives History [])
     -- no file: none joins the metadata log
@@ -411,4 +450,19 @@ examples =
     ∷ (OfWalk (negsuc 0 ∷ []) (negsuc 0 ∷ []) (pos 1) none gives Walked Bad)
     -- no parent: a record without one ends the walk, though snapshot 0 is held
     ∷ (OfRecords (snap 0 none 0 (pos 0) ∷ snap 1 none 1 (pos 0) ∷ []) (pos 1) none gives Walked (Listed (pos 1 ∷ [])))
+    -- Document 02, request (i), by name.
+    -- moment: at an entry's time it is that entry, a millisecond earlier the one before it, and before the first it is none and all are read
+    ∷ (OfMoment (pos 300000) (three .snapshotLog) gives Current (some (entry 3 300000)) 1)
+    ∷ (OfMoment (pos 200000) (three .snapshotLog) gives Current (some (entry 2 200000)) 2)
+    ∷ (OfMoment (pos 199999) (three .snapshotLog) gives Current (some (entry 1 100000)) 3)
+    ∷ (OfMoment (pos 99999) (three .snapshotLog) gives Current none 3)
+    -- moment of no entries: none, and 0 are read
+    ∷ (OfMoment (pos 0) [] gives Current none 0)
+    -- moment where times step back: order in the log decides, so at 0 it is the third entry of 0, 1, 0
+    ∷ (OfMoment (pos 0) stepsBack gives Current (some (entry 3 0)) 1)
+    ∷ (OfMoment (negsuc 0) stepsBack gives Current none 3)
+    -- moment after a run: as before, an entry of this run, or none
+    ∷ (OfRun (AtMoment (pos 250000)) terms three overFour gives Current (some (entry 2 200000)) 3)
+    ∷ (OfRun (AtMoment (pos 410000)) terms three overFour gives Current (some (entry 5 410000)) 1)
+    ∷ (OfRun (AtMoment (pos 250000)) terms three (RemoveSnapshots (pos 2 ∷ []) ∷ []) gives Current none 1)
     ∷ []
