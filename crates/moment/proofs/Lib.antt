@@ -1,0 +1,6 @@
+-- What the proofs cite, and what is true of the answer.
+pub mod FromTheEnd
+mod Slots
+mod Reading
+mod Answers
+pub mod Unique
