@@ -1,4 +1,5 @@
 -- What the proofs cite, and what is true of the answer.
+pub mod Examples
 pub mod FromTheEnd
 mod Slots
 mod Reading
