@@ -1,6 +1,6 @@
 -- The three answers: a count above the slots, no entry by the time, and the entry at which the reading stops.
 use Prim.Native.Nat.{ℕ, _+_, _-_, _≤_, _<_}
-use mathlib.Core.Path.{_≡_, ap, _∙_}
+use mathlib.Core.Path.{_≡_}
 use mathlib.Core.Bool.{true}
 use native.Mathlib.Omega.{arith}
 use borrow.Author.Tests.{le-leb, lt-leb}
@@ -11,7 +11,6 @@ use Rattle.records.specs.declared.snapshot.SnapshotLog.{SnapshotLog}
 use Rattle.rules.specs.Capacities.{snapshotLogRoom}
 use Rattle.rules.specs.Layout.{readSnapshotLog}
 use Rattle.rules.specs.Replies.{accepted, startNotFormed}
-use Rattle.moment.specs.declared.Moment.{Moment}
 use Rattle.moment.specs.Answers.{noEntry, momentOf}
 use Rattle.moment.specs.Reading.{Read}
 use Rattle.moment.proofs.Slots.{read-length, read-at}

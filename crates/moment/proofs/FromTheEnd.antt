@@ -1,13 +1,13 @@
 -- Reading from the end. One entry more at the end decides alone if it is a hit; otherwise it is read, and the answer is that of the others.
 use Prim.Native.Nat.{_+_}
-use mathlib.Core.Path.{_≡_, refl, sym, ap, _∙_}
+use mathlib.Core.Path.{_≡_, refl, _∙_}
 use mathlib.Core.Bool.{Bool, true, false, or-false}
 use mathlib.Core.List.{List, [], _∷_, _++_, reverse, append-nil, reverse-cons, reverse-reverse}
 use mathlib.Core.Option.{some}
 use native.Mathlib.Omega.{arith}
 use borrow.Table.Steps.{cases}
 use lib.IntN.{ℤ}
-use lib.ListN.{length, length-append}
+use lib.ListN.{length-append}
 use Rattle.rules.specs.Words.{any, keep, lastOf, afterLast}
 use Rattle.rules.specs.Register.{LogEntry}
 use Rattle.rules.specs.Moment.{isBy, currentAt, entriesRead}

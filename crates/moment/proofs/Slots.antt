@@ -2,13 +2,11 @@
 use Prim.Native.Nat.{ℕ, _≤_, _<_}
 use mathlib.Core.Path.{_≡_, sym, ap, _∙_}
 use mathlib.Core.List.{List, map}
-use native.Mathlib.Omega.{arith}
 use lib.ListN.{length, getD, length-map, List·getD-map}
 use lib.Seq.{getD-take}
 use Rattle.records.specs.Blanks.{noLogEntry}
 use Rattle.records.specs.declared.snapshot.SnapshotLogEntry.{SnapshotLogEntry}
 use Rattle.records.specs.declared.snapshot.SnapshotLog.{SnapshotLog}
-use Rattle.rules.specs.Capacities.{snapshotLogRoom}
 use Rattle.rules.specs.Layout.{counted, readLogEntry, readSnapshotLog}
 use Rattle.rules.proofs.Relaid.{length-counted, counted-take}
 use Rattle.moment.specs.Reading.{entryAt}

@@ -1,5 +1,5 @@
 -- Each answer is that of the rule at the place where the reading stopped.
-use mathlib.Core.Path.{_≡_, sym, _∙_}
+use mathlib.Core.Path.{sym, _∙_}
 use native.Mathlib.Omega.{arith}
 use borrow.Author.Needs.{needs}
 use Rattle.moment.proofs.Slots.{slots, read-length}
