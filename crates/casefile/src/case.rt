@@ -10,7 +10,7 @@ use numbers::output::flush;
 use numbers::output::make_room;
 use numbers::token::read_token;
 
-const CASES: u64 = 7;
+const CASES: u64 = 8;
 
 // 0 at the end of the input, between cases.
 pub fn read_case(input: &mut Input, place: &mut Place) -> u64 {

@@ -13,6 +13,7 @@ use numbers::output::flush;
 use numbers::output::put_line_end;
 
 mod leaf;
+mod moments;
 mod runs;
 mod walks;
 
@@ -26,6 +27,7 @@ fn answer(kind: u64, input: &mut Input, place: &mut Place, output: &mut Output, 
         5 => leaf::window(input, place, output, end),
         6 => leaf::row_ids(input, place, output, end),
         7 => leaf::trim(input, place, output, end),
+        8 => moments::current_at(input, place, output, end),
         _ => {}
     }
 }

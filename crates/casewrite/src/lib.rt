@@ -6,7 +6,7 @@ pub mod metadata;
 mod reference;
 pub mod run;
 mod schema;
-mod snapshot;
+pub mod snapshot;
 mod sort_order;
 pub mod text;
 mod update;

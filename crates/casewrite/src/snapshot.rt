@@ -49,7 +49,7 @@ pub fn put_snapshot_ids(output: &mut Output, end: &mut usize, ids: SnapshotIds) 
     }
 }
 
-fn put_log_entry(output: &mut Output, end: &mut usize, entry: SnapshotLogEntry) {
+pub fn put_log_entry(output: &mut Output, end: &mut usize, entry: SnapshotLogEntry) {
     put_i64(output, end, entry.snapshot_id.0);
     put_i64(output, end, entry.timestamp_ms.0);
 }

@@ -1,0 +1,7 @@
+-- What the proofs cite, and what is true of the answer.
+pub mod Examples
+pub mod FromTheEnd
+mod Slots
+mod Reading
+mod Answers
+pub mod Unique

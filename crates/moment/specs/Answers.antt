@@ -1,0 +1,27 @@
+-- The answer of the moment, made of the rules' parts.
+use Prim.Native.Nat.{ℕ}
+use mathlib.Core.Bool.{true, false, cond}
+use mathlib.Core.Option.{Option, none, some}
+use lib.Dec.{leb}
+use Rattle.records.specs.Blanks.{noLogEntry}
+use Rattle.records.specs.declared.counters.Time.{Time}
+use Rattle.records.specs.declared.snapshot.SnapshotLog.{SnapshotLog}
+use Rattle.rules.specs.Capacities.{snapshotLogRoom}
+use Rattle.rules.specs.Layout.{readSnapshotLog, laidLogEntry}
+use Rattle.rules.specs.Moment.{currentAt, entriesRead}
+use Rattle.rules.specs.Register.{LogEntry}
+use Rattle.rules.specs.Replies.{accepted, startNotFormed}
+use Rattle.moment.specs.declared.Moment.{Moment}
+
+-- no entry: the blank one
+abbrev pub noEntry : ℕ → ℕ → Moment
+noEntry number n = record { number = number; found = false; entry = noLogEntry; read = n }
+
+-- what was found, and how many entries were read
+abbrev pub moment : Option LogEntry → ℕ → Moment
+moment none n = noEntry accepted n
+moment (some e) n = record { number = accepted; found = true; entry = laidLogEntry e; read = n }
+
+-- a count above the slots is refused with 1, and nothing is read
+unfoldable pub momentOf : SnapshotLog → Time → Moment
+momentOf log time = cond (leb (log .count) snapshotLogRoom) (moment (currentAt (time .0) (readSnapshotLog log)) (entriesRead (time .0) (readSnapshotLog log))) (noEntry startNotFormed 0)
