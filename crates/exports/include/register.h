@@ -16,8 +16,8 @@ uint64_t register_limit(const uint8_t *text, size_t length);
 /* Whether the time is over a minute before the last one; both in milliseconds. */
 bool register_too_early(int64_t time, int64_t last);
 
-/* number: 0 accepted, 9 first row id below next row id, 11 next row id would pass 2^64 - 1.
-   next: the next row id from then on; on a refusal the one that came in. */
+/* number: 0 accepted, 9 first row id below next row id, 11 the range would end above 2^64 - 1.
+   next: the next row id from then on, first + added; on a refusal the one that came in. */
 struct register_rows {
     uint8_t number;
     uint64_t next;

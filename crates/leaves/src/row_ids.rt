@@ -6,7 +6,7 @@ use records::replies::ACCEPTED;
 use records::replies::FIRST_ROW_BEHIND;
 use records::replies::ROWS_OVERFLOW;
 
-// The number is 0, 9 or 11; on a refusal the next row id is the one that came in.
+// The number is 0, 9 or 11. The next row id is the one after the range; on a refusal it is the one that came in.
 pub struct RowsChecked {
     pub number: u8,
     pub next: RowId,
@@ -21,7 +21,7 @@ pub fn check_rows(next: RowId, first: RowId, added: u64) -> RowsChecked
             next,
         };
     }
-    if added > u64::MAX - next.0 {
+    if added > u64::MAX - first.0 {
         return RowsChecked {
             number: ROWS_OVERFLOW,
             next,
@@ -29,6 +29,6 @@ pub fn check_rows(next: RowId, first: RowId, added: u64) -> RowsChecked
     }
     RowsChecked {
         number: ACCEPTED,
-        next: RowId(next.0 + added),
+        next: RowId(first.0 + added),
     }
 }

@@ -1,5 +1,6 @@
 -- What is true of the written rules alone, in the order in which one rests on another.
 pub mod Examples
+pub mod Rows
 pub mod Checks
 pub mod Orders
 pub mod Tables

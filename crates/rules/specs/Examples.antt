@@ -343,12 +343,17 @@ examples =
     ∷ (OfRun AtUpdated terms (empty 2 0 (pos 100000) []) (adding 1 39999 ∷ []) gives Refusal 8 0)
     ∷ (OfRun AtUpdated terms (empty 2 0 (pos 100000) []) (adding 1 40000 ∷ adding 2 39999 ∷ []) gives Refusal 8 1)
     ∷ (OfRun AtUpdated terms (empty 2 0 (pos 0) []) (adding 1 100000 ∷ adding 2 39999 ∷ []) gives Refusal 8 1)
-    -- gap: next row id grows by added rows alone, so a range may start at 50 though rows 100 to 149 are given out
-    ∷ (OfRun AtNextRow terms (empty 3 0 (pos 0) []) (AddSnapshot (snapRows 1 100 50) ∷ AddSnapshot (snapRows 2 50 100) ∷ []) gives NextRow (record { 0 = 150 }))
+    -- gap: a range that starts above next row id takes it along, so that none can start within that range or before it
+    ∷ (OfRun AtNextRow terms (empty 3 0 (pos 0) []) (AddSnapshot (snapRows 1 100 50) ∷ []) gives NextRow (record { 0 = 150 }))
+    ∷ (OfRun AtNextRow terms (empty 3 0 (pos 0) []) (AddSnapshot (snapRows 1 100 50) ∷ AddSnapshot (snapRows 2 50 1) ∷ []) gives Refusal 9 1)
+    ∷ (OfRun AtNextRow terms (empty 3 0 (pos 0) []) (AddSnapshot (snapRows 1 100 50) ∷ AddSnapshot (snapRows 2 150 1) ∷ []) gives NextRow (record { 0 = 151 }))
+    -- no rows: an empty range takes next row id along too
+    ∷ (OfRun AtNextRow terms (empty 3 0 (pos 0) []) (AddSnapshot (snapRows 1 100 0) ∷ []) gives NextRow (record { 0 = 100 }))
     -- held rows: next row id stands in no relation to the ranges that are held, so rows 0 to 3 are given out again
     ∷ (OfRun AtSnapshots terms (ranged 3 0) (AddSnapshot (snapRows 2 0 4) ∷ []) gives Snapshots (snapRows 1 0 4 ∷ snapRows 2 0 4 ∷ []))
-    -- range's end: it is not bounded, only next row id is
-    ∷ (OfRun AtNextRow terms (empty 3 0 (pos 0) []) (AddSnapshot (snapRows 1 18446744073709551615 10) ∷ []) gives NextRow (record { 0 = 10 }))
+    -- range's end: it may be 2^64 - 1, and not more
+    ∷ (OfRun AtNextRow terms (empty 3 0 (pos 0) []) (AddSnapshot (snapRows 1 18446744073709551615 0) ∷ []) gives NextRow (record { 0 = 18446744073709551615 }))
+    ∷ (OfRun AtNextRow terms (empty 3 0 (pos 0) []) (AddSnapshot (snapRows 1 18446744073709551615 1) ∷ []) gives Refusal 11 0)
     -- rows below 3: neither 9 nor 11 is asked, and next row id stays
     ∷ (OfRun AtNextRow terms (empty 2 10 (pos 0) []) (AddSnapshot (snapRows 1 9 18446744073709551615) ∷ []) gives NextRow (record { 0 = 10 }))
     -- equal main: nothing at all

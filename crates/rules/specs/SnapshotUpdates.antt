@@ -12,7 +12,7 @@ use Rattle.rules.specs.Words.{larger, isSome, orElse, someWith, keep, fi
 use Rattle.rules.specs.Replies.{snapshotHeld, sequenceTooLow, beforeLastEntry, beforeLastUpdate, firstRowBehind, noRowRange, rowsOverflow, tableFull}
 use Rattle.rules.specs.Capacities.{snapshotRoom}
 use Rattle.rules.specs.Window.{isBefore, minute}
-use Rattle.rules.specs.RowIds.{isBehind, overflows, grown}
+use Rattle.rules.specs.RowIds.{isBehind, overflows, afterRange}
 use Rattle.rules.specs.Register.{RowRange, Snapshot, LogEntry, SingleFields, State, withFields, withSnapshots, withRefs, withMetadata, withOwn, withLastSequence, logged}
 use Rattle.rules.specs.Register.Update.{AddSnapshot, RemoveSnapshots}
 use Rattle.rules.specs.WellFormed.{snapshotBelow, holdsSnapshot, pointsIn}
@@ -37,8 +37,8 @@ isVersion3 f = eqb (f .version) 3
 abbrev pub firstBehind : Snapshot → SingleFields → Bool
 firstBehind s f = someWith (λ (r : RowRange). isBehind (f .nextRow) (r .first)) (s .rows)
 
-abbrev pub rowsPass : Snapshot → SingleFields → Bool
-rowsPass s f = someWith (λ (r : RowRange). overflows (f .nextRow) (r .added)) (s .rows)
+abbrev pub rowsPass : Snapshot → Bool
+rowsPass s = someWith (λ (r : RowRange). overflows (r .first) (r .added)) (s .rows)
 
 -- "checks in this order: 5; 6; 7; 8; version 3 only: 10, 9, 11; then 19"
 unfoldable pub addSnapshotChecks : Snapshot → State → List Check
@@ -49,13 +49,13 @@ addSnapshotChecks s st =
     ∷ (isBefore minute (s .time) (latest st), beforeLastUpdate)
     ∷ (isVersion3 (st .metadata .fields) && not (isSome (s .rows)), noRowRange)
     ∷ (isVersion3 (st .metadata .fields) && firstBehind s (st .metadata .fields), firstRowBehind)
-    ∷ (isVersion3 (st .metadata .fields) && rowsPass s (st .metadata .fields), rowsOverflow)
+    ∷ (isVersion3 (st .metadata .fields) && rowsPass s, rowsOverflow)
     ∷ (leb snapshotRoom (length (st .metadata .snapshots)), tableFull)
     ∷ []
 
--- "At version 3 next row id grows by added rows; below 3 it stays."
+-- Document 02, request (iv): at version 3 next row id "becomes first row id plus added rows"; document 01: "below 3 it stays."
 abbrev pub nextRowAfter : Snapshot → SingleFields → RowId
-nextRowAfter s f = elim (s .rows) [ none ↦ f .nextRow | some r ↦ cond (isVersion3 f) (grown (f .nextRow) (r .added)) (f .nextRow) ]
+nextRowAfter s f = elim (s .rows) [ none ↦ f .nextRow | some r ↦ cond (isVersion3 f) (afterRange (r .first) (r .added)) (f .nextRow) ]
 
 -- "Last sequence number becomes the snapshot's, even if lower. The run's last update becomes its time."
 unfoldable pub addSnapshot : Snapshot → State → State

@@ -17,7 +17,7 @@ abbrev pub rowChecks : Snapshot → SingleFields → List Check
 rowChecks s f =
     (isVersion3 f && not (isSome (s .rows)), noRowRange)
     ∷ (isVersion3 f && firstBehind s f, firstRowBehind)
-    ∷ (isVersion3 f && rowsPass s f, rowsOverflow)
+    ∷ (isVersion3 f && rowsPass s, rowsOverflow)
     ∷ []
 
 -- an addition, decided: 13 on a tag, then the rule's checks; the builder after it, and what is logged

@@ -17,7 +17,7 @@ check-rows-spec =
     (λ c. rw (lt-ltb _ _ (c .if1 .taken)))
     (λ c. search needs)
     (λ c. let a = c .before .before .before .before .before .args in
-    rw (le-ltb (a .first .0) (a .next .0) (omega arith), lt-ltb largestRowId (a .next .0 + a .added) (omega arith)))
+    rw (le-ltb (a .first .0) (a .next .0) (omega arith), lt-ltb largestRowId (a .first .0 + a .added) (omega arith)))
     (λ c. search needs)
     (λ c. let a = c .before .before .before .before .before .before .args in
-    rw (le-ltb (a .first .0) (a .next .0) (omega arith), le-ltb largestRowId (a .next .0 + a .added) (omega arith))))
+    rw (le-ltb (a .first .0) (a .next .0) (omega arith), le-ltb largestRowId (a .first .0 + a .added) (omega arith))))
