@@ -15,6 +15,7 @@ pub mod SoundUpdates
 pub mod AcceptedRun
 pub mod SoundRun
 pub mod ReplayLists
+pub mod Ranges
 pub mod ReplayKeys
 pub mod ReplayLog
 pub mod ReplaySteps

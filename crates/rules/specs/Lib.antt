@@ -18,6 +18,7 @@ pub mod OrderUpdates
 pub mod Updates
 pub mod Close
 pub mod Run
+pub mod Rows
 pub mod Replay
 pub mod Promises
 pub mod Blanks
