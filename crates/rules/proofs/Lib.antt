@@ -16,6 +16,7 @@ pub mod AcceptedRun
 pub mod SoundRun
 pub mod ReplayLists
 pub mod Ranges
+pub mod RowsKept
 pub mod ReplayKeys
 pub mod ReplayLog
 pub mod ReplaySteps
