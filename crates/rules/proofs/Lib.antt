@@ -1,6 +1,5 @@
 -- What is true of the written rules alone, in the order in which one rests on another.
 pub mod Examples
-pub mod Rows
 pub mod Checks
 pub mod Orders
 pub mod Tables
@@ -17,6 +16,7 @@ pub mod SoundRun
 pub mod ReplayLists
 pub mod Ranges
 pub mod RowsKept
+pub mod Rows
 pub mod ReplayKeys
 pub mod ReplayLog
 pub mod ReplaySteps

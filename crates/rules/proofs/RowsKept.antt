@@ -10,21 +10,24 @@ use lib.Dec.{eqb, leb}
 use lib.IntN.{ℤ}
 use borrow.Author.Tests.{ltb-false, leb-true, eqb-false, eq-eqb}
 use Rattle.records.specs.declared.counters.RowId.{RowId}
-use Rattle.rules.specs.Words.{eqZ, isSome, someWith, isEmpty, collect, sameBytes, firstOf}
+use Rattle.rules.specs.Words.{eqZ, isSome, someWith, isEmpty, collect, sameBytes, firstOf, Check}
+use Rattle.rules.specs.Replies.{commitOnTag}
 use Rattle.rules.specs.Capacities.{largestRowId}
 use Rattle.rules.specs.RowIds.{isBehind, overflows}
 use Rattle.rules.specs.Names.{isMain, trimmed}
-use Rattle.rules.specs.Register.{RowRange, Snapshot, Reference, Schema, SortOrder, Update, Terms, State, withOwn, logged}
-use Rattle.rules.specs.Register.Update.{SetRef, RemoveRef, AddSchema}
-use Rattle.rules.specs.WellFormed.{versionFormed}
+use Rattle.rules.specs.Register.{RowRange, Snapshot, Reference, Schema, SortOrder, Update, Terms, State, logged}
+use Rattle.rules.specs.Register.Update.{AssignUuid, UpgradeFormatVersion, SetLocation, AddSnapshot, SetBranchSnapshot, RemoveSnapshots, SetRef, RemoveRef, AddSchema, SetCurrentSchema, RemoveSchemas, AddSortOrder, SetDefaultSortOrder, NotFormed}
+use Rattle.rules.specs.WellFormed.{versionFormed, updateFormed}
 use Rattle.rules.specs.SingleUpdates.{assignUuid, upgradeFormatVersionChecks, upgradeFormatVersion, setLocation}
 use Rattle.rules.specs.SnapshotUpdates.{isVersion3, addSnapshotChecks, addSnapshot, heldSnapshots, withoutSnapshots, removeSnapshots}
-use Rattle.rules.specs.RefUpdates.{refNamed, isHeldRef, ownAfter, asMain, putRef, setRef, removeRef}
+use Rattle.rules.specs.RefUpdates.{refNamed, isHeldRef, putRef, setRefChecks, setRef, committed, isTag, setBranchSnapshotChecks, setBranchSnapshot, removeRef}
 use Rattle.rules.specs.SchemaUpdates.{reusedSchema, addSchema, chosen, setCurrentSchema, removeSchemas}
 use Rattle.rules.specs.OrderUpdates.{reusedOrder, addSortOrder, setDefaultSortOrder}
+use Rattle.rules.specs.Updates.{checks, updateNumber, effect}
 use Rattle.rules.specs.Rows.{newSnapshot, newSnapshots, endOf}
-use Rattle.rules.proofs.Checks.{by-test, by-option, passed, and-right}
+use Rattle.rules.proofs.Checks.{by-test, by-option, and-right, passed, passed-before, passed-after}
 use Rattle.rules.proofs.SoundSnapshots.{add-snapshot-numbered}
+use Rattle.rules.proofs.SoundUpdates.{accepted-form, accepted-checks}
 use Rattle.rules.proofs.ReplayLists.{collect-append}
 
 -- what row ids depend on in a state
@@ -38,6 +41,10 @@ abbrev pub view : State → View
 view st = record { version = st .metadata .fields .version; nextRow = st .metadata .fields .nextRow; held = st .metadata .snapshots; added = newSnapshots (st .log) }
 
 -- ---- what is logged
+
+pub new-none : newSnapshots [] ≡ []
+unfolding newSnapshots
+new-none = refl
 
 pub new-append : (xs ys : List Update) → newSnapshots (xs ++ ys) ≡ newSnapshots xs ++ newSnapshots ys
 unfolding newSnapshots
@@ -146,3 +153,38 @@ add-ranged s st v e =
 pub add-reaches : (s : Snapshot) (st : State) (r : RowRange) → st .metadata .fields .version ≡ 3 → s .rows ≡ some r → addSnapshot s st .metadata .fields .nextRow .0 ≡ endOf r
 unfolding addSnapshot
 add-reaches s st r v e = rw (e, eq-eqb (st .metadata .fields .version) 3 v)
+
+-- ---- any accepted update at version 3
+
+-- from st to st′ all is left, or snapshots are removed, or one is added: these are the new ones
+pub data Step (st st′ : State) : List Snapshot → Type 0 where
+  leaves : Keeps st st′ → Step st st′ []
+  removes : (ids : List ℤ) → Keeps (withoutSnapshots ids st) st′ → Step st st′ []
+  adds : (s : Snapshot) → firstOf (addSnapshotChecks s st) ≡ 0 → Keeps (addSnapshot s st) st′ → Step st st′ (s ∷ [])
+
+-- the checks of a branch commit are those of the addition, and more
+commit-adds : (name : List ℕ) (s : Snapshot) (st : State) → firstOf (setBranchSnapshotChecks name s st) ≡ 0 → firstOf (addSnapshotChecks s st) ≡ 0
+unfolding setBranchSnapshotChecks
+commit-adds name s st e =
+    let more : List Check = setRefChecks name (committed name (s .id) (st .metadata .refs)) (addSnapshot s st) in
+    passed-before (addSnapshotChecks s st) more (passed-after ((isTag name (st .metadata .refs), commitOnTag) ∷ []) (addSnapshotChecks s st ++ more) refl e)
+
+checked-step : (terms : Terms) (u : Update) (st : State) → updateFormed u ≡ true → firstOf (checks u st) ≡ 0 → st .metadata .fields .version ≡ 3 → Step st (effect terms u st) (newSnapshots (u ∷ []))
+unfolding updateFormed checks effect newSnapshots setBranchSnapshot
+checked-step terms (AssignUuid uuid) st f e v = leaves (assign-uuid-keeps st uuid)
+checked-step terms (UpgradeFormatVersion w) st f e v = leaves (upgrade-format-version-keeps st w f e v)
+checked-step terms (SetLocation l) st f e v = leaves (set-location-keeps st l)
+checked-step terms (AddSnapshot s) st f e v = adds s e refl
+checked-step terms (SetBranchSnapshot name s) st f e v = adds s (commit-adds name s st e) (set-ref-keeps (addSnapshot s st) terms name (committed name (s .id) (st .metadata .refs)))
+checked-step terms (RemoveSnapshots ids) st f e v = removes ids (remove-snapshots-keeps ids st)
+checked-step terms (SetRef name r) st f e v = leaves (set-ref-keeps st terms name r)
+checked-step terms (RemoveRef name) st f e v = leaves (remove-ref-keeps st name)
+checked-step terms (AddSchema s) st f e v = leaves (add-schema-keeps st s)
+checked-step terms (SetCurrentSchema id) st f e v = leaves (set-current-schema-keeps st id)
+checked-step terms (RemoveSchemas ids) st f e v = leaves (remove-schemas-keeps st ids)
+checked-step terms (AddSortOrder o) st f e v = leaves (add-sort-order-keeps st o)
+checked-step terms (SetDefaultSortOrder id) st f e v = leaves (set-default-sort-order-keeps st id)
+checked-step terms (NotFormed counts) st f e v = leaves refl
+
+pub effect-step : (terms : Terms) (u : Update) (st : State) → updateNumber u st ≡ 0 → st .metadata .fields .version ≡ 3 → Step st (effect terms u st) (newSnapshots (u ∷ []))
+effect-step terms u st e v = checked-step terms u st (accepted-form u st e) (accepted-checks u st e) v
