@@ -6,7 +6,7 @@ use mathlib.Core.Bool.{true}
 use mathlib.Core.List.{List, [], _∷_, _++_, append-nil, append-assoc}
 use mathlib.Core.Option.{some}
 use lib.Dec.{eqb}
-use lib.IntN.{ℤ}
+use lib.IntN.{ℤ, pos}
 use borrow.Author.Tests.{eqb-true, le-leb}
 use Rattle.rules.specs.Words.{all, firstOf, Check}
 use Rattle.rules.specs.Replies.{accepted, commitOnTag}
@@ -22,6 +22,8 @@ use Rattle.rules.specs.Close.{closed}
 use Rattle.rules.specs.Run.{runFrom, started, run}
 use Rattle.rules.specs.Run.Ran.{Stopped, Reached}
 use Rattle.rules.specs.Rows.{newSnapshots, hasRows, rangesOf, Given, answeredFrom, addedBy, addedOver, nextRowOf, endOf, climbs, Ascend, Disjoint}
+use Rattle.rules.specs.Examples.{snapRows, draft, clockAt, terms, fileTerms, empty}
+use Rattle.rules.proofs.Examples.{computed}
 use Rattle.rules.proofs.Checks.{only-then, both, passed-before, passed-after}
 use Rattle.rules.proofs.Tables.{all-append}
 use Rattle.rules.proofs.SoundUpdates.{accepted-form, accepted-checks}
@@ -142,3 +144,78 @@ run-adds terms m us m′ log expired e v =
     let t : Takes (started m) (k .end) (newSnapshots us) = run-takes terms us 0 (started m) (k .end) (k .reached) v in
     rw (run-logs-new terms m us m′ log expired e v) (subst (λ (x : Metadata). Adds m x (newSnapshots us)) (k .closes .metadata) (closed-adds terms m (k .end) (newSnapshots us) (t .adds)))
 
+-- ---- a sequence of runs
+
+-- some metadata is reached, with these snapshots added
+pub record Reaches (m : Metadata) (new : List Snapshot) : Type 0 where
+  pub end : Metadata
+  pub adds : Adds m end new
+
+pub reaches-on : (a b : Metadata) (xs ys : List Snapshot) → Adds a b xs → Reaches b ys → Reaches a (xs ++ ys)
+reaches-on a b xs ys p q = record { end = q .end; adds = adds-on a b (q .end) xs ys p (q .adds) }
+
+-- an accepted run adds what it logs; a refused one adds none and answers its start
+answered-adds : (terms : Terms) (m : Metadata) (us : List Update) (o : Outcome) → run terms m us ≡ o → m .fields .version ≡ 3 → Adds m (answeredFrom m o) (addedBy o)
+answered-adds terms m us (Refused number place) e v = adds-none m v
+answered-adds terms m us (Accepted m′ log expired) e v = run-adds terms m us m′ log expired e v
+
+over-reaches : (m : Metadata) (gs : List Given) → m .fields .version ≡ 3 → Reaches m (addedOver m gs)
+unfolding addedOver
+over-reaches m [] v = record { end = m; adds = adds-none m v }
+over-reaches m (g ∷ gs) v =
+    let o : Outcome = run (g .terms) m (g .updates) in
+    let a : Adds m (answeredFrom m o) (addedBy o) = answered-adds (g .terms) m (g .updates) o refl v in
+    reaches-on m (answeredFrom m o) (addedBy o) (addedOver (answeredFrom m o) gs) a (over-reaches (answeredFrom m o) gs (a .version))
+
+-- Over any sequence of runs from a start of version 3:
+module _ (m : Metadata) (gs : List Given) (v : m .fields .version ≡ 3) where
+  -- every snapshot that is added has a row range,
+  pub rows-given : all hasRows (addedOver m gs) ≡ true
+  rows-given = over-reaches m gs v .adds .ranged
+
+  -- the ranges climb from the starting next row id: each begins at or after it and the end of every earlier one, and ends by 2^64 - 1,
+  pub rows-climb : climbs (nextRowOf m) (rangesOf (addedOver m gs)) ≡ true
+  rows-climb = over-reaches m gs v .adds .climb
+
+  pub rows-ascend : Ascend (nextRowOf m) (rangesOf (addedOver m gs))
+  rows-ascend = climbs-ascend (nextRowOf m) (rangesOf (addedOver m gs)) rows-climb
+
+  -- so no row id lies in two of them, nor in one of them and in a range that ends by the starting next row id
+  pub rows-disjoint : Disjoint (nextRowOf m) (rangesOf (addedOver m gs))
+  rows-disjoint = ascend-disjoint (nextRowOf m) (rangesOf (addedOver m gs)) rows-ascend
+
+-- ---- it is not empty
+
+-- the number of a run's answer
+abbrev numberOf : Outcome → ℕ
+numberOf (Refused number place) = number
+numberOf (Accepted m log expired) = accepted
+
+-- the numbers of the runs of a sequence
+abbrev numbersOver : Metadata → List Given → List ℕ
+numbersOver m [] = []
+numbersOver m (g ∷ gs) = let o : Outcome = run (g .terms) m (g .updates) in numberOf o ∷ numbersOver (answeredFrom m o) gs
+
+-- version 3 and next row id 10
+abbrev from10 : Metadata
+from10 = empty 3 10 (pos 0) []
+
+-- rows 10 to 19 and an empty range at 25; rows from 20, which is now behind; the first snapshot removed, and a branch commit of rows 25 to 29
+abbrev threeRuns : List Given
+threeRuns =
+    record { terms = terms; updates = AddSnapshot (snapRows 1 10 10) ∷ AddSnapshot (snapRows 2 25 0) ∷ [] }
+    ∷ record { terms = clockAt (pos 600000); updates = AddSnapshot (snapRows 3 20 4) ∷ [] }
+    ∷ record { terms = fileTerms; updates = RemoveSnapshots (pos 1 ∷ []) ∷ SetBranchSnapshot draft (snapRows 4 25 5) ∷ [] }
+    ∷ []
+
+-- the first and the last are accepted, the second is refused with 9, and the ranges are three, of which one is empty and one of a removed snapshot
+pub three-runs-numbers : numbersOver from10 threeRuns ≡ 0 ∷ 9 ∷ 0 ∷ []
+unfolding computed
+three-runs-numbers = refl
+
+pub three-runs-add : addedOver from10 threeRuns ≡ snapRows 1 10 10 ∷ snapRows 2 25 0 ∷ snapRows 4 25 5 ∷ []
+unfolding computed addedOver newSnapshots
+three-runs-add = refl
+
+pub three-runs-disjoint : Disjoint 10 (rangesOf (snapRows 1 10 10 ∷ snapRows 2 25 0 ∷ snapRows 4 25 5 ∷ []))
+three-runs-disjoint = subst (λ (l : List Snapshot). Disjoint 10 (rangesOf l)) three-runs-add (rows-disjoint from10 threeRuns refl)
