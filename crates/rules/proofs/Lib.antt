@@ -17,6 +17,7 @@ pub mod ReplayLists
 pub mod Ranges
 pub mod RowsKept
 pub mod Rows
+pub mod Apart
 pub mod ReplayKeys
 pub mod ReplayLog
 pub mod ReplaySteps
