@@ -34,6 +34,7 @@ pub mod Laid
 pub mod Reread
 pub mod Places
 pub mod AnswerLaws
+pub mod AnswerRows
 pub mod AnswerReplays
 pub mod AnswerInstances
 pub mod AnswerFits
