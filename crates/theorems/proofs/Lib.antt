@@ -1,2 +1,3 @@
 -- What is true of `run`, by its contract alone.
 pub mod Run
+pub mod Rows

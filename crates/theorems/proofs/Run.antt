@@ -45,7 +45,7 @@ module _ (c : Call) where
   text = now (c .given .1 .1 .1 .0)
 
   -- its contract, read
-  says : c .answered ≡ answer start updates terms text
+  pub says : c .answered ≡ answer start updates terms text
   says = c .allowed
 
 -- the same start, clock, file name and limit text
