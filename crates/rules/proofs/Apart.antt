@@ -25,7 +25,8 @@ use Rattle.rules.proofs.AcceptedRun.{Ends, run-accepted}
 use Rattle.rules.proofs.SoundRun.{not-reached, same-state}
 use Rattle.rules.proofs.RowsKept.{View, Keeps, Ranged, add-ranged, add-reaches, Step, leaves, removes, adds, effect-step}
 
-pub record Apart (m : Metadata) : Type 0 where
+-- the test passed, part by part
+pub record Passes (m : Metadata) : Type 0 where
   pub version : m .fields .version ≡ 3
   pub ranges : ascending rowsApart (m .snapshots) ≡ true
   pub ends : all (rowsEndBy (nextRowOf m)) (m .snapshots) ≡ true
@@ -34,17 +35,17 @@ pub record Apart (m : Metadata) : Type 0 where
 abbrev furtherParts : Metadata → List Bool
 furtherParts m = ascending rowsApart (m .snapshots) ∷ all (rowsEndBy (nextRowOf m)) (m .snapshots) ∷ []
 
-pub is-apart : (m : Metadata) → isApart m ≡ true → Apart m
+pub apart-passes : (m : Metadata) → isApart m ≡ true → Passes m
 unfolding isApart
-is-apart m h =
+apart-passes m h =
     let k : Hold (isVersion3 (m .fields) ∷ furtherParts m) = parts (isVersion3 (m .fields)) (furtherParts m) h in
     record { version = eqb-true (m .fields .version) 3 (k .0); ranges = k .1 .0; ends = k .1 .1 .0 }
 
-pub apart-is : (m : Metadata) → Apart m → isApart m ≡ true
+pub passes-apart : (m : Metadata) → Passes m → isApart m ≡ true
 unfolding isApart
-apart-is m a = whole (isVersion3 (m .fields)) (furtherParts m) (eq-eqb (m .fields .version) 3 (a .version), (a .ranges, (a .ends, tt)))
+passes-apart m a = whole (isVersion3 (m .fields)) (furtherParts m) (eq-eqb (m .fields .version) 3 (a .version), (a .ranges, (a .ends, tt)))
 
-apart-kept : (a b : State) → Keeps a b → Apart (a .metadata) → Apart (b .metadata)
+apart-kept : (a b : State) → Keeps a b → Passes (a .metadata) → Passes (b .metadata)
 apart-kept a b k p =
     record {
       version = ap (λ (v : View). v .version) k ∙ p .version;
@@ -54,7 +55,7 @@ apart-kept a b k p =
 
 -- ---- a removal
 
-without-apart : (ids : List ℤ) (st : State) → Apart (st .metadata) → Apart (withoutSnapshots ids st .metadata)
+without-apart : (ids : List ℤ) (st : State) → Passes (st .metadata) → Passes (withoutSnapshots ids st .metadata)
 without-apart ids st p =
     let m : Metadata = st .metadata in
     let stays : Snapshot → Bool = λ s. not (isIn ids (s .id)) in
@@ -89,7 +90,7 @@ module _ (s : Snapshot) (next : ℕ) (k : Ranged s next) where
   new-ends : rowsEndBy (endOf (k .range)) s ≡ true
   new-ends = rw (k .has) (le-leb (endOf (k .range)) (endOf (k .range)) (omega arith))
 
-add-apart : (s : Snapshot) (st : State) → Ranged s (nextRowOf (st .metadata)) → Apart (st .metadata) → Apart (addSnapshot s st .metadata)
+add-apart : (s : Snapshot) (st : State) → Ranged s (nextRowOf (st .metadata)) → Passes (st .metadata) → Passes (addSnapshot s st .metadata)
 unfolding addSnapshot
 add-apart s st k p =
     let l : List Snapshot = st .metadata .snapshots in
@@ -108,21 +109,21 @@ add-apart s st k p =
 
 -- ---- a run
 
-step-apart : (st st′ : State) (new : List Snapshot) → Step st st′ new → Apart (st .metadata) → Apart (st′ .metadata)
+step-apart : (st st′ : State) (new : List Snapshot) → Step st st′ new → Passes (st .metadata) → Passes (st′ .metadata)
 step-apart st st′ new (leaves k) p = apart-kept st st′ k p
 step-apart st st′ new (removes ids k) p = apart-kept (withoutSnapshots ids st) st′ k (without-apart ids st p)
 step-apart st st′ new (adds s e k) p = apart-kept (addSnapshot s st) st′ k (add-apart s st (add-ranged s st (p .version) e) p)
 
-run-apart : (terms : Terms) (us : List Update) (place : ℕ) (st st′ : State) → runFrom terms us place st ≡ Reached st′ → Apart (st .metadata) → Apart (st′ .metadata)
+run-apart : (terms : Terms) (us : List Update) (place : ℕ) (st st′ : State) → runFrom terms us place st ≡ Reached st′ → Passes (st .metadata) → Passes (st′ .metadata)
 unfolding runFrom
-run-apart terms [] place st st′ e p = subst (λ (x : State). Apart (x .metadata)) (same-state st st′ e) p
+run-apart terms [] place st st′ e p = subst (λ (x : State). Passes (x .metadata)) (same-state st st′ e) p
 run-apart terms (u ∷ us) place st st′ e p =
     let k = only-then (eqb (updateNumber u st) accepted) (not-reached (updateNumber u st) place st′) e in
     let next : State = effect terms u st in
     run-apart terms us (suc place) next st′ (k .1) (step-apart st next _ (effect-step terms u st (eqb-true (updateNumber u st) accepted (k .0)) (p .version)) p)
 
 -- the close leaves version, next row id and snapshots
-closed-apart : (terms : Terms) (st : State) → Apart (st .metadata) → Apart (closed terms (st .log) st)
+closed-apart : (terms : Terms) (st : State) → Passes (st .metadata) → Passes (closed terms (st .log) st)
 unfolding closed
 closed-apart terms st p = record { version = p .version; ranges = p .ranges; ends = p .ends }
 
@@ -130,4 +131,4 @@ closed-apart terms st p = record { version = p .version; ranges = p .ranges; end
 pub apart-stays : (terms : Terms) (m : Metadata) (us : List Update) (m′ : Metadata) (log : List Update) (expired : List FileEntry) → run terms m us ≡ Accepted m′ log expired → isApart m ≡ true → isApart m′ ≡ true
 apart-stays terms m us m′ log expired e h =
     let k : Ends terms m′ log expired m us = run-accepted terms m′ log expired m us e in
-    apart-is m′ (subst Apart (k .closes .metadata) (closed-apart terms (k .end) (run-apart terms us 0 (started m) (k .end) (k .reached) (is-apart m h))))
+    passes-apart m′ (subst Passes (k .closes .metadata) (closed-apart terms (k .end) (run-apart terms us 0 (started m) (k .end) (k .reached) (apart-passes m h))))

@@ -18,6 +18,7 @@ pub mod Ranges
 pub mod RowsKept
 pub mod Rows
 pub mod Apart
+pub mod ApartExactly
 pub mod ReplayKeys
 pub mod ReplayLog
 pub mod ReplaySteps

@@ -9,7 +9,7 @@ use lib.ListN.{length}
 use borrow.Author.Tests.{ltb-true, ltb-false, leb-true, leb-false, eqb-true, eqb-false, le-leb, lt-ltb}
 use Rattle.rules.specs.Capacities.{largestRowId}
 use Rattle.rules.specs.Register.{RowRange, Snapshot}
-use Rattle.rules.specs.Rows.{rangesOf, endOf, hasRow, rangeAt, climbs, Ascend, Disjoint, apart}
+use Rattle.rules.specs.Rows.{rangesOf, endOf, hasRow, rangeAt, climbs, Ascend, NoRowTwice, Disjoint, apart}
 use Rattle.rules.proofs.Checks.{Hold, both, and-left, and-right, by-either, neither, parts}
 use Rattle.rules.proofs.ReplayLists.{collect-append}
 
@@ -83,21 +83,20 @@ row-placed [] i row h = absurd (let k = row-lies (rangeAt [] i) row h in omega a
 row-placed (r ∷ rs) zero row h = omega arith
 row-placed (r ∷ rs) (suc i) row h = let ih : i < length rs = row-placed rs i row h in omega arith
 
-module _ (n : ℕ) (rs : List RowRange) (a : Ascend n rs) where
-  -- an earlier range ends before a later one begins
-  no-row-twice : (i j row : ℕ) → i < j → hasRow (rangeAt rs i) row ≡ true → hasRow (rangeAt rs j) row ≡ true → ⊥
-  no-row-twice i j row l p q = omega (arith, row-lies (rangeAt rs i) row p .1, row-lies (rangeAt rs j) row q .0, a .from-earlier i j l (row-placed rs j row q))
+-- it is enough that an earlier range shares no row with a later one
+pub earlier-later : (rs : List RowRange) → ((i j row : ℕ) → i < j → j < length rs → hasRow (rangeAt rs i) row ≡ true → hasRow (rangeAt rs j) row ≡ true → ⊥) → NoRowTwice rs
+earlier-later rs f i j row p q = in-order (ltb i j) (ltb j i) refl refl
+  where
+    in-order : (b c : Bool) → ltb i j ≡ b → ltb j i ≡ c → i ≡ j
+    in-order true c e g = absurd (f i j row (ltb-true i j e) (row-placed rs j row q) p q)
+    in-order false true e g = absurd (f j i row (ltb-true j i g) (row-placed rs i row p) q p)
+    in-order false false e g = omega (arith, ltb-false i j e, ltb-false j i g)
 
-  pub ascend-disjoint : Disjoint n rs
-  ascend-disjoint = record {
-    from-others = λ i j row p q. in-order i j row p q (ltb i j) (ltb j i) refl refl;
-    from-below = λ r e i row p q. omega (arith, row-lies (rangeAt rs i) row p .0, row-lies r row q .1, a .from-start i (row-placed rs i row p));
-  }
-    where
-      in-order : (i j row : ℕ) → hasRow (rangeAt rs i) row ≡ true → hasRow (rangeAt rs j) row ≡ true → (b c : Bool) → ltb i j ≡ b → ltb j i ≡ c → i ≡ j
-      in-order i j row p q true c e f = absurd (no-row-twice i j row (ltb-true i j e) p q)
-      in-order i j row p q false true e f = absurd (no-row-twice j i row (ltb-true j i f) q p)
-      in-order i j row p q false false e f = omega (arith, ltb-false i j e, ltb-false j i f)
+pub ascend-disjoint : (n : ℕ) (rs : List RowRange) → Ascend n rs → Disjoint n rs
+ascend-disjoint n rs a = record {
+  from-others = earlier-later rs (λ i j row k l p q. omega (arith, row-lies (rangeAt rs i) row p .1, row-lies (rangeAt rs j) row q .0, a .from-earlier i j k l));
+  from-below = λ r e i row p q. omega (arith, row-lies (rangeAt rs i) row p .0, row-lies r row q .1, a .from-start i (row-placed rs i row p));
+}
 
 -- ---- two ranges
 

@@ -96,9 +96,13 @@ pub record Ascend (start : ℕ) (rs : List RowRange) : Type 0 where
   pub from-earlier : (i j : ℕ) → i < j → j < length rs → endOf (rangeAt rs i) ≤ rangeAt rs j .first .0
   pub ends : (j : ℕ) → j < length rs → endOf (rangeAt rs j) ≤ largestRowId
 
--- no row id lies in ranges at two positions, nor in one of them and in a range that ends by the starting number
+-- no row id lies in ranges at two positions
+abbrev pub NoRowTwice : List RowRange → Type 0
+NoRowTwice rs = (i j row : ℕ) → hasRow (rangeAt rs i) row ≡ true → hasRow (rangeAt rs j) row ≡ true → i ≡ j
+
+-- nor in one of them and in a range that ends by the starting number
 pub record Disjoint (start : ℕ) (rs : List RowRange) : Type 0 where
-  pub from-others : (i j row : ℕ) → hasRow (rangeAt rs i) row ≡ true → hasRow (rangeAt rs j) row ≡ true → i ≡ j
+  pub from-others : NoRowTwice rs
   pub from-below : (r : RowRange) → endOf r ≤ start → (i row : ℕ) → hasRow (rangeAt rs i) row ≡ true → hasRow r row ≡ true → ⊥
 
 -- ---- metadata whose held ranges are apart
@@ -117,3 +121,9 @@ rowsEndBy next s = ifSome (λ (r : RowRange). leb (endOf r) next) (s .rows)
 -- version 3, each held range is apart from all that follow it, and each ends by next row id
 unfoldable pub isApart : Metadata → Bool
 isApart m = isVersion3 (m .fields) && ascending rowsApart (m .snapshots) && all (rowsEndBy (nextRowOf m)) (m .snapshots)
+
+-- the same in words of positions: version 3, no row id in two held ranges, and each ends by next row id
+pub record Apart (m : Metadata) : Type 0 where
+  pub version : m .fields .version ≡ 3
+  pub no-row-twice : NoRowTwice (rangesOf (m .snapshots))
+  pub ends : (i : ℕ) → i < length (rangesOf (m .snapshots)) → endOf (rangeAt (rangesOf (m .snapshots)) i) ≤ nextRowOf m
