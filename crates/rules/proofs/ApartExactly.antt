@@ -118,19 +118,20 @@ three-runs-apart = refl
 abbrev holding : Snapshot → Snapshot → Metadata
 holding s t = register 3 2 9 (pos 0) (s ∷ t ∷ []) none [] [] []
 
--- Rows 0 to 3 are held: apart if the next row id is 4, not if it is 0, nor at version 2. Of two ranges: rows 0 to 3 beside rows 4 to 8, not beside rows 3 to 8,
--- also the other way round; beside an empty range within them; not beside rows 4 to 9, which end past the next row id.
+-- Rows 0 to 3 are held: apart if next row id is 4, not if it is 0, nor at version 2. Next row id is 9: rows 0 to 3 and rows 4 to 8, in either order of
+-- the table; not rows 0 to 3 and rows 3 to 8, in either order; rows 0 to 3 and an empty range among them; not rows 0 to 3 and rows 4 to 9.
 pub apart-examples :
     map isApart
     (ranged 3 4
     ∷ ranged 3 0
     ∷ ranged 2 4
     ∷ holding (snapRows 1 0 4) (snapRows 2 4 5)
+    ∷ holding (snapRows 1 4 5) (snapRows 2 0 4)
     ∷ holding (snapRows 1 0 4) (snapRows 2 3 6)
     ∷ holding (snapRows 1 3 6) (snapRows 2 0 4)
     ∷ holding (snapRows 1 0 4) (snapRows 2 2 0)
     ∷ holding (snapRows 1 0 4) (snapRows 2 4 6)
     ∷ [])
-    ≡ true ∷ false ∷ false ∷ true ∷ false ∷ false ∷ true ∷ false ∷ []
+    ≡ true ∷ false ∷ false ∷ true ∷ true ∷ false ∷ false ∷ true ∷ false ∷ []
 unfolding isApart
 apart-examples = refl

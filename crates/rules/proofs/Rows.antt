@@ -200,11 +200,11 @@ numbersOver m (g ∷ gs) = let o : Outcome = run (g .terms) m (g .updates) in nu
 abbrev pub from10 : Metadata
 from10 = empty 3 10 (pos 0) []
 
--- rows 10 to 19 and an empty range at 25; rows from 20, which is now behind; the first snapshot removed, and a branch commit of rows 25 to 29
+-- rows 10 to 19 and an empty range at 25; version 3 again and rows from 20, which are now behind; the first snapshot removed, and a branch commit of rows 25 to 29
 abbrev pub threeRuns : List Given
 threeRuns =
     record { terms = terms; updates = AddSnapshot (snapRows 1 10 10) ∷ AddSnapshot (snapRows 2 25 0) ∷ [] }
-    ∷ record { terms = clockAt (pos 600000); updates = AddSnapshot (snapRows 3 20 4) ∷ [] }
+    ∷ record { terms = clockAt (pos 600000); updates = UpgradeFormatVersion 3 ∷ AddSnapshot (snapRows 3 20 4) ∷ [] }
     ∷ record { terms = fileTerms; updates = RemoveSnapshots (pos 1 ∷ []) ∷ SetBranchSnapshot draft (snapRows 4 25 5) ∷ [] }
     ∷ []
 
