@@ -11,7 +11,7 @@ use Rattle.records.specs.declared.update.UpdateList.{UpdateList}
 use Rattle.records.specs.declared.run.RunTerms.{RunTerms}
 use Rattle.records.specs.declared.run.Answer.{Answer}
 use Rattle.rules.specs.Register.{Snapshot}
-use Rattle.rules.specs.Layout.{readMetadata, readMetadataLog}
+use Rattle.rules.specs.Layout.{readMetadata}
 use Rattle.rules.specs.Kinds.{readUpdates}
 use Rattle.rules.specs.Answer.{readTerms, answer}
 use Rattle.rules.specs.Rows.{newSnapshots, isApart}

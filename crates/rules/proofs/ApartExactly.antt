@@ -1,6 +1,6 @@
 -- What the test of metadata that is apart says: it passes exactly if the version is 3, no row id lies in two held ranges, and each ends by next row id.
 -- It passes and fails: at the start and the end of three runs, and where a held range reaches past next row id.
-use Prim.Native.Nat.{ℕ, zero, suc, _≤_, _<_}
+use Prim.Native.Nat.{ℕ, zero, suc, _<_}
 use native.Mathlib.Omega.{arith}
 use mathlib.Core.Path.{_≡_, refl, sym, _∙_}
 use mathlib.Core.Bool.{Bool, true, false, _&&_}
@@ -13,7 +13,7 @@ use borrow.Author.Tests.{leb-true, le-leb}
 use Rattle.rules.specs.Words.{ifSome, all, collect, ascending}
 use Rattle.rules.specs.Register.{RowRange, Snapshot, Metadata}
 use Rattle.rules.specs.Run.{run}
-use Rattle.rules.specs.Rows.{rangesOf, Given, answeredFrom, nextRowOf, endOf, hasRow, rangeAt, NoRowTwice, apart, rowsApart, rowsEndBy, isApart, Apart}
+use Rattle.rules.specs.Rows.{rangesOf, Given, answeredFrom, nextRowOf, endOf, rangeAt, NoRowTwice, apart, rowsApart, isApart, Apart}
 use Rattle.rules.specs.Examples.{snapRows, register, ranged}
 use Rattle.rules.proofs.Examples.{computed}
 use Rattle.rules.proofs.Checks.{both}

@@ -8,25 +8,22 @@ use mathlib.Core.Option.{some}
 use lib.Dec.{eqb}
 use lib.IntN.{ℤ, pos}
 use borrow.Author.Tests.{eqb-true, le-leb}
-use Rattle.rules.specs.Words.{all, firstOf, Check}
-use Rattle.rules.specs.Replies.{accepted, commitOnTag}
+use Rattle.rules.specs.Words.{all}
+use Rattle.rules.specs.Replies.{accepted}
 use Rattle.rules.specs.RowIds.{rangeEnd}
 use Rattle.rules.specs.Register.{RowRange, Snapshot, FileEntry, Metadata, Update, Terms, State, Outcome}
 use Rattle.rules.specs.Register.Outcome.{Refused, Accepted}
-use Rattle.rules.specs.Register.Update.{AssignUuid, UpgradeFormatVersion, SetLocation, AddSnapshot, SetBranchSnapshot, RemoveSnapshots, SetRef, RemoveRef, AddSchema, SetCurrentSchema, RemoveSchemas, AddSortOrder, SetDefaultSortOrder, NotFormed}
-use Rattle.rules.specs.WellFormed.{updateFormed}
-use Rattle.rules.specs.SnapshotUpdates.{addSnapshotChecks, addSnapshot, withoutSnapshots}
-use Rattle.rules.specs.RefUpdates.{committed, isTag, setRefChecks, setBranchSnapshotChecks, setBranchSnapshot}
-use Rattle.rules.specs.Updates.{checks, updateNumber, effect}
+use Rattle.rules.specs.Register.Update.{UpgradeFormatVersion, AddSnapshot, SetBranchSnapshot, RemoveSnapshots}
+use Rattle.rules.specs.SnapshotUpdates.{addSnapshot, withoutSnapshots}
+use Rattle.rules.specs.Updates.{updateNumber, effect}
 use Rattle.rules.specs.Close.{closed}
 use Rattle.rules.specs.Run.{runFrom, started, run}
-use Rattle.rules.specs.Run.Ran.{Stopped, Reached}
+use Rattle.rules.specs.Run.Ran.{Reached}
 use Rattle.rules.specs.Rows.{newSnapshots, hasRows, rangesOf, Given, answeredFrom, addedBy, addedOver, nextRowOf, endOf, climbs, Ascend, Disjoint}
 use Rattle.rules.specs.Examples.{snapRows, draft, clockAt, terms, fileTerms, empty}
 use Rattle.rules.proofs.Examples.{computed}
-use Rattle.rules.proofs.Checks.{only-then, both, passed-before, passed-after}
+use Rattle.rules.proofs.Checks.{only-then}
 use Rattle.rules.proofs.Tables.{all-append}
-use Rattle.rules.proofs.SoundUpdates.{accepted-form, accepted-checks}
 use Rattle.rules.proofs.AcceptedRun.{Ends, run-accepted}
 use Rattle.rules.proofs.SoundRun.{not-reached, same-state}
 use Rattle.rules.proofs.Ranges.{reached, ranges-append, reached-append, climbs-append, climbs-ascend, ascend-disjoint}
@@ -129,20 +126,20 @@ closed-adds : (terms : Terms) (m : Metadata) (st : State) (new : List Snapshot) 
 unfolding closed
 closed-adds terms m st new a = record { version = a .version; ranged = a .ranged; climb = a .climb; next = a .next }
 
--- the snapshots that an accepted run logs are those of the additions and branch commits of its list, in order
-pub run-logs-new : (terms : Terms) (m : Metadata) (us : List Update) (m′ : Metadata) (log : List Update) (expired : List FileEntry) → run terms m us ≡ Accepted m′ log expired → m .fields .version ≡ 3
-    → newSnapshots log ≡ newSnapshots us
-run-logs-new terms m us m′ log expired e v =
-    let k : Ends terms m′ log expired m us = run-accepted terms m′ log expired m us e in
-    let t : Takes (started m) (k .end) (newSnapshots us) = run-takes terms us 0 (started m) (k .end) (k .reached) v in
-    ap newSnapshots (sym (k .closes .logged)) ∙ t .logged ∙ ap (λ (l : List Snapshot). l ++ newSnapshots us) new-none
+module _ (terms : Terms) (m : Metadata) (us : List Update) (m′ : Metadata) (log : List Update) (expired : List FileEntry) (e : run terms m us ≡ Accepted m′ log expired) (v : m .fields .version ≡ 3) where
+  ends : Ends terms m′ log expired m us
+  ends = run-accepted terms m′ log expired m us e
 
-pub run-adds : (terms : Terms) (m : Metadata) (us : List Update) (m′ : Metadata) (log : List Update) (expired : List FileEntry) → run terms m us ≡ Accepted m′ log expired → m .fields .version ≡ 3
-    → Adds m m′ (newSnapshots log)
-run-adds terms m us m′ log expired e v =
-    let k : Ends terms m′ log expired m us = run-accepted terms m′ log expired m us e in
-    let t : Takes (started m) (k .end) (newSnapshots us) = run-takes terms us 0 (started m) (k .end) (k .reached) v in
-    rw (run-logs-new terms m us m′ log expired e v) (subst (λ (x : Metadata). Adds m x (newSnapshots us)) (k .closes .metadata) (closed-adds terms m (k .end) (newSnapshots us) (t .adds)))
+  taken : Takes (started m) (ends .end) (newSnapshots us)
+  taken = run-takes terms us 0 (started m) (ends .end) (ends .reached) v
+
+  -- the snapshots that an accepted run logs are those of the additions and branch commits of its list, in order
+  pub run-logs-new : newSnapshots log ≡ newSnapshots us
+  run-logs-new = ap newSnapshots (sym (ends .closes .logged)) ∙ taken .logged ∙ ap (λ (l : List Snapshot). l ++ newSnapshots us) new-none
+
+  -- and these it adds
+  pub run-adds : Adds m m′ (newSnapshots log)
+  run-adds = rw run-logs-new (subst (λ (x : Metadata). Adds m x (newSnapshots us)) (ends .closes .metadata) (closed-adds terms m (ends .end) (newSnapshots us) (taken .adds)))
 
 -- ---- a sequence of runs
 

@@ -100,7 +100,7 @@ pub record Ascend (start : ℕ) (rs : List RowRange) : Type 0 where
 abbrev pub NoRowTwice : List RowRange → Type 0
 NoRowTwice rs = (i j row : ℕ) → hasRow (rangeAt rs i) row ≡ true → hasRow (rangeAt rs j) row ≡ true → i ≡ j
 
--- nor in one of them and in a range that ends by the starting number
+-- and none lies in one of them and in a range that ends by the starting number
 pub record Disjoint (start : ℕ) (rs : List RowRange) : Type 0 where
   pub from-others : NoRowTwice rs
   pub from-below : (r : RowRange) → endOf r ≤ start → (i row : ℕ) → hasRow (rangeAt rs i) row ≡ true → hasRow r row ≡ true → ⊥
