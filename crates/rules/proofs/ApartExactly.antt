@@ -13,13 +13,13 @@ use borrow.Author.Tests.{leb-true, le-leb}
 use Rattle.rules.specs.Words.{ifSome, all, collect, ascending}
 use Rattle.rules.specs.Register.{RowRange, Snapshot, Metadata}
 use Rattle.rules.specs.Run.{run}
-use Rattle.rules.specs.Rows.{rangesOf, Given, answeredFrom, nextRowOf, endOf, rangeAt, NoRowTwice, apart, rowsApart, isApart, Apart}
+use Rattle.rules.specs.Rows.{rangesOf, Given, answeredFrom, addedOver, nextRowOf, endOf, hasRow, rangeAt, NoRowTwice, Disjoint, apart, rowsApart, isApart, Apart}
 use Rattle.rules.specs.Examples.{snapRows, register, ranged}
 use Rattle.rules.proofs.Examples.{computed}
 use Rattle.rules.proofs.Checks.{both}
 use Rattle.rules.proofs.Tables.{all-head, all-tail, ascending-head, ascending-tail}
-use Rattle.rules.proofs.Ranges.{earlier-later, apart-shares-none, shares-none-apart}
-use Rattle.rules.proofs.Rows.{from10, threeRuns}
+use Rattle.rules.proofs.Ranges.{row-placed, earlier-later, apart-shares-none, shares-none-apart}
+use Rattle.rules.proofs.Rows.{rows-disjoint, from10, threeRuns}
 use Rattle.rules.proofs.Apart.{Passes, apart-passes, passes-apart}
 
 -- ---- lists by position
@@ -102,6 +102,18 @@ module _ (m : Metadata) where
         ranges = sym (ranges-apart (m .snapshots)) ∙ no-row-twice-apart rs (a .no-row-twice);
         ends = sym (all-collect (λ (s : Snapshot). s .rows) endsBy (m .snapshots)) ∙ at-all endsBy _ rs (λ i l. le-leb (endOf (rangeAt rs i)) (nextRowOf m) (a .ends i l));
       })
+
+-- what shares no row with a range that ends by next row id shares none with a held one, where metadata is apart
+pub disjoint-from-held : (m : Metadata) (rs : List RowRange) → isApart m ≡ true → Disjoint (nextRowOf m) rs
+    → (i j row : ℕ) → hasRow (rangeAt rs i) row ≡ true → hasRow (rangeAt (rangesOf (m .snapshots)) j) row ≡ true → ⊥
+disjoint-from-held m rs h d i j row p q =
+    let held : List RowRange = rangesOf (m .snapshots) in
+    d .from-below (rangeAt held j) (apart-means m h .ends j (row-placed held j row q)) i row p q
+
+-- so from metadata that is apart no run of a sequence gives out a row id that was held at the start
+pub rows-never-held : (m : Metadata) (gs : List Given) → isApart m ≡ true
+    → (i j row : ℕ) → hasRow (rangeAt (rangesOf (addedOver m gs)) i) row ≡ true → hasRow (rangeAt (rangesOf (m .snapshots)) j) row ≡ true → ⊥
+rows-never-held m gs h = disjoint-from-held m (rangesOf (addedOver m gs)) h (rows-disjoint m gs (apart-means m h .version))
 
 -- ---- it passes and fails
 

@@ -78,7 +78,7 @@ row-lies r row h =
     (leb-true (r .first .0) row (and-left (leb (r .first .0) row) (ltb row (endOf r)) h), ltb-true row (endOf r) (and-right (leb (r .first .0) row) (ltb row (endOf r)) h))
 
 -- a position whose range has a row is one of the list
-row-placed : (rs : List RowRange) (i row : ℕ) → hasRow (rangeAt rs i) row ≡ true → i < length rs
+pub row-placed : (rs : List RowRange) (i row : ℕ) → hasRow (rangeAt rs i) row ≡ true → i < length rs
 row-placed [] i row h = absurd (let k = row-lies (rangeAt [] i) row h in omega arith)
 row-placed (r ∷ rs) zero row h = omega arith
 row-placed (r ∷ rs) (suc i) row h = let ih : i < length rs = row-placed rs i row h in omega arith

@@ -1,4 +1,5 @@
 -- No row id twice, of the entry point `run`, by its contract alone: over any chain of calls, each from what the one before answered.
+use Prim.Native.Nat.{ℕ}
 use mathlib.Core.Path.{_≡_, sym, ap, subst, _∙_}
 use mathlib.Core.Bool.{true}
 use mathlib.Core.List.{List, [], _∷_, _++_}
@@ -8,9 +9,10 @@ use Rattle.rules.specs.Words.{all}
 use Rattle.rules.specs.Register.{Snapshot}
 use Rattle.rules.specs.Layout.{readMetadata}
 use Rattle.rules.specs.Answer.{answer}
-use Rattle.rules.specs.Rows.{hasRows, rangesOf, Ascend, Disjoint, isApart}
+use Rattle.rules.specs.Rows.{hasRows, rangesOf, hasRow, rangeAt, Ascend, Disjoint, isApart}
 use Rattle.rules.proofs.Ranges.{climbs-ascend, ascend-disjoint}
 use Rattle.rules.proofs.Rows.{Adds, adds-none, Reaches, reaches-on}
+use Rattle.rules.proofs.ApartExactly.{apart-means, disjoint-from-held}
 use Rattle.rules.proofs.AnswerRows.{newIn, answer-adds, answer-apart-stays}
 use Rattle.theorems.proofs.Run.{Call, start, updates, terms, text, says}
 
@@ -53,3 +55,8 @@ module _ (m : TableMetadata) (cs : List Call) (h : Chain m cs) (v : m .fields .�
 -- metadata that is apart is answered by metadata that is apart, so whoever asks once knows it of every later answer
 pub run-apart-stays : (c : Call) → isApart (readMetadata (start c)) ≡ true → isApart (readMetadata (c .answered .metadata)) ≡ true
 run-apart-stays c h = subst (λ (x : Answer). isApart (readMetadata (x .metadata)) ≡ true) (sym (says c)) (answer-apart-stays (start c) (updates c) (terms c) (text c) h)
+
+-- and over any chain of calls from metadata that is apart no row id is given out that was held at its start
+pub run-rows-never-held : (m : TableMetadata) (cs : List Call) → Chain m cs → isApart (readMetadata m) ≡ true
+    → (i j row : ℕ) → hasRow (rangeAt (rangesOf (newOver cs)) i) row ≡ true → hasRow (rangeAt (rangesOf (readMetadata m .snapshots)) j) row ≡ true → ⊥
+run-rows-never-held m cs h a = disjoint-from-held (readMetadata m) (rangesOf (newOver cs)) a (run-rows-disjoint m cs h (apart-means (readMetadata m) a .version))

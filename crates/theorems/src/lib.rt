@@ -1,3 +1,3 @@
 // What is true of the entry point `run`, by its contract alone: it asks nothing, its answers are fixed, each number has its place,
-// what is accepted can start the next run, and the log suffices.
+// what is accepted can start the next run, the log suffices, and no row id is given out twice.
 // This crate has no code; its theorems stand in proofs/.
