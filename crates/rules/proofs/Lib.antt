@@ -1,6 +1,5 @@
 -- What is true of the written rules alone, in the order in which one rests on another.
 pub mod Examples
-pub mod Rows
 pub mod Checks
 pub mod Orders
 pub mod Tables
@@ -15,6 +14,11 @@ pub mod SoundUpdates
 pub mod AcceptedRun
 pub mod SoundRun
 pub mod ReplayLists
+pub mod Ranges
+pub mod RowsKept
+pub mod Rows
+pub mod Apart
+pub mod ApartExactly
 pub mod ReplayKeys
 pub mod ReplayLog
 pub mod ReplaySteps
@@ -31,6 +35,7 @@ pub mod Laid
 pub mod Reread
 pub mod Places
 pub mod AnswerLaws
+pub mod AnswerRows
 pub mod AnswerReplays
 pub mod AnswerInstances
 pub mod AnswerFits

@@ -37,6 +37,17 @@ module _ {A : Type 0} where
       go true ih = refl
       go false ih = ih
 
+  pub collect-append : {B : Type 0} (f : A → Option B) (xs ys : List A) → collect f (xs ++ ys) ≡ collect f xs ++ collect f ys
+  collect-append f [] ys = refl
+  collect-append {B} f (x ∷ xs) ys = go (f x) (collect-append f xs ys)
+    where
+      given : Option B → List B → List B
+      given o zs = elim o [ none ↦ zs | some y ↦ y ∷ zs ]
+
+      go : (o : Option B) → collect f (xs ++ ys) ≡ collect f xs ++ collect f ys → given o (collect f (xs ++ ys)) ≡ given o (collect f xs) ++ collect f ys
+      go none ih = ih
+      go (some y) ih = rw ih
+
   pub total-append : (f : A → ℕ) (xs ys : List A) → total f (xs ++ ys) ≡ total f xs + total f ys
   total-append f [] ys = omega arith
   total-append f (x ∷ xs) ys = let ih : total f (xs ++ ys) ≡ total f xs + total f ys = total-append f xs ys in omega arith

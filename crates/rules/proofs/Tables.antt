@@ -118,6 +118,18 @@ module _ {A : Type 0} (below : A → A → Bool) where
       let ih : ascending below (keep p l) ≡ true = ascending-keep p l (ascending-tail x l h) in
       by-test (λ (r : List A). ascending below r ≡ true) (p x) (λ e. both (all-keep (below x) p l (ascending-head x l h)) ih) (λ e. ih)
 
+-- where each element stands so to all that follow it, one that stands so to all and to which all stand so may be put anywhere
+pub all-stand-put : {A : Type 0} (stands below : A → A → Bool) (a : A) (l : List A) → all (stands a) l ≡ true → all (λ (x : A). stands x a) l ≡ true → ascending stands l ≡ true → ascending stands (put below a l) ≡ true
+all-stand-put stands below a [] h k s = refl
+all-stand-put {A} stands below a (x ∷ l) h k s =
+    let P : List A → Type 0 = λ r. ascending stands r ≡ true in
+    let to : A → Bool = λ y. stands y a in
+    by-test P (below a x)
+    (λ e. both h s)
+    (λ e. by-test P (below x a)
+    (λ f. both (all-put below (stands x) a l (all-head to x l k) (ascending-head stands x l s)) (all-stand-put stands below a l (all-tail (stands a) x l h) (all-tail to x l k) (ascending-tail stands x l s)))
+    (λ f. both (all-tail (stands a) x l h) (ascending-tail stands x l s)))
+
 -- ---- tables in the order of a key
 
 abbrev pub byKey : {A K : Type 0} → (K → K → Bool) → (A → K) → A → A → Bool

@@ -19,6 +19,7 @@ pub mod Updates
 pub mod Close
 pub mod Run
 pub mod Moment
+pub mod Rows
 pub mod Replay
 pub mod Promises
 pub mod Blanks

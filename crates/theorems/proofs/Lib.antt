@@ -1,3 +1,4 @@
 -- What is true of `run`, by its contract alone.
 pub mod Run
 pub mod Moment
+pub mod Rows

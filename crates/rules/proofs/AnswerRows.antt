@@ -1,0 +1,55 @@
+-- No row id twice, of records: what an answer's changes add, and that metadata which is apart is answered by metadata which is apart.
+use Prim.Native.Nat.{ℕ}
+use mathlib.Core.Path.{_≡_, refl}
+use mathlib.Core.Bool.{Bool, true, false}
+use mathlib.Core.List.{List, []}
+use lib.Dec.{eqb}
+use borrow.Author.Tests.{eqb-true, eqb-false}
+use Rattle.records.specs.Blanks.{noUpdates}
+use Rattle.records.specs.declared.metadata.TableMetadata.{TableMetadata}
+use Rattle.records.specs.declared.update.UpdateList.{UpdateList}
+use Rattle.records.specs.declared.run.RunTerms.{RunTerms}
+use Rattle.records.specs.declared.run.Answer.{Answer}
+use Rattle.rules.specs.Register.{Snapshot}
+use Rattle.rules.specs.Layout.{readMetadata}
+use Rattle.rules.specs.Kinds.{readUpdates}
+use Rattle.rules.specs.Answer.{readTerms, answer}
+use Rattle.rules.specs.Rows.{newSnapshots, isApart}
+use Rattle.rules.proofs.Rows.{Adds, adds-none, run-adds}
+use Rattle.rules.proofs.Apart.{apart-stays}
+use Rattle.rules.proofs.AnswerLaws.{Unchanged, answer-read, answer-refused}
+
+-- the snapshots that an answer's changes add
+abbrev pub newIn : Answer → List Snapshot
+newIn a = newSnapshots (readUpdates (a .changes))
+
+none-in : newSnapshots (readUpdates noUpdates) ≡ []
+unfolding newSnapshots readUpdates noUpdates
+none-in = refl
+
+-- a refused answer adds none, and has the metadata that was given
+unchanged-adds : (m : TableMetadata) (a : Answer) → Unchanged m a → readMetadata m .fields .version ≡ 3 → Adds (readMetadata m) (readMetadata (a .metadata)) (newIn a)
+unchanged-adds m a u v = rw (u .metadata, u .changes, none-in) (adds-none (readMetadata m) v)
+
+-- what follows of a number that is 0, and of one that is not, follows
+accepted-or-not : {P : Type 0} (number : ℕ) → (number ≡ 0 → P) → ((number ≡ 0 → ⊥) → P) → P
+accepted-or-not {P} number f g = go (eqb number 0) refl
+  where
+    go : (b : Bool) → eqb number 0 ≡ b → P
+    go true e = f (eqb-true number 0 e)
+    go false e = g (eqb-false number 0 e)
+
+module _ (m : TableMetadata) (us : UpdateList) (terms : RunTerms) (limit : List ℕ) where
+  -- from version 3 an answer, accepted or not, leads to its metadata by what its changes add
+  pub answer-adds : readMetadata m .fields .version ≡ 3 → Adds (readMetadata m) (readMetadata (answer m us terms limit .metadata)) (newIn (answer m us terms limit))
+  answer-adds v =
+      accepted-or-not (answer m us terms limit .number)
+      (λ e. run-adds (readTerms terms limit) (readMetadata m) (readUpdates us) _ _ _ (answer-read m us terms limit e) v)
+      (λ n. unchanged-adds m (answer m us terms limit) (answer-refused m us terms limit n) v)
+
+  -- metadata that is apart is answered by metadata that is apart
+  pub answer-apart-stays : isApart (readMetadata m) ≡ true → isApart (readMetadata (answer m us terms limit .metadata)) ≡ true
+  answer-apart-stays h =
+      accepted-or-not (answer m us terms limit .number)
+      (λ e. apart-stays (readTerms terms limit) (readMetadata m) (readUpdates us) _ _ _ (answer-read m us terms limit e) h)
+      (λ n. rw (answer-refused m us terms limit n .metadata) h)
