@@ -8,7 +8,7 @@ use borrow.Author.Needs.{needs}
 use lib.ListN.{length, getD, drop}
 use Rattle.rules.specs.Words.{all, ascending}
 use Rattle.rules.specs.Register as plain
-use Rattle.rules.specs.Layout.{readSnapshot, readSnapshots}
+use Rattle.rules.specs.Layout.{readSnapshots}
 use Rattle.rules.specs.Rows.{rowsApart}
 use Rattle.tables.proofs.Table.{read-length, at, within}
 use Rattle.tables.proofs.Each.{tidy-snapshots}

@@ -1,10 +1,9 @@
 -- The loop asks it of one range after another.
 use Prim.Native.Nat.{_-_, _≤_}
 use native.Mathlib.Omega.{arith}
-use mathlib.Core.Path.{_≡_, sym, ap, _∙_}
+use mathlib.Core.Path.{sym, ap, _∙_}
 use mathlib.Core.Bool.{true}
 use borrow.Author.Needs.{needs}
-use lib.ListN.{length}
 use Rattle.rules.specs.Register as plain
 use Rattle.rules.specs.Layout.{readSnapshot, readSnapshots}
 use Rattle.rules.specs.Rows.{rowsApart}
