@@ -1,6 +1,6 @@
 -- What the proofs of several functions cite.
 mod Signs
-mod Scans
+pub mod Scans
 mod Bools
 mod Counted
 mod Filled

@@ -1,0 +1,2 @@
+-- What is true of the contract of `rows_apart`.
+pub mod Unique
