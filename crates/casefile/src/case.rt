@@ -10,7 +10,8 @@ use numbers::output::flush;
 use numbers::output::make_room;
 use numbers::token::read_token;
 
-const CASES: u64 = 8;
+// The highest kind of a case.
+const CASES: u64 = 11;
 
 // 0 at the end of the input, between cases.
 pub fn read_case(input: &mut Input, place: &mut Place) -> u64 {

@@ -6,6 +6,7 @@ use numbers::input::Input;
 use numbers::input::Place;
 use numbers::input::empty_input;
 use numbers::input::is_good;
+use numbers::input::spoil;
 use numbers::input::start;
 use numbers::output::Output;
 use numbers::output::empty_output;
@@ -14,8 +15,12 @@ use numbers::output::put_line_end;
 
 mod leaf;
 mod moments;
+mod rows;
 mod runs;
 mod walks;
+
+// What read_case gives where no case follows.
+const NO_CASE: u64 = 0;
 
 // Reads the rest of a case of this kind, and answers it if it is good.
 fn answer(kind: u64, input: &mut Input, place: &mut Place, output: &mut Output, end: &mut usize) {
@@ -28,7 +33,9 @@ fn answer(kind: u64, input: &mut Input, place: &mut Place, output: &mut Output, 
         6 => leaf::row_ids(input, place, output, end),
         7 => leaf::trim(input, place, output, end),
         8 => moments::current_at(input, place, output, end),
-        _ => {}
+        11 => rows::rows_apart(input, place, output, end),
+        NO_CASE => {}
+        _ => spoil(place),
     }
 }
 
@@ -40,7 +47,7 @@ fn next(input: &mut Input, place: &mut Place, output: &mut Output, end: &mut usi
         put_bad_case(output, end);
         return false;
     }
-    if kind == 0 {
+    if kind == NO_CASE {
         return false;
     }
     put_line_end(output, *end);

@@ -1,7 +1,7 @@
 // The answer: accepted, with this session's metadata, changes and expired metadata files; or refused, and why.
+use crate::rows::say_with_rows;
 use numbers::output::Output;
 use plaintext::metadata::say_files;
-use plaintext::metadata::say_metadata;
 use plaintext::reply::say_reason;
 use plaintext::reply::say_refused;
 use plaintext::text::say;
@@ -10,7 +10,7 @@ use records::run::Answer;
 
 fn say_accepted(output: &mut Output, end: &mut usize, answer: Answer) {
     say(output, end, b"accepted\nthis session's metadata\n");
-    say_metadata(output, end, answer.metadata);
+    say_with_rows(output, end, answer.metadata);
     say(output, end, b"what changed\n");
     say_updates(output, end, b"change log", answer.changes);
     say_files(output, end, b"expired metadata files", answer.expired);

@@ -14,12 +14,12 @@ use numbers::input::start;
 use numbers::output::Output;
 use numbers::output::empty_output;
 use numbers::output::flush;
-use plaintext::metadata::say_metadata;
 use plaintext::number::say_u64;
 use plaintext::text::say;
 
 mod answer;
 mod asked;
+mod rows;
 
 // What read_case gives where no case follows.
 const NO_CASE: u64 = 0;
@@ -31,7 +31,7 @@ fn say_run(output: &mut Output, end: &mut usize, number: u64, run: Run) {
     say(output, end, b"run ");
     say_u64(output, end, number);
     say(output, end, b"\nlast session's metadata\n");
-    say_metadata(output, end, run.metadata);
+    rows::say_with_rows(output, end, run.metadata);
     asked::say_asked(output, end, run);
     answer::say_answer(output, end, asked::ask(run));
 }
