@@ -8,7 +8,8 @@ use crate::update::only;
 use crate::update::remove_schema;
 use fitting::with_slots;
 use numbers::output::Output;
-use plaintext::metadata::say_file;
+use plaintext::name::say_file_name;
+use plaintext::number::say_i64;
 use plaintext::table::say_comma;
 use plaintext::table::say_none;
 use plaintext::text::say;
@@ -16,7 +17,15 @@ use plaintext::update::say_update;
 use records::capacities::METADATA_LOG;
 use records::capacities::UPDATES;
 use records::metadata::MetadataLog;
+use records::metadata::MetadataLogEntry;
 use records::update::UpdateList;
+
+// The time as it stands in document 01.
+fn say_file(output: &mut Output, end: &mut usize, entry: MetadataLogEntry) {
+    say_file_name(output, end, entry.metadata_file);
+    say(output, end, b" from ");
+    say_i64(output, end, entry.timestamp_ms.0);
+}
 
 fn say_files(output: &mut Output, end: &mut usize, log: MetadataLog) {
     let n = with_slots(log.count, METADATA_LOG);

@@ -2,7 +2,7 @@
 ghost use mathlib.Core.Path.{_≡_};
 ghost use Prim.Native.Nat.{_^_, _<_, _≤_};
 ghost use lib.Signed.{mag};
-ghost use Rattle.numbers.specs.Widths.{isSigned, isUnsigned, isWhole, numberOf};
+ghost use Rattle.numbers.specs.Widths.{isSigned, isUnsigned, isWhole, numberOf, signedOf};
 use crate::input::Input;
 use crate::input::Place;
 use crate::input::spoil;
@@ -105,6 +105,28 @@ fn read_signed(input: &mut Input, place: &mut Place, half: u64) -> i64
     }
     spoil(place);
     0
+}
+
+// The number of an i64 field that a token is; 0 if it is none.
+pub struct Signed {
+    pub is_number: bool,
+    pub number: i64,
+}
+
+pub fn signed_of(token: Token) -> Signed
+    ensures { λ r. ⌜ r ≡ signedOf token ⌝ }
+{
+    if is_signed(token, 1 << 63) {
+        let number = to_i64(token.is_negative, token.magnitude);
+        return Signed {
+            is_number: true,
+            number,
+        };
+    }
+    Signed {
+        is_number: false,
+        number: 0,
+    }
 }
 
 pub fn read_i64(input: &mut Input, place: &mut Place) -> i64 {

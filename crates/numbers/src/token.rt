@@ -2,7 +2,7 @@
 ghost use mathlib.Core.Path.{_≡_};
 ghost use Prim.Native.Nat.{_+_, _*_, _<_};
 ghost use lib.Dec.{leb};
-ghost use Rattle.numbers.specs.Token.{blank as noToken, isDigit, isSeparator, largest, noNumber, withByte, withDigit, withMinus};
+ghost use Rattle.numbers.specs.Token.{blank as noToken, isDigit, isSeparator, largest, noNumber, withByte, withBytes, withDigit, withMinus};
 use crate::input::Input;
 use crate::input::Next;
 use crate::input::Place;
@@ -102,6 +102,19 @@ fn with_byte(token: Token, byte: u8) -> Token
         return with_minus(token);
     }
     no_number(token)
+}
+
+// A whole text as one token; a separator within it is no part of a number.
+pub fn token_of(text: &[u8]) -> Token
+    ensures { λ r. ⌜ r ≡ withBytes noToken (now (text .entry)) ⌝ }
+{
+    let mut token = Token::blank();
+    let mut i = 0;
+    while i < text.len() {
+        token = with_byte(token, text[i]);
+        i += 1;
+    }
+    token
 }
 
 // The next token, with the separator after it. At the end of the input none is begun. The turns are counted since nothing says that

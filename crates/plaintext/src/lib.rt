@@ -11,4 +11,5 @@ pub mod snapshot;
 pub mod sort_order;
 pub mod table;
 pub mod text;
+pub mod time;
 pub mod update;

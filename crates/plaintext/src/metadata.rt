@@ -14,6 +14,7 @@ use crate::sort_order::say_sort_orders;
 use crate::table::say_heading;
 use crate::table::say_left_out_line;
 use crate::text::say;
+use crate::time::say_time;
 use fitting::with_slots;
 use numbers::output::Output;
 use records::capacities::METADATA_LOG;
@@ -22,11 +23,11 @@ use records::metadata::MetadataLogEntry;
 use records::metadata::SingleFields;
 use records::metadata::TableMetadata;
 
-// As `"v1.json" from 100000`.
-pub fn say_file(output: &mut Output, end: &mut usize, entry: MetadataLogEntry) {
+// As `"v1.json" from 100000 (1970-01-01 00:01:40 UTC)`.
+fn say_file(output: &mut Output, end: &mut usize, entry: MetadataLogEntry) {
     say_file_name(output, end, entry.metadata_file);
     say(output, end, b" from ");
-    say_i64(output, end, entry.timestamp_ms.0);
+    say_time(output, end, entry.timestamp_ms);
 }
 
 pub fn say_files(output: &mut Output, end: &mut usize, heading: &[u8], log: MetadataLog) {
@@ -65,7 +66,7 @@ fn say_identity(output: &mut Output, end: &mut usize, fields: SingleFields) {
 
 fn say_counters(output: &mut Output, end: &mut usize, fields: SingleFields) {
     say(output, end, b"\n  last update: ");
-    say_i64(output, end, fields.last_updated_ms.0);
+    say_time(output, end, fields.last_updated_ms);
     say(output, end, b"\n  last sequence number: ");
     say_i64(output, end, fields.last_sequence_number.0);
     say(output, end, b"\n  next row id: ");

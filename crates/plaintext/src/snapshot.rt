@@ -7,6 +7,7 @@ use crate::table::say_left_out;
 use crate::table::say_left_out_line;
 use crate::table::say_none;
 use crate::text::say;
+use crate::time::say_time;
 use fitting::with_slots;
 use numbers::output::Output;
 use records::capacities::REMOVALS;
@@ -36,7 +37,7 @@ fn say_rows(output: &mut Output, end: &mut usize, snapshot: Snapshot) {
     }
 }
 
-// As `5 (parent 4, sequence 7, at 300000)`; the time is in milliseconds since 1970.
+// As `5 (parent 4, sequence 7, at 300000 (1970-01-01 00:05:00 UTC))`.
 pub fn say_snapshot(output: &mut Output, end: &mut usize, snapshot: Snapshot) {
     say_i64(output, end, snapshot.snapshot_id.0);
     say(output, end, b" (");
@@ -44,7 +45,7 @@ pub fn say_snapshot(output: &mut Output, end: &mut usize, snapshot: Snapshot) {
     say(output, end, b", sequence ");
     say_i64(output, end, snapshot.sequence_number.0);
     say(output, end, b", at ");
-    say_i64(output, end, snapshot.timestamp_ms.0);
+    say_time(output, end, snapshot.timestamp_ms);
     say_rows(output, end, snapshot);
     say(output, end, b")");
 }
@@ -82,7 +83,7 @@ fn say_log_entry(output: &mut Output, end: &mut usize, entry: SnapshotLogEntry) 
     say(output, end, b"    ");
     say_i64(output, end, entry.snapshot_id.0);
     say(output, end, b" from ");
-    say_i64(output, end, entry.timestamp_ms.0);
+    say_time(output, end, entry.timestamp_ms);
     say(output, end, b"\n");
 }
 

@@ -5,9 +5,9 @@ use fitting::lent;
 use leaves::limit::limit;
 use numbers::output::Output;
 use plaintext::name::say_file_name;
-use plaintext::number::say_i64;
 use plaintext::number::say_u64;
 use plaintext::text::say;
+use plaintext::time::say_time;
 use plaintext::update::say_updates;
 use records::run::Answer;
 use records::run::RunTerms;
@@ -37,7 +37,7 @@ fn say_current_file(output: &mut Output, end: &mut usize, terms: RunTerms) {
 
 pub fn say_asked(output: &mut Output, end: &mut usize, run: Run) {
     say(output, end, b"this session asks\n  clock: ");
-    say_i64(output, end, run.terms.clock_ms.0);
+    say_time(output, end, run.terms.clock_ms);
     say(output, end, b"\n  current metadata file: ");
     say_current_file(output, end, run.terms);
     say(output, end, b"\n  limit of the metadata log: ");

@@ -1,0 +1,4 @@
+pub mod Days
+pub mod Dates
+pub mod OneDate
+pub mod Shifts
