@@ -18,8 +18,8 @@ enum Shown {
     /// An update's kind and its refusal's number.
     Refused(u8, u8),
     Own(Own),
-    /// A reply, and the number by the published rule for the next row id, where that gives another answer.
-    NextRowId(&'static str, Option<u8>, u8),
+    /// A reply, and whether the published rule for the next row id accepts, where that gives another answer.
+    NextRowId(&'static str, Option<u8>, bool),
     /// The version of a run's start and the run's reply.
     Version(u8, Option<u8>),
     /// The kinds of two updates, one after the other, that were logged in an accepted run.
@@ -60,8 +60,8 @@ fn candidate(case: Case) -> Candidate {
     let line = Line::of_case(&case);
     let mut shown: BTreeSet<Shown> = answer.owns.iter().copied().map(Shown::Own).collect();
     shown.insert(Shown::Reply(case.kind(), answer.number));
-    let published = answer.published.map(|published| published.number);
-    shown.extend(published.map(|other| Shown::NextRowId(case.kind(), answer.number, other)));
+    let accepts = answer.published.map(|published| published.number == 0);
+    shown.extend(accepts.map(|accepts| Shown::NextRowId(case.kind(), answer.number, accepts)));
     shown.insert(Shown::Size(case.kind(), answer.number, line.len().ilog2()));
     if let Case::Run(run) = &case {
         shown.insert(Shown::Version(run.metadata.version, answer.number));
