@@ -3,7 +3,7 @@
 use std::io::{BufRead, Write};
 
 use crate::case::{Case, CaseReader, Line, Run, WalkTerms};
-use crate::port::{self, Outcome, Owns, WalkOutcome};
+use crate::port::{self, Outcome, Owns, Reply, WalkOutcome};
 
 /// What the unwritten part of a walk's buffer holds.
 const UNWRITTEN: i64 = -7;
@@ -14,11 +14,20 @@ pub struct Answer {
     pub number: Option<u8>,
     /// Where the answer rests on the wrapper.
     pub owns: Owns,
+    /// What the published rule for the next row id answers, where that is something else.
+    pub published: Option<PublishedAnswer>,
+}
+
+pub struct PublishedAnswer {
+    pub line: String,
+    pub number: u8,
+    /// The two answers differ by the rule for the next row id and by nothing else.
+    pub by_rule: bool,
 }
 
 pub fn answer(case: &Case) -> Answer {
     match case {
-        Case::Run(run) => run_answer(run, port::run(run)),
+        Case::Run(run) => reply_answer(port::run(run), |reply| run_line(run, reply)),
         Case::Walk {
             ids,
             parents,
@@ -40,8 +49,8 @@ pub fn answer(case: &Case) -> Answer {
             first_row,
             added_rows,
         } => {
-            let (number, next) = port::row_ids(*next_row_id, *first_row, *added_rows);
-            leaf_answer(&[number as u64, next], Some(number), Owns::new())
+            let outcome = port::row_ids(*next_row_id, *first_row, *added_rows);
+            reply_answer(outcome, |reply| rows_line(*next_row_id, reply))
         }
         Case::Trim(location) => {
             let trimmed = port::trim(location);
@@ -57,6 +66,7 @@ fn finished(line: Line, number: Option<u8>, owns: Owns) -> Answer {
         line: line.into_text(),
         number,
         owns,
+        published: None,
     }
 }
 
@@ -66,21 +76,46 @@ fn leaf_answer(numbers: &[u64], number: Option<u8>, owns: Owns) -> Answer {
     finished(line, number, owns)
 }
 
-fn run_answer(run: &Run, outcome: Outcome) -> Answer {
+/// Both answers of an outcome, each written by `line`.
+fn reply_answer(outcome: Outcome, line: impl Fn(&Reply) -> Line) -> Answer {
+    let number = |reply: &Reply| reply.as_ref().err().map_or(0, |(number, _)| *number);
+    let published = outcome.published.map(|published| PublishedAnswer {
+        line: line(&published.answer).into_text(),
+        number: number(&published.answer),
+        by_rule: published.by_rule,
+    });
+    Answer {
+        published,
+        ..finished(
+            line(&outcome.answer),
+            Some(number(&outcome.answer)),
+            outcome.owns,
+        )
+    }
+}
+
+fn run_line(run: &Run, reply: &Reply) -> Line {
     let mut line = Line::for_answer();
-    let number = match &outcome.answer {
+    match reply {
         Ok(accepted) => {
             line.number(0).number(0).metadata(&accepted.metadata);
             line.updates(&accepted.log).metadata_log(&accepted.expired);
-            0
         }
         Err((number, place)) => {
             line.number(number).number(place).metadata(&run.metadata);
             line.updates(&[]).metadata_log(&[]);
-            *number
         }
+    }
+    line
+}
+
+fn rows_line(next_row_id: u64, reply: &Reply) -> Line {
+    let mut line = Line::for_answer();
+    match reply {
+        Ok(accepted) => line.number(0).number(accepted.metadata.next_row_id),
+        Err((number, _)) => line.number(number).number(next_row_id),
     };
-    finished(line, Some(number), outcome.owns)
+    line
 }
 
 fn walk_answer(terms: &WalkTerms, outcome: WalkOutcome) -> Answer {
@@ -95,13 +130,27 @@ fn walk_answer(terms: &WalkTerms, outcome: WalkOutcome) -> Answer {
     finished(line, Some(number), outcome.owns)
 }
 
+/// Whose rule for the next row id.
+#[derive(Clone, Copy, PartialEq)]
+pub enum Rows {
+    Ours,
+    Published,
+}
+
 /// Answers every case of the input; at a bad one it says so and stops. Says whether all were answered.
-pub fn answer_all(input: impl BufRead, mut output: impl Write) -> std::io::Result<bool> {
+pub fn answer_all(
+    rows: Rows,
+    input: impl BufRead,
+    mut output: impl Write,
+) -> std::io::Result<bool> {
     for case in CaseReader::new(input) {
-        match case {
-            Ok(case) => writeln!(output, "{}", answer(&case).line)?,
-            Err(_) => return writeln!(output, "bad case").map(|()| false),
-        }
+        let Ok(case) = case else {
+            return writeln!(output, "bad case").map(|()| false);
+        };
+        let ours = answer(&case);
+        let published = ours.published.filter(|_| rows == Rows::Published);
+        let line = published.map_or(ours.line, |published| published.line);
+        writeln!(output, "{line}")?;
     }
     Ok(true)
 }

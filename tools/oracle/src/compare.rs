@@ -1,5 +1,6 @@
 //! Compares a program's answers with the oracle's, line by line. Document 01's three allowances have been made on the oracle's side
-//! (its clock is set, its logged ids are sorted, its pick is steered), so equal means equal to the byte.
+//! (its clock is set, its logged ids are sorted, its pick is steered), so equal means equal to the byte. Where the published rule for
+//! the next row id gives another answer, the oracle has both: they must differ by that rule alone, and such cases are counted.
 
 use std::collections::BTreeMap;
 use std::io::{self, BufRead, Write};
@@ -11,6 +12,9 @@ use crate::port::Own;
 /// So many differences are shown.
 const SHOWN: u64 = 5;
 
+/// Said of a case whose two answers do not differ as the rule says.
+const BY_MORE: &str = "the published answer differs by more than the rule for the next row id";
+
 /// So many numbers of an answer are shown from a difference on.
 const CONTEXT: usize = 12;
 
@@ -21,6 +25,8 @@ struct Tally {
     replies: BTreeMap<(&'static str, Option<u8>), u64>,
     owns: BTreeMap<Own, u64>,
     published_alone: u64,
+    /// Cases that the published rule for the next row id answers otherwise: by kind, reply number and whether that rule accepts.
+    by_rule: BTreeMap<(&'static str, Option<u8>, bool), u64>,
     different: u64,
 }
 
@@ -41,11 +47,17 @@ pub fn compare(
         let expected = answer(&case);
         tally.count(&case, &expected);
         let given = actual.next().transpose()?;
-        if given.as_ref() != Some(&expected.line) {
-            tally.different += 1;
-            if tally.different <= SHOWN {
-                let place = format!("case {} ({})", tally.cases - 1, case.kind());
-                show(&mut report, &place, &expected.line, given.as_deref())?;
+        let equal = given.as_ref() == Some(&expected.line);
+        let by_rule = expected.published.is_none_or(|published| published.by_rule);
+        if equal && by_rule {
+            continue;
+        }
+        tally.different += 1;
+        if tally.different <= SHOWN {
+            let place = format!("case {} ({})", tally.cases - 1, case.kind());
+            match equal {
+                true => writeln!(report, "{place}: {BY_MORE}")?,
+                false => show(&mut report, &place, &expected.line, given.as_deref())?,
             }
         }
     }
@@ -69,6 +81,10 @@ impl Tally {
             *self.owns.entry(*own).or_default() += 1;
         }
         self.published_alone += expected.owns.is_empty() as u64;
+        if let Some(published) = &expected.published {
+            let here = (case.kind(), expected.number, published.number == 0);
+            *self.by_rule.entry(here).or_default() += 1;
+        }
     }
 
     fn write(&self, mut report: impl Write) -> io::Result<()> {
@@ -86,6 +102,19 @@ impl Tally {
             "decided by the published code alone {}",
             self.published_alone
         )?;
+        let by_rule: u64 = self.by_rule.values().sum();
+        writeln!(report, "next row id by rule {by_rule}")?;
+        for ((kind, number, accepts), count) in &self.by_rule {
+            let number = number.unwrap_or_default();
+            let published = match accepts {
+                true => "accepts",
+                false => "refuses elsewhere",
+            };
+            writeln!(
+                report,
+                "  {kind} answered {number}, the published rule {published}: {count}"
+            )?;
+        }
         writeln!(
             report,
             "explained, where the published code alone differs or might:"

@@ -21,11 +21,12 @@ use std::io::{self, BufRead, BufReader, BufWriter, stdin, stdout};
 use std::path::Path;
 use std::process::ExitCode;
 
+use answer::Rows;
 // The published files name these at the crate's root.
 pub use catalog::{TableCreation, TableUpdate};
 use generate::Kind;
 
-const USAGE: &str = "oracle answer < CASES > ANSWERS
+const USAGE: &str = "oracle answer [--published-rows] < CASES > ANSWERS
 oracle generate --seed S --count N [--kind run|walk|limit|mixed]
 oracle compare CASES ACTUAL        (ACTUAL may be - for standard input)
 oracle pick --count K < CASES
@@ -58,7 +59,8 @@ fn command(arguments: &[&str]) -> Option<io::Result<bool>> {
     let out = BufWriter::new(stdout().lock());
     let done = |result: io::Result<()>| result.map(|()| true);
     Some(match arguments {
-        ["answer"] => answer::answer_all(stdin().lock(), out),
+        ["answer"] => answer::answer_all(Rows::Ours, stdin().lock(), out),
+        ["answer", "--published-rows"] => answer::answer_all(Rows::Published, stdin().lock(), out),
         ["generate", options @ ..] => {
             only(options, &["--seed", "--count", "--kind"])?;
             let seed = number(options, "--seed")?;

@@ -1,5 +1,6 @@
 //! Picks a small list that shows what the given cases show: each reply, each update accepted with and without an entry in the log,
-//! each update refused with each number, each place where the answer rests on the wrapper; then versions, pairs and sizes.
+//! each update refused with each number, each place where the answer rests on the wrapper, each reply beside what the published rule
+//! for the next row id says; then versions, pairs and sizes.
 
 use std::collections::{BTreeMap, BTreeSet};
 use std::io::{self, BufRead, Write};
@@ -17,6 +18,8 @@ enum Shown {
     /// An update's kind and its refusal's number.
     Refused(u8, u8),
     Own(Own),
+    /// A reply, and whether the published rule for the next row id accepts, where that gives another answer.
+    NextRowId(&'static str, Option<u8>, bool),
     /// The version of a run's start and the run's reply.
     Version(u8, Option<u8>),
     /// The kinds of two updates, one after the other, that were logged in an accepted run.
@@ -57,6 +60,8 @@ fn candidate(case: Case) -> Candidate {
     let line = Line::of_case(&case);
     let mut shown: BTreeSet<Shown> = answer.owns.iter().copied().map(Shown::Own).collect();
     shown.insert(Shown::Reply(case.kind(), answer.number));
+    let accepts = answer.published.map(|published| published.number == 0);
+    shown.extend(accepts.map(|accepts| Shown::NextRowId(case.kind(), answer.number, accepts)));
     shown.insert(Shown::Size(case.kind(), answer.number, line.len().ilog2()));
     if let Case::Run(run) = &case {
         shown.insert(Shown::Version(run.metadata.version, answer.number));

@@ -13,9 +13,9 @@ mod linked {
 #[repr(C)]
 #[derive(Clone, Copy, Debug, PartialEq, Eq)]
 pub struct RowCheck {
-    /// 0 accepted, 9 first row id below next row id, 11 next row id would pass 2^64 - 1.
+    /// 0 accepted, 9 first row id below next row id, 11 the range would end above 2^64 - 1.
     pub number: u8,
-    /// The next row id from then on; on a refusal the one that came in.
+    /// The next row id from then on, first + added; on a refusal the one that came in.
     pub next: u64,
 }
 

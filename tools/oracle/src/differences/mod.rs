@@ -1,5 +1,5 @@
 //! Shows the rows of docs/DIFFERENCES.md: for each input what the published code says by itself, without the wrapper, and what
-//! document 01 says.
+//! documents 01 and 02 say.
 
 mod rows;
 
@@ -42,11 +42,25 @@ pub fn cases(mut output: impl Write) -> io::Result<()> {
 
 /// The number, and behind a refused run's its place.
 fn here(case: &Case) -> String {
+    if let Case::Run(run) = case {
+        return match port::run(run).answer {
+            Ok(accepted) => accepted_with(accepted.metadata.version, accepted.metadata.next_row_id),
+            Err((number, place)) => format!("{number} at {place}"),
+        };
+    }
     let answer = answer(case);
     match (answer.number, answer.line.split(' ').nth(1)) {
         (Some(0), _) | (None, _) => "accepted".to_owned(),
         (Some(number), Some(place)) => format!("{number} at {place}"),
         (Some(number), None) => number.to_string(),
+    }
+}
+
+/// From version 3 on with the next row id, which has a meaning there.
+fn accepted_with(version: u8, next_row_id: u64) -> String {
+    match version {
+        3 => format!("accepted, next row id {next_row_id}"),
+        _ => "accepted".to_owned(),
     }
 }
 
@@ -74,7 +88,10 @@ fn run_alone(run: &Run) -> String {
         };
     }
     match in_words(|| builder.build()) {
-        Ok(_) => "accepted".to_owned(),
+        Ok(built) => accepted_with(
+            built.metadata.format_version as u8,
+            built.metadata.next_row_id,
+        ),
         Err(words) => format!("close: {words}"),
     }
 }

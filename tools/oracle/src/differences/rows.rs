@@ -9,6 +9,7 @@ use crate::port;
 pub fn all() -> Vec<(&'static str, Case)> {
     [
         arithmetic(),
+        row_ids(),
         capacities(),
         starts(),
         numbers_below_their_bounds(),
@@ -127,6 +128,34 @@ fn arithmetic() -> Vec<(&'static str, Case)> {
         (
             "a snapshot long after the last entry",
             run(after(-2), add(i64::MAX)),
+        ),
+    ]
+}
+
+/// At version 3, from next row id 0.
+fn row_ids() -> Vec<(&'static str, Case)> {
+    let add = |id, rows| {
+        Update::AddSnapshot(Snapshot {
+            rows: Flagged::of(Some(rows)),
+            ..snapshot(id, 0)
+        })
+    };
+    vec![
+        (
+            "next row id 0: no rows from 1",
+            run(port::bare(), vec![add(0, (1, 0))]),
+        ),
+        (
+            "next row id 0: 50 rows from 100",
+            run(port::bare(), vec![add(0, (100, 50))]),
+        ),
+        (
+            "the same, then 100 rows from 50",
+            run(port::bare(), vec![add(0, (100, 50)), add(1, (50, 100))]),
+        ),
+        (
+            "next row id 0: a row from 2^64 - 1",
+            run(port::bare(), vec![add(0, (u64::MAX, 1))]),
         ),
     ]
 }

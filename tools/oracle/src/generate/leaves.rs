@@ -66,14 +66,16 @@ fn time_window(random: &mut Random) -> Case {
 
 fn row_ids(random: &mut Random) -> Case {
     let next_row_id = random.one_of(&[0, 1, 10, u64::MAX / 2, u64::MAX - 1, u64::MAX]);
-    let room = u64::MAX - next_row_id;
+    let first_row = match random.below(3) {
+        0 => next_row_id.saturating_sub(1),
+        1 => next_row_id,
+        _ => next_row_id.saturating_add(random.number() >> random.below(64)),
+    };
+    // What either rule has room for, and one more.
+    let room = u64::MAX - random.one_of(&[first_row, first_row, next_row_id]);
     Case::RowIds {
         next_row_id,
-        first_row: match random.below(3) {
-            0 => next_row_id.saturating_sub(1),
-            1 => next_row_id,
-            _ => next_row_id.saturating_add(random.number() >> random.below(64)),
-        },
+        first_row,
         added_rows: match random.below(3) {
             0 => room,
             1 => room.saturating_add(1),

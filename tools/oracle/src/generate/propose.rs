@@ -65,7 +65,7 @@ fn location(random: &mut Random, now: &Now) -> Bytes {
     }
 }
 
-/// A snapshot that passes the checks, most times: a free id, a number above the last, a time in the window, rows from next row id.
+/// A snapshot that passes the checks, most times: a free id, a number above the last, a time in the window, rows from next row id on.
 pub fn snapshot(random: &mut Random, now: &Now) -> Snapshot {
     let m = &now.metadata;
     let repeats_number = random.percent(20);
@@ -84,7 +84,7 @@ pub fn snapshot(random: &mut Random, now: &Now) -> Snapshot {
         parent: Flagged::of(parent),
         sequence,
         timestamp_ms: time(random, now),
-        rows: Flagged::of(rows(random, m)),
+        rows: Flagged::of(rows(random, now)),
     }
 }
 
@@ -113,11 +113,16 @@ fn time(random: &mut Random, now: &Now) -> i64 {
     }
 }
 
-fn rows(random: &mut Random, m: &Metadata) -> Option<(u64, u64)> {
+/// From the next row id on, or after a gap; mostly few rows, at times up to the last row id.
+fn rows(random: &mut Random, now: &Now) -> Option<(u64, u64)> {
+    let m = &now.metadata;
     let room = u64::MAX - m.next_row_id;
-    let first = m
-        .next_row_id
-        .saturating_add(random.one_of(&[0, 0, 0, 1, 100]));
+    let gap = match now.world.gaps {
+        true => random.one_of(&[0, 0, 0, 1, 1, 100, room / 2, room.saturating_sub(7)]),
+        false => 0,
+    };
+    let first = m.next_row_id.saturating_add(gap);
+    let room = u64::MAX - first;
     let added = random.one_of(&[0, 1, 1, 5, 100, room]).min(room);
     let added = if random.percent(90) {
         added.min(100)

@@ -36,6 +36,22 @@ fn overfill_metadata_log(random: &mut Random, run: &mut Run) {
     run.limit = Some(random.one_of(&limits).into());
 }
 
+/// What may stand before the refused update: for 9 at times a gap in the row ids, so that only the next row id after it is above
+/// what the refused one starts from.
+pub fn lead(random: &mut Random, now: &Now, number: u8) -> Option<Update> {
+    let m = &now.metadata;
+    let wanted = number == 9 && m.version == 3 && random.percent(40);
+    wanted.then(|| {
+        let gap = random.one_of(&[1, 1, 100, u64::MAX / 2]);
+        let first = m.next_row_id.saturating_add(gap);
+        let added = random.one_of(&[0, 1, 50]).min(u64::MAX - first);
+        Update::AddSnapshot(Snapshot {
+            rows: Flagged::of(Some((first, added))),
+            ..propose::snapshot(random, now)
+        })
+    })
+}
+
 /// An update that may be refused with this number, 3 to 19; nothing where the metadata forbids it from the outset.
 pub fn update(random: &mut Random, now: &Now, number: u8) -> Option<Update> {
     let m = &now.metadata;
@@ -130,8 +146,10 @@ fn spoil(random: &mut Random, now: &Now, number: u8, s: &mut Snapshot) {
         9 => s.rows = Flagged::of(Some((random.one_of(&[next.saturating_sub(1), 0]), 1))),
         10 => s.rows = Flagged::of(None),
         _ => {
-            let over = (u64::MAX - next).saturating_add(random.one_of(&[1, 1, 2, u64::MAX]));
-            s.rows = Flagged::of(Some((random.one_of(&[next, u64::MAX]), over)));
+            let firsts = [next, next.saturating_add(1), next / 2 + (1 << 63), u64::MAX];
+            let first = random.one_of(&firsts);
+            let over = (u64::MAX - first).saturating_add(random.one_of(&[1, 1, 2, u64::MAX]));
+            s.rows = Flagged::of(Some((first, over)));
         }
     }
 }

@@ -79,11 +79,14 @@ fn too_long(random: &mut Random) -> Run {
     run
 }
 
-/// Some accepted updates, then the refused one, then some that are never reached.
+/// Some accepted updates, at times one that leads up to it, then the refused one, then some that are never reached.
 fn refused_update(random: &mut Random, number: u8) -> Option<Run> {
     let mut draft = Draft::new(random, |random, run| provoke::prepare(random, run, number));
     let sum = random.below(12);
     draft.grow(random, sum);
+    if let Some(update) = provoke::lead(random, &draft.now(), number) {
+        let _ = draft.offer(update);
+    }
     let update = provoke::update(random, &draft.now(), number)?;
     if draft.offer(update.clone()) != Err(number) {
         return None;

@@ -7,6 +7,8 @@ pub struct World {
     pub time: i64,
     /// Times lie anywhere in 64 bits.
     pub far: bool,
+    /// Row ranges may start above the next row id.
+    pub gaps: bool,
     pub snapshot_ids: Vec<i64>,
     pub ref_names: Vec<Bytes>,
     pub field_ids: Vec<i32>,
@@ -28,6 +30,7 @@ impl World {
         Self {
             time,
             far: random.percent(8),
+            gaps: random.percent(30),
             snapshot_ids: snapshot_ids(random),
             ref_names: ref_names(random),
             field_ids: field_ids(random),

@@ -97,16 +97,13 @@ pub fn time_window(time: i64, last: i64) -> (bool, Owns) {
     (within, outcome.owns)
 }
 
-/// Adds a snapshot with this row range. Number, and the next row id then.
-pub fn row_ids(next_row_id: u64, first_row: u64, added_rows: u64) -> (u8, u64) {
+/// Adds a snapshot with this row range.
+pub fn row_ids(next_row_id: u64, first_row: u64, added_rows: u64) -> Outcome {
     let start = Metadata {
         next_row_id,
         ..bare()
     };
-    match add(start, 0, (first_row, added_rows)).answer {
-        Ok(accepted) => (0, accepted.metadata.next_row_id),
-        Err((number, _)) => (number, next_row_id),
-    }
+    add(start, 0, (first_row, added_rows))
 }
 
 /// Sets the location of metadata that has an empty one.

@@ -1,11 +1,12 @@
-//! THE WRAPPER: what document 01 asks of the port and the published code does not say. It reads document 01 in plain Rust around
-//! the published builder, and every answer that rests on it says so by an `Own`.
+//! THE WRAPPER: what document 01 asks of the port, and document 02 after it, and the published code does not say. It reads both in
+//! plain Rust around the published builder, and every answer that rests on it says so by an `Own`.
 
 mod exact_time;
 mod formed;
 mod leaves;
 mod map_order;
 mod own;
+mod row_gap;
 mod run;
 mod texts;
 mod walk;
@@ -13,5 +14,5 @@ mod walk;
 pub use formed::list_sum;
 pub use leaves::{bare, limit, row_ids, time_window, trim};
 pub use own::{Own, Owns};
-pub use run::{Outcome, begin, close, run, step};
+pub use run::{Outcome, Reply, begin, close, run, step};
 pub use walk::{WalkOutcome, published_walk, table, walk, walk_records};

@@ -1,7 +1,7 @@
 //! A run: 1, then 2, then the updates in order by the published builder, then its close, with the port's own checks between.
 
 use super::own::{Own, Owns};
-use super::{exact_time, formed, map_order, texts};
+use super::{exact_time, formed, map_order, row_gap, texts};
 use crate::TableUpdate;
 use crate::case::{Metadata, MetadataLogEntry, Run, Update, capacity};
 use crate::chrono;
@@ -12,18 +12,29 @@ use crate::spec::table_metadata_builder::{TableMetadataBuildResult, TableMetadat
 use crate::spec::{MAIN_BRANCH, TableMetadata};
 
 /// What an accepted run answers.
-#[derive(Debug)]
+#[derive(Debug, PartialEq)]
 pub struct Accepted {
     pub metadata: Metadata,
     pub log: Vec<Update>,
     pub expired: Vec<MetadataLogEntry>,
 }
 
+/// The answer, or the number and place of the refusal.
+pub type Reply = Result<Accepted, (u8, usize)>;
+
 #[derive(Debug)]
 pub struct Outcome {
-    /// The answer, or the number and place of the refusal.
-    pub answer: Result<Accepted, (u8, usize)>,
+    pub answer: Reply,
     pub owns: Owns,
+    /// What the published rule for the next row id answers, where that is something else.
+    pub published: Option<Published>,
+}
+
+#[derive(Debug)]
+pub struct Published {
+    pub answer: Reply,
+    /// The two answers differ by the rule for the next row id and by nothing else.
+    pub by_rule: bool,
 }
 
 /// The builder after an update, or the refusal's number.
@@ -31,11 +42,29 @@ pub type Step = Result<TableMetadataBuilder, u8>;
 
 pub fn run(run: &Run) -> Outcome {
     let mut owns = Owns::new();
-    let answer = answer(run, &mut owns);
-    Outcome { answer, owns }
+    let ours = answer(run, step, &mut owns);
+    // Where a gap was closed the published code is asked once more, with the gap.
+    let published = owns
+        .remove(&Own::NextRowId)
+        .then(|| answer(run, step_as_published, &mut Owns::new()))
+        .filter(|published| *published != ours)
+        .map(|published| Published {
+            by_rule: row_gap::differ_by_rule(run, &ours, &published),
+            answer: published,
+        });
+    owns.extend(published.is_some().then_some(Own::NextRowId));
+    Outcome {
+        answer: ours,
+        owns,
+        published,
+    }
 }
 
-fn answer(run: &Run, owns: &mut Owns) -> Result<Accepted, (u8, usize)> {
+fn answer(
+    run: &Run,
+    step: impl Fn(TableMetadataBuilder, &Update, &mut Owns) -> Step,
+    owns: &mut Owns,
+) -> Reply {
     let mut builder = begin(run, owns).map_err(|number| (number, 0))?;
     for (place, update) in run.updates.iter().enumerate() {
         builder = step(builder, update, owns).map_err(|number| (number, place))?;
@@ -62,9 +91,17 @@ pub fn begin(run: &Run, owns: &mut Owns) -> Step {
     Ok(TableMetadataBuilder::new_from_metadata(previous, file))
 }
 
+/// One update, with the next row id by document 02. What is refused ends the run, so a gap that was closed for it stays closed.
+pub fn step(mut builder: TableMetadataBuilder, update: &Update, owns: &mut Owns) -> Step {
+    if row_gap::close(&mut builder, update) {
+        owns.insert(Own::NextRowId);
+    }
+    step_as_published(builder, update, owns)
+}
+
 /// One update: 3, then the published checks and effect, then 19 if a table has outgrown its capacity. In document 01 too 19 is the
 /// last check of every update that grows a table, so that it may be asked after the effect.
-pub fn step(builder: TableMetadataBuilder, update: &Update, owns: &mut Owns) -> Step {
+fn step_as_published(builder: TableMetadataBuilder, update: &Update, owns: &mut Owns) -> Step {
     if !formed::update(update) {
         owns.insert(Own::UpdateNotFormed);
         return Err(3);

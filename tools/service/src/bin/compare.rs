@@ -34,14 +34,15 @@ fn too_early_rule(time: i64, last: i64) -> bool {
     i128::from(time) + 60_000 < i128::from(last)
 }
 
-/// Document 01: 9 if the first row id is below the next, then 11 if the next would pass 2^64 - 1.
+/// Document 01: 9 if the first row id is below the next. Document 02, request (iv): then the next becomes first row id plus added rows,
+/// and 11 if that sum passes 2^64 - 1.
 fn row_check_rule(next: u64, first: u64, added: u64) -> RowCheck {
-    match u64::try_from(u128::from(next) + u128::from(added)) {
+    match u64::try_from(u128::from(first) + u128::from(added)) {
         _ if first < next => RowCheck { number: 9, next },
         Err(_) => RowCheck { number: 11, next },
-        Ok(grown) => RowCheck {
+        Ok(end) => RowCheck {
             number: 0,
-            next: grown,
+            next: end,
         },
     }
 }
@@ -194,9 +195,11 @@ fn windows(random: &mut Random, tally: &mut Tally) {
 
 fn rows(random: &mut Random, tally: &mut Tally) {
     let mut numbers = [0u64; 12];
+    let mut gaps = 0;
     let mut one = |next: u64, first: u64, added: u64| {
         let rule = row_check_rule(next, first, added);
         numbers[usize::from(rule.number)] += 1;
+        gaps += u64::from(first > next);
         tally.same(&(next, first, added), row_check(next, first, added), rule);
     };
     let ends = [
@@ -222,10 +225,11 @@ fn rows(random: &mut Random, tally: &mut Tally) {
     for _ in 0..400_000 {
         let (next, first) = (random.number(), random.number());
         one(next, first, random.number());
+        let first = next.saturating_add(random.next() >> random.below(64));
         one(
             next,
-            next.saturating_add(random.below(3)),
-            (u64::MAX - next)
+            first,
+            (u64::MAX - first)
                 .wrapping_add(random.below(5))
                 .wrapping_sub(2),
         );
@@ -236,8 +240,8 @@ fn rows(random: &mut Random, tally: &mut Tally) {
         );
     }
     println!(
-        "{} row checks, {} accepted, {} with 9, {} with 11",
-        tally.compared, numbers[0], numbers[9], numbers[11]
+        "{} row checks, {} accepted, {} with 9, {} with 11; {} start above the next row id",
+        tally.compared, numbers[0], numbers[9], numbers[11], gaps
     );
 }
 

@@ -18,7 +18,7 @@ impl TableMetadataBuilder {
         self.changes.len()
     }
 
-    /// The metadata and the run's own last update, for `port::exact_time` and `port::map_order` to steer by.
+    /// The metadata and the run's own last update, for `port::exact_time`, `port::map_order` and `port::row_gap` to steer by.
     pub fn steered(&mut self) -> (&mut TableMetadata, &mut Option<i64>) {
         (&mut self.metadata, &mut self.last_updated_ms)
     }
