@@ -17,12 +17,16 @@ pub struct Kept {
     pub snapshots: Snapshots,
 }
 
-pub fn read_kept(input: &mut Input, place: &mut Place) -> Kept {
-    let metadata = read_metadata(input, place);
+fn read_end(input: &mut Input, place: &mut Place) {
     let rest = read_token(input, place);
     if rest.is_begun {
         spoil(place);
     }
+}
+
+pub fn read_kept(input: &mut Input, place: &mut Place) -> Kept {
+    let metadata = read_metadata(input, place);
+    read_end(input, place);
     let log = metadata.snapshot_log;
     let snapshots = metadata.snapshots;
     Kept { log, snapshots }

@@ -1,6 +1,7 @@
 // For each moment among the arguments, a line that says which snapshot was current then, since when, and whether it is still held; or why
 // there is no answer. Metadata stands on standard input, in the case format; input that is no metadata gets `bad input`. A moment is a UTC date,
 // with or without a time of day, or milliseconds since 1970.
+use calendar::text::time_of_text;
 use numbers::input::empty_input;
 use numbers::input::is_good;
 use numbers::input::start;
@@ -9,6 +10,7 @@ use numbers::output::empty_output;
 use numbers::output::flush;
 use plaintext::text::say;
 
+mod answer;
 mod kept;
 mod words;
 
@@ -19,7 +21,12 @@ fn say_argument(output: &mut Output, end: &mut usize, kept: kept::Kept, at: usiz
         say(output, end, b"no moment is that long\n");
         return;
     }
-    words::say_asked(output, end, kept, &text[..len]);
+    let timed = time_of_text(&text[..len]);
+    if timed.is_timed {
+        words::say_answer(output, end, timed.time, answer::look_up(kept, timed.time));
+    } else {
+        words::say_unread(output, end, &text[..len]);
+    }
 }
 
 // The first argument is the program's own name.
@@ -31,7 +38,7 @@ fn say_arguments(output: &mut Output, end: &mut usize, kept: kept::Kept, count: 
     }
 }
 
-fn answer(output: &mut Output, end: &mut usize, count: usize) {
+fn say_answers(output: &mut Output, end: &mut usize, count: usize) {
     let mut input = empty_input();
     let mut place = start();
     let kept = kept::read_kept(&mut input, &mut place);
@@ -47,7 +54,7 @@ fn main() {
     let mut end: usize = 0;
     let count = os::arg_count();
     if count > 1 {
-        answer(&mut output, &mut end, count);
+        say_answers(&mut output, &mut end, count);
     } else {
         say(
             &mut output,
