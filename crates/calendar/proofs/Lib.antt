@@ -2,3 +2,4 @@ pub mod Days
 pub mod Dates
 pub mod OneDate
 pub mod Shifts
+pub mod Unique

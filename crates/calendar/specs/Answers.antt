@@ -34,11 +34,12 @@ pub record SinceYearOne (time : ℤ) (r : Since) : Type 0 where
   pub least : r .«is_within» ≡ true → r .milliseconds < 315537897600000
   pub same : r .«is_within» ≡ true → pos (r .milliseconds) -ℤ pos 62135596800000 ≡ time
 
--- a date of the calendar whose time it is; no two have the same (proofs/OneDate)
+-- a date of the calendar whose time it is, of which there is one (proofs/OneDate); zeros where there is none
 pub record DateOf (time : ℤ) (r : Dated) : Type 0 where
   pub flag : r .«is_dated» ≡ isWithin time
   pub is-date : r .«is_dated» ≡ true → isDate (r .date) ≡ true
   pub same : r .«is_dated» ≡ true → timeOf (r .date) ≡ time
+  pub none : r .«is_dated» ≡ false → r .date ≡ midnight 0 0 0
 
 unfoldable pub timed : Date → Timed
 timed d = cond (isDate d) (record { «is_timed» = true; time = record { 0 = timeOf d } }) (record { «is_timed» = false; time = record { 0 = pos 0 } })

@@ -2,7 +2,7 @@
 ghost use mathlib.Core.Path.{_≡_};
 ghost use mathlib.Core.Bool.{true};
 ghost use Prim.Native.Nat.{_<_, _≤_};
-ghost use Rattle.calendar.specs.Calendar.{isDate, isDay, isFrom, daysBefore, milliseconds as since};
+ghost use Rattle.calendar.specs.Calendar.{isDate, isDay, isFrom, daysBefore, midnight, milliseconds as since};
 ghost use Rattle.calendar.specs.Answers.{DateOf, timed};
 use crate::clock::is_clock;
 use crate::clock::since_midnight;
@@ -39,7 +39,9 @@ pub struct Timed {
 }
 
 impl Date {
-    pub fn blank() -> Date {
+    pub fn blank() -> Date
+        ensures { λ r. ⌜ r ≡ midnight 0 0 0 ⌝ }
+    {
         Date {
             year: 0,
             month: 0,

@@ -14,6 +14,7 @@ returns c =
       flag = sym (not-true _ (c .before .if1 .taken)) ∙ k .since-year-one .ensures .flag;
       is-date = λ e. absurd (true≢false (sym e));
       same = λ e. absurd (true≢false (sym e));
+      none = λ e. c .blank .ensures;
     }
 
 returns-2 : tie.Need-returns-2
@@ -24,6 +25,7 @@ returns-2 c =
       flag = sym within ∙ k .since-year-one .ensures .flag;
       is-date = λ e. c .date-after .ensures .0;
       same = λ e. time-is _ _ _ (c .date-after .ensures .1) (k .since-year-one .ensures .same within);
+      none = λ e. absurd (true≢false e);
     }
 
 pub date-of-spec : {M : Type 1} → statement M

@@ -1,0 +1,61 @@
+// What is looked up: the snapshot log and the snapshots of metadata on standard input, with nothing after it.
+use casefile::metadata::read_metadata;
+use fitting::with_slots;
+use numbers::input::Input;
+use numbers::input::Place;
+use numbers::input::spoil;
+use numbers::token::read_token;
+use records::capacities::SNAPSHOT_LOG;
+use records::capacities::SNAPSHOTS;
+use records::counters::SnapshotId;
+use records::counters::Time;
+use records::snapshot::SnapshotLog;
+use records::snapshot::Snapshots;
+
+pub struct Kept {
+    pub log: SnapshotLog,
+    pub snapshots: Snapshots,
+}
+
+fn read_end(input: &mut Input, place: &mut Place) {
+    let rest = read_token(input, place);
+    if rest.is_begun {
+        spoil(place);
+    }
+}
+
+pub fn read_kept(input: &mut Input, place: &mut Place) -> Kept {
+    let metadata = read_metadata(input, place);
+    read_end(input, place);
+    let log = metadata.snapshot_log;
+    let snapshots = metadata.snapshots;
+    Kept { log, snapshots }
+}
+
+pub fn is_held(snapshots: Snapshots, id: SnapshotId) -> bool {
+    let n = with_slots(snapshots.count, SNAPSHOTS);
+    let mut i = 0;
+    while i < n {
+        let snapshot = snapshots.items[i];
+        if snapshot.snapshot_id.0 == id.0 {
+            return true;
+        }
+        i += 1;
+    }
+    false
+}
+
+// The time from which on there is an answer. The log's times can step back, so this need not be the first entry's.
+pub fn earliest(log: SnapshotLog) -> Time {
+    let n = with_slots(log.count, SNAPSHOT_LOG);
+    let mut least = Time(i64::MAX);
+    let mut i = 0;
+    while i < n {
+        let entry = log.items[i];
+        i += 1;
+        if entry.timestamp_ms.0 < least.0 {
+            least = entry.timestamp_ms;
+        }
+    }
+    least
+}
