@@ -1,5 +1,5 @@
 -- What a date's tests say of its numbers, and which numbers pass them.
-use Prim.Native.Nat.{ℕ, _+_, _-_, _*_, _/_, _%_, _≤_, _<_}
+use Prim.Native.Nat.{ℕ, _+_, _-_, _/_, _%_, _≤_, _<_}
 use mathlib.Core.Path.{_≡_, refl, sym}
 use mathlib.Core.Bool.{Bool, true, false, _&&_, true≢false}
 use native.Mathlib.Omega.{arith}
@@ -8,7 +8,6 @@ use lib.Dec.{leb, ltb}
 use lib.IntN.{ℤ, pos, negsuc, _-ℤ_}
 use Rattle.records.specs.declared.counters.Time.{Time}
 use Rattle.calendar.specs.declared.date.Date.{Date}
-use Rattle.calendar.specs.declared.date.Timed.{Timed}
 use Rattle.calendar.specs.Calendar.{clock, dayEnd, daysBefore, daysBeforeMonth, daysBeforeYear, isClock, isDate, isDay, isFrom, isLeap, midnight, milliseconds, monthLength, timeOf}
 use Rattle.calendar.specs.Answers.{MonthAt, YearAt, timed}
 use Rattle.calendar.proofs.Days.{all-years, month-next, months-ascend, year-length, years-ascend}

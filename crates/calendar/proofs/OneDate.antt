@@ -1,14 +1,14 @@
 -- No two dates have the same time, so that the contract of `date_of` leaves one date for each time.
-use Prim.Native.Nat.{ℕ, suc, _+_, _-_, _*_, _≤_, _<_}
-use mathlib.Core.Path.{_≡_, refl, sym, ap, _∙_}
-use mathlib.Core.Bool.{Bool, true, false}
+use Prim.Native.Nat.{ℕ, suc, _+_, _-_, _≤_, _<_}
+use mathlib.Core.Path.{_≡_, sym, ap}
+use mathlib.Core.Bool.{Bool, true}
 use native.Mathlib.Omega.{arith}
 use borrow.Author.Tests.{ltb-true, ltb-false}
 use borrow.Table.Steps.{cases}
 use lib.Dec.{ltb}
-use lib.IntN.{ℤ, pos, negsuc, _-ℤ_, subℕ, pos-ne-negsuc}
+use lib.IntN.{pos, negsuc, subℕ, pos-ne-negsuc}
 use Rattle.calendar.specs.declared.date.Date.{Date}
-use Rattle.calendar.specs.Calendar.{clock, daysBefore, daysBeforeMonth, daysBeforeYear, isClock, isDate, isDay, isLeap, midnight, milliseconds, monthLength, timeOf}
+use Rattle.calendar.specs.Calendar.{clock, daysBefore, daysBeforeMonth, daysBeforeYear, isDate, isLeap, milliseconds, monthLength, timeOf}
 use Rattle.calendar.proofs.Days.{month-next, months-ascend, years-ascend}
 use Rattle.calendar.proofs.Dates.{Clock, clock-parts, Day, day-parts, in-year, date-parts, epoch}
 

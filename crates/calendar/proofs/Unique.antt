@@ -1,6 +1,6 @@
 -- The contracts leave no freedom and ask nothing: any two results that one of them allows for the same arguments are equal, and any arguments are allowed.
 use mathlib.Core.Path.{_≡_, sym, _∙_}
-use mathlib.Core.Bool.{Bool, true, false}
+use mathlib.Core.Bool.{Bool}
 use base.Logic.{emp, id⊢}
 use borrow.Table.Steps.{cases}
 use lib.IntN.{ℤ}

@@ -1,5 +1,4 @@
 -- The year and the month are those that the day lies in, and what is left is the day of the month and the time of day.
-use mathlib.Core.Path.{_≡_}
 use native.Mathlib.Omega.{arith}
 use borrow.Author.Needs.{needs}
 use Rattle.calendar.proofs.Days.{year-length}

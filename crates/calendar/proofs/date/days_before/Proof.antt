@@ -1,5 +1,4 @@
 -- The code adds what the rule adds; a day of the years 1 to 9999 has fewer than 3652059 before it, so nothing wraps.
-use Prim.Native.Nat.{_<_}
 use mathlib.Core.Path.{_≡_}
 use native.Mathlib.Omega.{arith}
 use borrow.Author.Needs.{needs}

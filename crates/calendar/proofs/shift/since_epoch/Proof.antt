@@ -1,5 +1,4 @@
 -- The milliseconds fit a signed number, and so does the difference.
-use Prim.Native.Nat.{_<_}
 use mathlib.Core.Path.{_≡_, _∙_}
 use native.Mathlib.Omega.{arith}
 use borrow.Author.Needs.{needs}

@@ -1,5 +1,5 @@
 -- A token that is a number of the field lies within it, and so does the number.
-use mathlib.Core.Path.{_≡_, sym, _∙_}
+use mathlib.Core.Path.{sym, _∙_}
 use Prim.Native.Nat.{_^_, _<_}
 use borrow.Author.Needs.{needs}
 use lib.Signed.{mag}
