@@ -1,4 +1,5 @@
-// The numbers of the replies, by the names that the rules give them in Replies. 1 is of a run's start and of a walk's lists.
+// The numbers of the replies, by the names that the rules give them in Replies. 1 is of a run's start, of a walk's lists,
+// and of a snapshot log that counts above its slots.
 pub const ACCEPTED: u8 = 0;
 
 pub const START_NOT_FORMED: u8 = 1;

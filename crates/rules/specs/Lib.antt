@@ -1,4 +1,5 @@
--- Document 01, in the order in which it is read: words, records, leaves, well-formed records, updates, the close, the run, the layout of records.
+-- Document 01, in the order in which it is read: words, records, leaves, well-formed records, updates, the close, the run, the layout of records;
+-- and what document 02 adds: which snapshot was current at a time (Moment), row ids over a sequence of runs (Rows).
 pub mod Words
 pub mod Replies
 pub mod Capacities
