@@ -1,5 +1,4 @@
 -- What the proofs cite, and what is true of the answer.
-pub mod Examples
 pub mod FromTheEnd
 mod Slots
 mod Reading

@@ -1,4 +1,4 @@
-// Whether the row ranges that metadata holds are apart: what an archive asks once, to know from then on that no row id is given out twice.
+// Whether the row ranges that metadata holds are apart. Where they are, no run gives out a row id twice from then on, so an archive asks once.
 // Document 02, request (xiii), as the crate `rules` writes it in Rows.
 ghost use mathlib.Core.Path.{_≡_};
 ghost use mathlib.Core.Bool.{_&&_};

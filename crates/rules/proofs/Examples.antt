@@ -15,7 +15,7 @@ use Rattle.rules.specs.SchemaUpdates.{addSchemaChecks, addSchema, setCur
 use Rattle.rules.specs.OrderUpdates.{addSortOrderChecks, addSortOrder, setDefaultSortOrderChecks, setDefaultSortOrder}
 use Rattle.rules.specs.Updates.{checks, updateNumber, effect}
 use Rattle.rules.specs.Close.{isDefaultUnfit, intermediates, rebuilt, endsElsewhere, expired, staying, closeChecks, closed}
-use Rattle.rules.specs.Moment.{currentAt, entriesRead, isWhole, givesAgain}
+use Rattle.rules.specs.Moment.{currentAt, entriesRead, isWhole, removesAndAdds}
 use Rattle.rules.specs.Run.{listSum, runFrom, close, run}
 use Rattle.rules.specs.Examples.{Example, replyTo, examples}
 
@@ -25,5 +25,5 @@ unfolding limitOf trimmed isBefore snapshotsFormed refsFormed snapshotLogFormed 
 computed terms m us = run terms m us
 
 pub examples-hold : map (λ (e : Example). replyTo (e .asked)) examples ≡ map (λ (e : Example). e .reply) examples
-unfolding computed limitOf follow ancestors currentAt entriesRead isWhole givesAgain
+unfolding computed limitOf follow ancestors currentAt entriesRead isWhole removesAndAdds
 examples-hold = refl

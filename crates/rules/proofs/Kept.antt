@@ -1,4 +1,4 @@
--- What a run leaves of a whole history, and of the answer which snapshot was current at a time, where its log gives no removed snapshot again.
+-- What a run leaves of a whole history, and of the answer which snapshot was current at a time, where no snapshot is both removed and added by its log.
 use Prim.Native.Nat.{ℕ, _-_}
 use mathlib.Core.Path.{_≡_, refl, sym, ap, _∙_, subst}
 use mathlib.Core.Bool.{Bool, true, false, not, _&&_}
@@ -11,7 +11,7 @@ use Rattle.rules.specs.Words.{eqZ, someWith, all, keep, lastOf, afterLas
 use Rattle.rules.specs.Register.{LogEntry, FileEntry, Metadata, Update, Terms, State}
 use Rattle.rules.specs.Register.Outcome.{Accepted}
 use Rattle.rules.specs.ChangeLog.{logsAddition, logsMain, logsRemoval}
-use Rattle.rules.specs.Moment.{isBy, currentAt, isWhole, logsRemoved, givesAgain}
+use Rattle.rules.specs.Moment.{isBy, currentAt, isWhole, logsRemoved, removesAndAdds}
 use Rattle.rules.specs.Close.{intermediates, isRebuilt, isMissing, isIntermediate, rebuilt, history, closed}
 use Rattle.rules.specs.Run.{Ran, runFrom, started, run}
 use Rattle.rules.specs.Run.Ran.{Stopped, Reached}
@@ -84,10 +84,10 @@ module _ {joined : List LogEntry} {log : List Update} {old new : List LogEntry} 
 
 -- ---- the close
 
-module _ (m : Metadata) (st : State) (a : AccountedState m st) (w : isWhole m ≡ true) (n : givesAgain (st .log) ≡ false) where
+module _ (m : Metadata) (st : State) (a : AccountedState m st) (w : isWhole m ≡ true) (n : removesAndAdds (st .log) ≡ false) where
   -- what was held at the start is not intermediate: the log adds it only after a removal
   start-not-intermediate : (e : LogEntry) → isHeldIn m e ≡ true → not (isIntermediate (st .log) (st .metadata) e) ≡ true
-  unfolding intermediates givesAgain
+  unfolding intermediates removesAndAdds
   start-not-intermediate e h = go (isIntermediate (st .log) (st .metadata) e) refl
     where
       adds : ℤ → Bool
@@ -152,8 +152,8 @@ joined-is terms m us st e =
 alike : {joined joined′ : List LogEntry} {log log′ : List Update} {old new new′ : List LogEntry} → joined′ ≡ joined → log′ ≡ log → new′ ≡ new → HistoryKept joined log old new → HistoryKept joined′ log′ old new′
 alike p q r k = rw (p, q, r) k
 
-module _ (terms : Terms) (m : Metadata) (us : List Update) (m′ : Metadata) (log : List Update) (expired : List FileEntry) (accepted : run terms m us ≡ Accepted m′ log expired) (w : isWhole m ≡ true) (n : givesAgain log ≡ false) where
-  -- from a whole history, where no removed snapshot is given again, only first entries go, and only entries of this run come
+module _ (terms : Terms) (m : Metadata) (us : List Update) (m′ : Metadata) (log : List Update) (expired : List FileEntry) (accepted : run terms m us ≡ Accepted m′ log expired) (w : isWhole m ≡ true) (n : removesAndAdds log ≡ false) where
+  -- from a whole history, where no snapshot is both removed and added by the log, only first entries go, and only entries of this run come
   pub history-kept : HistoryKept (joinedBy terms m us) log (m .snapshotLog) (m′ .snapshotLog)
   unfolding closed
   history-kept =

@@ -15,14 +15,14 @@ use Rattle.rules.specs.Register.Outcome.{Refused, Accepted}
 use Rattle.rules.specs.Register.Update.{AssignUuid, UpgradeFormatVersion, SetLocation, AddSnapshot, SetBranchSnapshot, RemoveSnapshots, SetRef, RemoveRef, AddSchema, SetCurrentSchema, RemoveSchemas, AddSortOrder, SetDefaultSortOrder}
 use Rattle.rules.specs.Limit.{limitGiven}
 use Rattle.rules.specs.Walk.{Walk, Listed, Twice, Bad, ancestors, recordAncestors}
-use Rattle.rules.specs.Moment.{currentAt, entriesRead, isWhole, givesAgain}
+use Rattle.rules.specs.Moment.{currentAt, entriesRead, isWhole, removesAndAdds}
 use Rattle.rules.specs.Run.{run}
 
 -- ---- questions and replies
 
 -- what of an accepted run an example looks at
 pub data Look : Type 0 where
-  AtHistory AtSnapshots AtSequence AtNextRow AtColumn AtUpdated AtLog AtFiles AtGivenAgain : Look
+  AtHistory AtSnapshots AtSequence AtNextRow AtColumn AtUpdated AtLog AtFiles AtRemovedAndAdded : Look
   -- which snapshot was current at a time
   AtMoment : ℤ → Look
 
@@ -58,8 +58,8 @@ pub data Reply : Type 0 where
   -- the entry, and how many were read
   Current : Option LogEntry → ℕ → Reply
   Whole : Bool → Reply
-  -- the log gives a removed snapshot again
-  GivenAgain : Bool → Reply
+  -- a snapshot is both removed and added by the log
+  RemovedAndAdded : Bool → Reply
 
 abbrev pub moment : ℤ → List LogEntry → Reply
 moment time log = Current (currentAt time log) (entriesRead time log)
@@ -74,7 +74,7 @@ look AtColumn (Accepted m log expired) = Column (m .fields .lastColumn)
 look AtUpdated (Accepted m log expired) = Updated (m .fields .lastUpdated)
 look AtLog (Accepted m log expired) = Log log
 look AtFiles (Accepted m log expired) = Files expired (m .metadataLog)
-look AtGivenAgain (Accepted m log expired) = GivenAgain (givesAgain log)
+look AtRemovedAndAdded (Accepted m log expired) = RemovedAndAdded (removesAndAdds log)
 look (AtMoment time) (Accepted m log expired) = moment time (m .snapshotLog)
 
 abbrev pub rerun : Terms → Metadata → Outcome → Outcome
@@ -421,13 +421,13 @@ examples =
     -- missing entry: with an intermediate snapshot and no removal the missing entry alone goes. At 250000 it was 2, and is now 1: the history was not whole
     ∷ (OfRun AtHistory terms holed overFour gives History (entry 1 100000 ∷ entry 3 300000 ∷ entry 5 410000 ∷ []))
     ∷ (OfWhole holed gives Whole false)
-    ∷ (OfRun AtGivenAgain terms holed overFour gives GivenAgain false)
+    ∷ (OfRun AtRemovedAndAdded terms holed overFour gives RemovedAndAdded false)
     ∷ (OfMoment (pos 250000) (holed .snapshotLog) gives Current (some (entry 2 200000)) 2)
     ∷ (OfRun (AtMoment (pos 250000)) terms holed overFour gives Current (some (entry 1 100000)) 3)
-    -- added again: 2 is held at the close and intermediate, so its old entry goes too. At 250000 it was 2, and is now 1: the history was whole, but the log gives 2 again
+    -- added again: 2 is held at the close and intermediate, so its old entry goes too. At 250000 it was 2, and is now 1: the history was whole, but the log both removes and adds 2
     ∷ (OfRun AtHistory terms three overTwoAgain gives History (entry 1 100000 ∷ entry 3 300000 ∷ entry 5 410000 ∷ []))
     ∷ (OfWhole three gives Whole true)
-    ∷ (OfRun AtGivenAgain terms three overTwoAgain gives GivenAgain true)
+    ∷ (OfRun AtRemovedAndAdded terms three overTwoAgain gives RemovedAndAdded true)
     ∷ (OfMoment (pos 250000) (three .snapshotLog) gives Current (some (entry 2 200000)) 2)
     ∷ (OfRun (AtMoment (pos 250000)) terms three overTwoAgain gives Current (some (entry 1 100000)) 3)
     -- none current: the end of the history is not checked
@@ -456,6 +456,9 @@ examples =
     -- no parent: a record without one ends the walk, though snapshot 0 is held
     ∷ (OfRecords (snap 0 none 0 (pos 0) ∷ snap 1 none 1 (pos 0) ∷ []) (pos 1) none gives Walked (Listed (pos 1 ∷ [])))
     -- Document 02, request (i), by name.
+    -- added and removed: a snapshot that a run adds and then removes counts as both too
+    ∷ (OfRun AtRemovedAndAdded terms three (adding 4 400000 ∷ RemoveSnapshots (pos 4 ∷ []) ∷ []) gives RemovedAndAdded true)
+    ∷ (OfRun AtRemovedAndAdded terms three (adding 4 400000 ∷ RemoveSnapshots (pos 2 ∷ []) ∷ []) gives RemovedAndAdded false)
     -- moment: at an entry's time it is that entry, a millisecond earlier the one before it, and before the first it is none and all are read
     ∷ (OfMoment (pos 300000) (three .snapshotLog) gives Current (some (entry 3 300000)) 1)
     ∷ (OfMoment (pos 200000) (three .snapshotLog) gives Current (some (entry 2 200000)) 2)

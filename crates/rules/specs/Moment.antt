@@ -55,5 +55,5 @@ logsRemoved [] = []
 logsRemoved (u ∷ log) = removedIds u ++ logsRemoved log
 
 -- a snapshot is both removed and added by the change log
-unfoldable pub givesAgain : List Update → Bool
-givesAgain log = any (logsAddition log) (logsRemoved log)
+unfoldable pub removesAndAdds : List Update → Bool
+removesAndAdds log = any (logsAddition log) (logsRemoved log)

@@ -7,7 +7,7 @@ use Rattle.records.specs.declared.run.Answer.{Answer}
 use Rattle.rules.specs.Register.{LogEntry, Metadata, Update, Terms}
 use Rattle.rules.specs.Register.Outcome.{Accepted}
 use Rattle.rules.specs.ChangeLog.{logsRemoval}
-use Rattle.rules.specs.Moment.{currentAt, isWhole, givesAgain}
+use Rattle.rules.specs.Moment.{currentAt, isWhole, removesAndAdds}
 use Rattle.rules.specs.Run.{run}
 use Rattle.rules.specs.Layout.{readMetadata, readMetadataLog}
 use Rattle.rules.specs.Kinds.{readUpdates}
@@ -54,8 +54,8 @@ module _ (c : Call) (e : c .answered .number ≡ 0) where
   pub run-whole-after-removal : logsRemoval (changes c) ≡ true → isWhole (after c) ≡ true
   run-whole-after-removal = whole-after-removal (under c) (before c) (asked c) (after c) (changes c) (readMetadataLog (c .answered .expired)) accepted
 
-  module _ (w : isWhole (before c) ≡ true) (n : givesAgain (changes c) ≡ false) where
-    -- from a whole history, where the log gives no removed snapshot again, only first entries go and only entries of this run come
+  module _ (w : isWhole (before c) ≡ true) (n : removesAndAdds (changes c) ≡ false) where
+    -- from a whole history, where no snapshot is both removed and added by the log, only first entries go and only entries of this run come
     pub run-history-kept : HistoryKept (joined c) (changes c) (before c .snapshotLog) (after c .snapshotLog)
     run-history-kept = history-kept (under c) (before c) (asked c) (after c) (changes c) (readMetadataLog (c .answered .expired)) accepted w n
 
