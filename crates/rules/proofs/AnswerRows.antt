@@ -31,7 +31,7 @@ none-in = refl
 unchanged-adds : (m : TableMetadata) (a : Answer) → Unchanged m a → readMetadata m .fields .version ≡ 3 → Adds (readMetadata m) (readMetadata (a .metadata)) (newIn a)
 unchanged-adds m a u v = rw (u .metadata, u .changes, none-in) (adds-none (readMetadata m) v)
 
--- what follows of a number that is 0, and of one that is not, follows
+-- what holds where a number is 0, and where it is not, holds in any case
 accepted-or-not : {P : Type 0} (number : ℕ) → (number ≡ 0 → P) → ((number ≡ 0 → ⊥) → P) → P
 accepted-or-not {P} number f g = go (eqb number 0) refl
   where

@@ -1,4 +1,4 @@
--- Laws of lists on which it rests what a run does to a history: what stands after the last of some, what is kept of two lists joined, which is their last.
+-- Laws of lists for the history of a run: what stands after the last element that passes a test, what is kept of two lists joined, and which element is their last.
 use Prim.Native.Nat.{ℕ, zero, suc, _-_}
 use native.Mathlib.Nat.{sub-zero, zero-sub, suc-sub-suc}
 use native.Mathlib.Omega.{arith}

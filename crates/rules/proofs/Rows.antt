@@ -72,7 +72,7 @@ takes-on a b c xs ys p q =
       logged = q .logged ∙ ap (λ (l : List Snapshot). l ++ ys) (p .logged) ∙ append-assoc (newSnapshots (a .log)) xs ys;
     }
 
--- a state with the same view is as good
+-- what is taken to a state is taken to any state with the same version, next row id, snapshots and additions
 takes-kept : (a b c : State) (new : List Snapshot) → Takes a b new → Keeps b c → Takes a c new
 takes-kept a b c new p k =
     record {

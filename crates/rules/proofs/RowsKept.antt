@@ -130,7 +130,7 @@ remove-snapshots-keeps ids st =
 
 -- ---- an addition at version 3
 
--- its snapshot has a range, 10, that begins at or after next row id, 9, and ends by the largest, 11
+-- its snapshot has a range (else 10), which begins at or after next row id (else 9) and ends by the largest row id (else 11)
 pub record Ranged (s : Snapshot) (next : ℕ) : Type 0 where
   pub range : RowRange
   pub has : s .rows ≡ some range

@@ -118,7 +118,7 @@ module _ {A : Type 0} (below : A → A → Bool) where
       let ih : ascending below (keep p l) ≡ true = ascending-keep p l (ascending-tail x l h) in
       by-test (λ (r : List A). ascending below r ≡ true) (p x) (λ e. both (all-keep (below x) p l (ascending-head x l h)) ih) (λ e. ih)
 
--- where each element stands so to all that follow it, one that stands so to all and to which all stand so may be put anywhere
+-- each element of a list has some relation to all that follow it; this stays so when an element is put in that has it to all others, and they to it
 pub all-stand-put : {A : Type 0} (stands below : A → A → Bool) (a : A) (l : List A) → all (stands a) l ≡ true → all (λ (x : A). stands x a) l ≡ true → ascending stands l ≡ true → ascending stands (put below a l) ≡ true
 all-stand-put stands below a [] h k s = refl
 all-stand-put {A} stands below a (x ∷ l) h k s =
