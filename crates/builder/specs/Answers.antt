@@ -18,7 +18,7 @@ Answers checks st st′ number logs b entry = (number ≡ firstOf checks) × (nu
 
 -- the same of an update: its checks, and its effect
 abbrev pub AnswersUpdate : Terms → Update → State → ℕ → Bool → TableMetadataBuilder → TableUpdate → Type 0
-AnswersUpdate terms u st number logs b entry = Answers (checks u st) st (effect terms u st) number logs b entry
+AnswersUpdate terms u st number logs b entry = Answers (checks terms u st) st (effect terms u st) number logs b entry
 
 -- a decision is right for an update of a list, in a state
 abbrev pub Decides : Terms → TableUpdate → State → Decision → Type 0

@@ -3,7 +3,7 @@
 // Document 01 decides, as the crate `rules` writes it in Limit, Window and RowIds; the work is done in `leaves`.
 ghost use mathlib.Core.Path.{_≡_};
 ghost use Rattle.rules.specs.Limit.{limitOf};
-ghost use Rattle.rules.specs.Window.{isBefore, minute};
+ghost use Rattle.rules.specs.Window.{isBefore};
 ghost use Rattle.exports.specs.Answers.{rowCheck};
 use leaves::limit::limit;
 use leaves::row_ids::check_rows;
@@ -11,9 +11,6 @@ use leaves::window::is_before;
 use records::counters::Age;
 use records::counters::RowId;
 use records::counters::Time;
-
-// In milliseconds.
-const MINUTE: i64 = 60000;
 
 // The number is 0, 9 or 11; on a refusal the next row id is the one that came in.
 #[repr(C)]
@@ -29,12 +26,12 @@ pub extern "C" fn register_limit(text: &[u8]) -> u64
     limit(text)
 }
 
-// Whether the time is over a minute before the last one.
+// Whether the time is more than the tolerance before the last one, all in milliseconds. The range of a run's tolerance is not asked here.
 #[no_mangle]
-pub extern "C" fn register_too_early(time: i64, last: i64) -> bool
-    ensures { λ r. ⌜ r ≡ isBefore minute time last ⌝ }
+pub extern "C" fn register_too_early(time: i64, last: i64, tolerance: i64) -> bool
+    ensures { λ r. ⌜ r ≡ isBefore tolerance time last ⌝ }
 {
-    is_before(Age(MINUTE), Time(time), Time(last))
+    is_before(Age(tolerance), Time(time), Time(last))
 }
 
 #[no_mangle]

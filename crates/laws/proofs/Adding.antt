@@ -36,7 +36,7 @@ use Rattle.builder.specs.Pieces.{laidBuilder, idsOf, isAbove}
 use Rattle.snapshot_updates.specs.Snapshots.{SnapshotDecided}
 use Rattle.snapshot_updates.proofs.Last.{put-last}
 use Rattle.start.proofs.Reading.{read-add-snapshot, read-set-branch-snapshot}
-use Rattle.laws.specs.Standing.{Given, Pieces, withBuilder, withAddition, stored, Tables, Represents, Standing}
+use Rattle.laws.specs.Standing.{Given, termsOf, Pieces, withBuilder, withAddition, stored, Tables, Represents, Standing}
 use Rattle.laws.specs.Turns.{updateAt, nameAt, Midway, Decided}
 use Rattle.laws.proofs.Effects.{Moves, add-moves}
 use Rattle.laws.proofs.Logged.{one-more, push-addition}
@@ -48,9 +48,9 @@ use Rattle.laws.proofs.Removing.{laid-of}
 
 -- ---- the table after it
 
-module _ {g : Given} {st : State} {p : Pieces} (E : Represents g st p) (x : Snapshot) (back : laidSnapshot (readSnapshot x) ≡ x) (n : firstOf (addSnapshotChecks (readSnapshot x) st) ≡ 0) where
+module _ {g : Given} {st : State} {p : Pieces} (E : Represents g st p) (x : Snapshot) (back : laidSnapshot (readSnapshot x) ≡ x) (n : firstOf (addSnapshotChecks (termsOf g .tolerance) (readSnapshot x) st) ≡ 0) where
   pub has-room : p .held .snapshots .count < 64
-  has-room = omega (arith, add-room (readSnapshot x) st n, held-count E)
+  has-room = omega (arith, add-room (termsOf g .tolerance) (readSnapshot x) st n, held-count E)
 
   -- above the last: the snapshot and its id are stored behind the others
   module _ (l : isAbove (take (p .held .snapshots .count) (p .held .ids)) (x .«snapshot_id» .0) ≡ true) where
@@ -64,15 +64,15 @@ module _ {g : Given} {st : State} {p : Pieces} (E : Represents g st p) (x : Snap
     id-last q =
         let z : List plain.Snapshot = st .metadata .snapshots in
         let j : length (idsOf z) ≡ length z = length-map z (λ (y : plain.Snapshot). y .id) in
-        rw q (one-more (pos 0) (idsOf z) (idsOf (put snapshotBelow (readSnapshot x) z)) (x .«snapshot_id» .0) (E .tables .ids) (held-count E ∙ sym j) (omega (arith, add-room (readSnapshot x) st n)) (ap idsOf at-the-end ∙ map-append (λ (y : plain.Snapshot). y .id) z (readSnapshot x ∷ [])))
+        rw q (one-more (pos 0) (idsOf z) (idsOf (put snapshotBelow (readSnapshot x) z)) (x .«snapshot_id» .0) (E .tables .ids) (held-count E ∙ sym j) (omega (arith, add-room (termsOf g .tolerance) (readSnapshot x) st n)) (ap idsOf at-the-end ∙ map-append (λ (y : plain.Snapshot). y .id) z (readSnapshot x ∷ [])))
 
   -- otherwise it is put in its place
   pub put-new : holdsSnapshot (readSnapshots (p .held .snapshots)) (x .«snapshot_id» .0) ≡ false
-  put-new = rw (read-snapshots E) (add-new (readSnapshot x) st n)
+  put-new = rw (read-snapshots E) (add-new (termsOf g .tolerance) (readSnapshot x) st n)
 
   module _ {t : Snapshots} (q : t ≡ laidSnapshots (put snapshotBelow (readSnapshot x) (readSnapshots (p .held .snapshots)))) where
     pub put-laid : LaidSnapshots t
-    put-laid = laid-of (put snapshotBelow (readSnapshot x) (readSnapshots (p .held .snapshots))) (rw (read-snapshots E) (omega (arith, put-length snapshotBelow (readSnapshot x) (st .metadata .snapshots), add-room (readSnapshot x) st n))) q
+    put-laid = laid-of (put snapshotBelow (readSnapshot x) (readSnapshots (p .held .snapshots))) (rw (read-snapshots E) (omega (arith, put-length snapshotBelow (readSnapshot x) (st .metadata .snapshots), add-room (termsOf g .tolerance) (readSnapshot x) st n))) q
 
     pub put-tables : t ≡ laidSnapshots (put snapshotBelow (readSnapshot x) (st .metadata .snapshots))
     put-tables = rw (read-snapshots E) at q
@@ -103,11 +103,11 @@ module _ {g : Given} {i : ℕ} {p : Pieces} (S : Standing g i p) (v : Update) (a
   tables a b c id = let T = S .stands .tables in record { builder = a; snapshots = b; ids = c; refs = T .refs; log = T .log; last = T .last; schemas = T .schemas; orders = T .orders }
 
   -- a check that fails
-  refused-decided : (half : Bool) {d : Decision} → d .number ≡ firstOf (checks v (S .state)) → (d .number ≡ 0 → ⊥) → Decided g i half p d
+  refused-decided : (half : Bool) {d : Decision} → d .number ≡ firstOf (checks (termsOf g) v (S .state)) → (d .number ≡ 0 → ⊥) → Decided g i half p d
   refused-decided half n z = record { refuses = λ y. check-refused S v at e n z; room = λ y. entry-room S v at one; logs = λ y t. absurd (z y); stays = λ y t. absurd (z y) }
 
-  module _ (w : v ≡ AddSnapshot x) {d : Decision} (D : SnapshotDecided false x (S .state) d) where
-    number : d .number ≡ firstOf (checks v (S .state))
+  module _ (w : v ≡ AddSnapshot x) {d : Decision} (D : SnapshotDecided false (termsOf g .tolerance) x (S .state) d) where
+    number : d .number ≡ firstOf (checks (termsOf g) v (S .state))
     unfolding checks
     number = rw w (D .number)
 
@@ -124,29 +124,29 @@ module _ {g : Given} {i : ℕ} {p : Pieces} (S : Standing g i p) (v : Update) (a
           stays = λ y f. absurd (true≢false (sym (D .logs) ∙ f));
         }
 
-  module _ (w : v ≡ SetBranchSnapshot (nameAt g i) x) (u : x ≡ readSnapshot (updateAt g i .snapshot)) (five : updateAt g i .kind ≡ setBranchSnapshotKind) (f : updateFormed (readUpdate (updateAt g i)) ≡ true) {d : Decision} {t : Bool} (tag : t ≡ isTag (nameAt g i) (S .state .metadata .refs)) (D : SnapshotDecided t x (S .state) d) where
+  module _ (w : v ≡ SetBranchSnapshot (nameAt g i) x) (u : x ≡ readSnapshot (updateAt g i .snapshot)) (five : updateAt g i .kind ≡ setBranchSnapshotKind) (f : updateFormed (readUpdate (updateAt g i)) ≡ true) {d : Decision} {t : Bool} (tag : t ≡ isTag (nameAt g i) (S .state .metadata .refs)) (D : SnapshotDecided t (termsOf g .tolerance) x (S .state) d) where
     pub commit-refused : (half : Bool) → (d .number ≡ 0 → ⊥) → Decided g i half p d
     unfolding checks setBranchSnapshotChecks
     commit-refused half z =
         refused-decided half (
         D .number
-        ∙ rw (w, ← tag) (cases t (λ y. rw y) (λ f. rw f (sym (first-before (addSnapshotChecks x (S .state)) _ (λ k. z (D .number ∙ rw f k))))))
+        ∙ rw (w, ← tag) (cases t (λ y. rw y) (λ f. rw f (sym (first-before (addSnapshotChecks (termsOf g .tolerance) x (S .state)) _ (λ k. z (D .number ∙ rw f k))))))
         ) z
 
     module _ (z : d .number ≡ 0) where
       no-tag : isTag (nameAt g i) (S .state .metadata .refs) ≡ false
-      no-tag = sym tag ∙ untagged t (firstOf (addSnapshotChecks x (S .state))) (sym (D .number) ∙ z) .0
+      no-tag = sym tag ∙ untagged t (firstOf (addSnapshotChecks (termsOf g .tolerance) x (S .state))) (sym (D .number) ∙ z) .0
 
-      adds : firstOf (addSnapshotChecks x (S .state)) ≡ 0
-      adds = untagged t (firstOf (addSnapshotChecks x (S .state))) (sym (D .number) ∙ z) .1
+      adds : firstOf (addSnapshotChecks (termsOf g .tolerance) x (S .state)) ≡ 0
+      adds = untagged t (firstOf (addSnapshotChecks (termsOf g .tolerance) x (S .state))) (sym (D .number) ∙ z) .1
 
       wanted : plain.Reference
       wanted = committed (nameAt g i) (x .id) (S .state .metadata .refs)
 
       -- the checks of the commit are those of setting its ref, once its snapshot is added
-      then : firstOf (checks v (S .state)) ≡ firstOf (setRefChecks (nameAt g i) wanted (addSnapshot x (S .state)))
+      then : firstOf (checks (termsOf g) v (S .state)) ≡ firstOf (setRefChecks (nameAt g i) wanted (addSnapshot x (S .state)))
       unfolding checks setBranchSnapshotChecks wanted
-      then = rw (w, no-tag) (first-after (addSnapshotChecks x (S .state)) _ (add-snapshot-numbered x (S .state)) adds)
+      then = rw (w, no-tag) (first-after (addSnapshotChecks (termsOf g .tolerance) x (S .state)) _ (add-snapshot-numbered (termsOf g .tolerance) x (S .state)) adds)
 
       midway : {s : Snapshots} {is : List ℤ} {id : ℤ} → s ≡ laidSnapshots (put snapshotBelow x (S .state .metadata .snapshots)) → is ≡ pad 64 (pos 0) (idsOf (put snapshotBelow x (S .state .metadata .snapshots))) → id ≡ x .id → Midway g i (stored d (grown s is id p))
       unfolding effect setBranchSnapshot addSnapshot updateFormed wanted
@@ -158,7 +158,7 @@ module _ {g : Given} {i : ℕ} {p : Pieces} (S : Standing g i p) (v : Update) (a
           record {
             state = addSnapshot x (S .state);
             stands = record {
-              sound = add-snapshot-sound x (S .state) F adds (S .stands .sound);
+              sound = add-snapshot-sound (termsOf g .tolerance) x (S .state) F adds (S .stands .sound);
               kept = record { files = K .files; old = K .old; back = K .back; short = K .short };
               tables = tables (D .builder z) a b id;
               logs = rw c (push-addition (S .stands .logs) (omega arith) x (D .entry));
@@ -183,12 +183,12 @@ module _ {g : Given} {i : ℕ} {p : Pieces} (S : Standing g i p) (v : Update) (a
 -- ---- either of the two, of the update at a place
 
 module _ {g : Given} {i : ℕ} {p : Pieces} (S : Standing g i p) (at : drop i (readUpdates (g .updates)) ≡ readUpdate (updateAt g i) ∷ drop (i + 1) (readUpdates (g .updates))) (one : 1 ≤ weight (readUpdate (updateAt g i))) (e : updateFormed (readUpdate (updateAt g i)) ≡ true)
-    (k : (eqb (updateAt g i .kind) 4 || eqb (updateAt g i .kind) 5) ≡ true) {t : Bool} (tag : t ≡ (eqb (updateAt g i .kind) 5 && isTag (nameAt g i) (readRefs (p .held .refs)))) {d : Decision} (D : SnapshotDecided t (readSnapshot (updateAt g i .snapshot)) (S .state) d) where
+    (k : (eqb (updateAt g i .kind) 4 || eqb (updateAt g i .kind) 5) ≡ true) {t : Bool} (tag : t ≡ (eqb (updateAt g i .kind) 5 && isTag (nameAt g i) (readRefs (p .held .refs)))) {d : Decision} (D : SnapshotDecided t (termsOf g .tolerance) (readSnapshot (updateAt g i .snapshot)) (S .state) d) where
   abbrev u : TableUpdate
   u = updateAt g i
 
-  by-itself : u .kind ≡ addSnapshotKind → SnapshotDecided false (readSnapshot (u .snapshot)) (S .state) d
-  by-itself q = subst (λ (x : Bool). SnapshotDecided x (readSnapshot (u .snapshot)) (S .state) d) (tag ∙ rw q) D
+  by-itself : u .kind ≡ addSnapshotKind → SnapshotDecided false (termsOf g .tolerance) (readSnapshot (u .snapshot)) (S .state) d
+  by-itself q = subst (λ (x : Bool). SnapshotDecided x (termsOf g .tolerance) (readSnapshot (u .snapshot)) (S .state) d) (tag ∙ rw q) D
 
   tagged : u .kind ≡ setBranchSnapshotKind → t ≡ isTag (nameAt g i) (S .state .metadata .refs)
   tagged q = tag ∙ rw (q, read-refs (S .stands))
@@ -201,8 +201,8 @@ module _ {g : Given} {i : ℕ} {p : Pieces} (S : Standing g i p) (at : drop i (r
       k
 
   -- its checks pass where it is decided with 0
-  pub adds-fine : d .number ≡ 0 → firstOf (addSnapshotChecks (readSnapshot (u .snapshot)) (S .state)) ≡ 0
-  adds-fine z = untagged t (firstOf (addSnapshotChecks (readSnapshot (u .snapshot)) (S .state))) (sym (D .number) ∙ z) .1
+  pub adds-fine : d .number ≡ 0 → firstOf (addSnapshotChecks (termsOf g .tolerance) (readSnapshot (u .snapshot)) (S .state)) ≡ 0
+  adds-fine z = untagged t (firstOf (addSnapshotChecks (termsOf g .tolerance) (readSnapshot (u .snapshot)) (S .state))) (sym (D .number) ∙ z) .1
 
   pub add-decided : d .number ≡ 0 → {s : Snapshots} {is : List ℤ} {id : ℤ} → s ≡ laidSnapshots (put snapshotBelow (readSnapshot (u .snapshot)) (S .state .metadata .snapshots)) → is ≡ pad 64 (pos 0) (idsOf (put snapshotBelow (readSnapshot (u .snapshot)) (S .state .metadata .snapshots))) → id ≡ u .snapshot .«snapshot_id» .0 → Decided g i (eqb (u .kind) setBranchSnapshotKind) (grown s is id p) d
   add-decided z a b c =

@@ -35,7 +35,7 @@ module _ {g : Given} {i : ℕ} {p : Pieces} (S : Standing g i p) (v : Update) (a
   pub fits : length (S .state .log) + weight v ≤ 64
   fits = let q : total weight (drop i (readUpdates (g .updates))) ≡ weight v + total weight (drop (i + 1) (readUpdates (g .updates))) = ap (total weight) at in omega (arith, S .left)
 
-  pub next : updateNumber v (S .state) ≡ 0 → {q : Pieces} → Tables (effect (termsOf g) v (S .state)) (q .held) → Logs (effect (termsOf g) v (S .state) .log) (q .changes) → Standing g (i + 1) q
+  pub next : updateNumber (termsOf g) v (S .state) ≡ 0 → {q : Pieces} → Tables (effect (termsOf g) v (S .state)) (q .held) → Logs (effect (termsOf g) v (S .state) .log) (q .changes) → Standing g (i + 1) q
   unfolding runFrom
   next n T L =
       let M : Moves (weight v) (S .state) (effect (termsOf g) v (S .state)) = moves (termsOf g) v (S .state) in
@@ -44,7 +44,7 @@ module _ {g : Given} {i : ℕ} {p : Pieces} (S : Standing g i p) (v : Update) (a
       record {
         starts = S .starts;
         state = effect (termsOf g) v (S .state);
-        reached = S .reached ∙ rw (at, eq-eqb (updateNumber v (S .state)) 0 n, add-one i);
+        reached = S .reached ∙ rw (at, eq-eqb (updateNumber (termsOf g) v (S .state)) 0 n, add-one i);
         left = omega (arith, S .left, M .light);
         stands = record {
           sound = effect-sound (termsOf g) v (S .state) n (S .stands .sound);
@@ -55,11 +55,11 @@ module _ {g : Given} {i : ℕ} {p : Pieces} (S : Standing g i p) (v : Update) (a
         };
       }
 
-  stops : {n : ℕ} → updateNumber v (S .state) ≡ n → (n ≡ 0 → ⊥) → runFrom (termsOf g) (readUpdates (g .updates)) 0 (started (readMetadata (g .metadata))) ≡ Stopped n i
+  stops : {n : ℕ} → updateNumber (termsOf g) v (S .state) ≡ n → (n ≡ 0 → ⊥) → runFrom (termsOf g) (readUpdates (g .updates)) 0 (started (readMetadata (g .metadata))) ≡ Stopped n i
   unfolding runFrom
   stops {n} e z = S .reached ∙ rw (at, e, ne-eqb n 0 z)
 
-  refusal : {n : ℕ} → updateNumber v (S .state) ≡ n → (n ≡ 0 → ⊥) → RefusedWith g n i
+  refusal : {n : ℕ} → updateNumber (termsOf g) v (S .state) ≡ n → (n ≡ 0 → ⊥) → RefusedWith g n i
   refusal e z = sym (started-answer (g .metadata) (g .updates) (g .terms) (g .text) (S .starts) ∙ rw (stops e z))
 
   -- 3
@@ -67,14 +67,14 @@ module _ {g : Given} {i : ℕ} {p : Pieces} (S : Standing g i p) (v : Update) (a
   unfolding updateNumber
   not-formed-refused e = refusal (rw e) (λ (y : 3 ≡ 0). omega arith)
 
-  module _ (e : updateFormed v ≡ true) {n : ℕ} (w : n ≡ firstOf (checks v (S .state))) where
+  module _ (e : updateFormed v ≡ true) {n : ℕ} (w : n ≡ firstOf (checks (termsOf g) v (S .state))) where
     -- a check of the update fails
     pub check-refused : (n ≡ 0 → ⊥) → RefusedWith g n i
     unfolding updateNumber
     check-refused y = refusal (rw e (sym w)) y
 
-    pub accepted : n ≡ 0 → updateNumber v (S .state) ≡ 0
-    accepted y = accepted-if v (S .state) e (sym w ∙ y)
+    pub accepted : n ≡ 0 → updateNumber (termsOf g) v (S .state) ≡ 0
+    accepted y = accepted-if (termsOf g) v (S .state) e (sym w ∙ y)
 
 -- ---- the end of the list
 

@@ -53,3 +53,5 @@ pub const TOO_MANY_FILES: u8 = 23;
 pub const MET_TWICE: u8 = 24;
 
 pub const BUFFER_TOO_SHORT: u8 = 25;
+
+pub const TOLERANCE_OUTSIDE: u8 = 26;

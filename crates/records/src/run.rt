@@ -1,13 +1,21 @@
 // What a run is given beside metadata, updates and the limit text, and what it answers.
+use crate::counters::Age;
 use crate::counters::Time;
 use crate::metadata::MetadataLog;
 use crate::metadata::TableMetadata;
 use crate::text::FileName;
 use crate::update::UpdateList;
 
-// The terms of a run. The text that limits the metadata log has any length, so it is lent beside this.
+// The tolerance of a run for which none is chosen, and the longest: document 02, request (v). In milliseconds.
+pub const DEFAULT_TOLERANCE_MS: i64 = 60000;
+
+pub const LONGEST_TOLERANCE_MS: i64 = 3600000;
+
+// The terms of a run. The tolerance says how far an added snapshot's time may lie before the last entry and before the last update.
+// The text that limits the metadata log has any length, so it is lent beside this.
 pub struct RunTerms {
     pub clock_ms: Time,
+    pub tolerance_ms: Age,
     pub has_file: bool,
     pub file: FileName,
 }

@@ -155,7 +155,15 @@ pub fn run(metadata: TableMetadata, updates: UpdateList, terms: RunTerms, text: 
         let history = log.count;
         if (kind == ADD_SNAPSHOT) | ((kind == SET_BRANCH_SNAPSHOT) & !begun) {
             let on_tag = commits_on_tag(refs, update);
-            decision = add_snapshot(builder, on_tag, &ids[..held], history > 0, last, update);
+            decision = add_snapshot(
+                builder,
+                on_tag,
+                &ids[..held],
+                history > 0,
+                last,
+                terms.tolerance_ms,
+                update,
+            );
             half = kind == SET_BRANCH_SNAPSHOT;
             if !decision.grows {
                 continue;

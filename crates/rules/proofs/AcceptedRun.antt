@@ -1,21 +1,22 @@
--- What it says that a run is accepted: it passes 1 and 2, its updates lead to a state, and the close passes its checks there.
+-- What it says that a run is accepted: it passes 1, 2 and 26, its updates lead to a state, and the close passes its checks there.
 use Prim.Native.Nat.{ℕ, _≤_}
 use native.Mathlib.Omega.{arith}
 use mathlib.Core.Path.{_≡_, refl}
-use mathlib.Core.Bool.{true}
+use mathlib.Core.Bool.{true, false}
 use mathlib.Core.List.{List}
 use lib.Dec.{eqb, leb}
 use lib.ListN.{length}
-use borrow.Author.Tests.{eqb-true, leb-true}
+use borrow.Author.Tests.{eqb-true, leb-true, le-leb, not-false}
 use Rattle.rules.specs.Words.{firstOf}
-use Rattle.rules.specs.Replies.{accepted, startNotFormed, listTooLong}
+use Rattle.rules.specs.Replies.{accepted}
 use Rattle.rules.specs.Capacities.{listRoom}
+use Rattle.rules.specs.Window.{isOutside}
 use Rattle.rules.specs.Register.{FileEntry, Metadata, Update, Terms, State}
 use Rattle.rules.specs.Register.Outcome.{Refused, Accepted}
 use Rattle.rules.specs.Close.{expired, closeChecks, closed}
-use Rattle.rules.specs.Run.{listSum, Ran, runFrom, started, close, closeRan, startFormed, run}
+use Rattle.rules.specs.Run.{listSum, Ran, runFrom, started, close, closeRan, startFormed, startChecks, run}
 use Rattle.rules.specs.Run.Ran.{Stopped, Reached}
-use Rattle.rules.proofs.Checks.{only-then}
+use Rattle.rules.proofs.Checks.{only-then, Passed, passed}
 
 -- a refusal is no acceptance
 refused : (number place : ℕ) (m : Metadata) (log : List Update) (gone : List FileEntry) → Refused number place ≡ Accepted m log gone → ⊥
@@ -40,17 +41,31 @@ module _ (terms : Terms) (m : Metadata) (log : List Update) (gone : List FileEnt
   pub record Ends (start : Metadata) (us : List Update) : Type 0 where
     pub formed : startFormed terms start ≡ true
     pub short : listSum us ≤ listRoom
+    pub tolerated : isOutside (terms .tolerance) ≡ false
     pub end : State
     pub reached : runFrom terms us 0 (started start) ≡ Reached end
     pub closes : Closes end
 
   pub run-accepted : (start : Metadata) (us : List Update) → run terms start us ≡ Accepted m log gone → Ends start us
-  unfolding run
+  unfolding run startChecks
   run-accepted start us e =
-      let k = only-then (startFormed terms start) (refused startNotFormed 0 m log gone) e in
-      let l = only-then (leb (listSum us) listRoom) (refused listTooLong 0 m log gone) (k .1) in
-      from-end (k .0) (leb-true (listSum us) listRoom (l .0)) (runFrom terms us 0 (started start)) refl (l .1)
+      let number : ℕ = firstOf (startChecks terms start us) in
+      let k = only-then (eqb number accepted) (refused number 0 m log gone) e in
+      from-end (passed (startChecks terms start us) refl (eqb-true number accepted (k .0))) (runFrom terms us 0 (started start)) refl (k .1)
     where
-      from-end : startFormed terms start ≡ true → listSum us ≤ listRoom → (r : Ran) → runFrom terms us 0 (started start) ≡ r → closeRan terms us r ≡ Accepted m log gone → Ends start us
-      from-end f s (Stopped number at) q e = absurd (refused number at m log gone e)
-      from-end f s (Reached st) q e = record { formed = f; short = s; end = st; reached = q; closes = close-accepted (length us) st e }
+      from-end : Passed (startChecks terms start us) → (r : Ran) → runFrom terms us 0 (started start) ≡ r → closeRan terms us r ≡ Accepted m log gone → Ends start us
+      from-end p (Stopped number at) q e = absurd (refused number at m log gone e)
+      from-end p (Reached st) q e = record {
+        formed = not-false (startFormed terms start) (p .0);
+        short = leb-true (listSum us) listRoom (not-false (leb (listSum us) listRoom) (p .1 .0));
+        tolerated = p .1 .1 .0;
+        end = st;
+        reached = q;
+        closes = close-accepted (length us) st e;
+      }
+
+-- a run that passes 1, 2 and 26 is its updates, and the close of where they lead
+pub run-started : (terms : Terms) (start : Metadata) (us : List Update) → startFormed terms start ≡ true → listSum us ≤ listRoom → isOutside (terms .tolerance) ≡ false
+    → run terms start us ≡ closeRan terms us (runFrom terms us 0 (started start))
+unfolding run startChecks
+run-started terms start us f s t = rw (f, le-leb (listSum us) listRoom s, t)

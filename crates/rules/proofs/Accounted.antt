@@ -175,13 +175,13 @@ module _ (m : Metadata) where
   -- ---- the updates that add, remove or set
 
   -- 5: what is added was not held
-  add-snapshot-accounted : (s : Snapshot) (st : State) → firstOf (addSnapshotChecks s st) ≡ 0 → AccountedState st → AccountedState (addSnapshot s st)
+  add-snapshot-accounted : (tolerance : ℤ) (s : Snapshot) (st : State) → firstOf (addSnapshotChecks tolerance s st) ≡ 0 → AccountedState st → AccountedState (addSnapshot s st)
   unfolding addSnapshot
-  add-snapshot-accounted s st e =
+  add-snapshot-accounted tolerance s st e =
       let l : List Snapshot = st .metadata .snapshots in
       logs (AddSnapshot s) l (put snapshotBelow s l) (st .log)
       (λ id k. or-left (isIn (logsRemoved (st .log ++ (AddSnapshot s ∷ []))) id) (any-put numbers-ordered (λ (x : Snapshot). x .id) (λ (k : ℤ). eqZ k id) s l k))
-      (λ id q. rw (numbers-told .equal (s .id) id q) at (add-new s st e))
+      (λ id q. rw (numbers-told .equal (s .id) id q) at (add-new tolerance s st e))
 
   -- what goes is logged
   remove-snapshots-accounted : (ids : List ℤ) (st : State) → AccountedState st → AccountedState (removeSnapshots ids st)
@@ -215,20 +215,20 @@ module _ (m : Metadata) where
   -- ---- any update
 
   -- 5 and 12 aside, nothing is asked: the other updates change neither snapshots nor history, and add no snapshot
-  effect-accounted : (terms : Terms) (u : Update) (st : State) → updateNumber u st ≡ 0 → AccountedState st → AccountedState (effect terms u st)
+  effect-accounted : (terms : Terms) (u : Update) (st : State) → updateNumber terms u st ≡ 0 → AccountedState st → AccountedState (effect terms u st)
   unfolding checks effect assignUuid upgradeFormatVersion setLocation setBranchSnapshot removeRef addSchema setCurrentSchema removeSchemas addSortOrder setDefaultSortOrder
   effect-accounted terms (AssignUuid uuid) st e a = by-test AccountedState (sameBytes uuid (st .metadata .fields .uuid)) (λ q. a) (λ q. logs-quiet (AssignUuid uuid) (λ id. refl) a)
   effect-accounted terms (UpgradeFormatVersion v) st e a = by-test AccountedState (eqb v (st .metadata .fields .version)) (λ q. a) (λ q. logs-quiet (UpgradeFormatVersion v) (λ id. refl) a)
   effect-accounted terms (SetLocation location) st e a = by-test AccountedState (sameBytes (trimmed location) (st .metadata .fields .location)) (λ q. a) (λ q. logs-quiet (SetLocation (trimmed location)) (λ id. refl) a)
-  effect-accounted terms (AddSnapshot s) st e a = add-snapshot-accounted s st (accepted-checks (AddSnapshot s) st e) a
+  effect-accounted terms (AddSnapshot s) st e a = add-snapshot-accounted (terms .tolerance) s st (accepted-checks terms (AddSnapshot s) st e) a
   effect-accounted terms (SetBranchSnapshot name s) st e a =
       let r : Reference = committed name (s .id) (st .metadata .refs) in
-      let k = commit-checks name s st e in
+      let k = commit-checks terms name s st e in
       set-ref-accounted terms name r (addSnapshot s st)
-      (passed-after (addSnapshotChecks s st) (setRefChecks name r (addSnapshot s st)) (add-snapshot-numbered s st) k)
-      (add-snapshot-accounted s st (passed-before (addSnapshotChecks s st) (setRefChecks name r (addSnapshot s st)) k) a)
+      (passed-after (addSnapshotChecks (terms .tolerance) s st) (setRefChecks name r (addSnapshot s st)) (add-snapshot-numbered (terms .tolerance) s st) k)
+      (add-snapshot-accounted (terms .tolerance) s st (passed-before (addSnapshotChecks (terms .tolerance) s st) (setRefChecks name r (addSnapshot s st)) k) a)
   effect-accounted terms (RemoveSnapshots ids) st e a = remove-snapshots-accounted ids st a
-  effect-accounted terms (SetRef name r) st e a = set-ref-accounted terms name r st (accepted-checks (SetRef name r) st e) a
+  effect-accounted terms (SetRef name r) st e a = set-ref-accounted terms name r st (accepted-checks terms (SetRef name r) st e) a
   effect-accounted terms (RemoveRef name) st e a =
       let b : Accounted (st .metadata .snapshots) (st .metadata .snapshotLog) (st .log ++ (RemoveRef name ∷ [])) = logs-quiet (RemoveRef name) (λ id. refl) a in
       by-test AccountedState (isMain name) (λ q. b) (λ q. by-test AccountedState (isSome (refNamed name (st .metadata .refs))) (λ p. b) (λ p. a))

@@ -15,6 +15,7 @@ use Rattle.rules.specs.Run.{run}
 use Rattle.rules.specs.Replay.{strip}
 use Rattle.rules.specs.Layout.{laidMetadata}
 use Rattle.rules.specs.Kinds.{laidUpdates}
+use Rattle.rules.specs.Window.{defaultTolerance}
 use Rattle.rules.specs.Answer.{readTerms, laidOutcome, answer}
 use Rattle.rules.specs.Examples.{terms, three}
 use Rattle.rules.proofs.Examples.{computed}
@@ -25,7 +26,7 @@ use Rattle.rules.proofs.AnswerReplays.{again, Replays, answer-replays}
 
 -- the terms of the examples as a record, beside which an empty limit text is lent
 abbrev pub callTerms : RunTerms
-callTerms = record { «clock_ms» = record { 0 = pos 500000 }; «has_file» = false; file = noFileName }
+callTerms = record { «clock_ms» = record { 0 = pos 500000 }; «tolerance_ms» = record { 0 = defaultTolerance }; «has_file» = false; file = noFileName }
 
 pub call-terms-read : readTerms callTerms [] ≡ terms
 call-terms-read = refl

@@ -23,7 +23,7 @@ use Rattle.rules.specs.Kinds.{readUpdate, readUpdates, laidUpdates}
 use Rattle.rules.specs.Answer.{readTerms, laidOutcome, answer}
 use Rattle.rules.proofs.Checks.{by-test}
 use Rattle.rules.proofs.Relaid.{length-counted}
-use Rattle.rules.proofs.Places.{Reply, Replies, reply-at-start, run-replies}
+use Rattle.rules.proofs.Places.{Reply, Replies, reply-of-start, run-replies}
 use Rattle.rules.proofs.SoundRun.{accepted-formed}
 use Rattle.rules.proofs.Replay.{log-fits}
 use Rattle.rules.proofs.Laid.{tidy-metadata}
@@ -158,7 +158,7 @@ read-count us = length-map (counted noUpdate (us .items) (us .count)) readUpdate
 laid-reply : (m : TableMetadata) (count : ℕ) (o : Outcome) → Replies count o → Reply count (laidOutcome m o .number) (laidOutcome m o .place)
 unfolding laidOutcome
 laid-reply m count (Refused number place) h = h .1
-laid-reply m count (Accepted m′ log expired) h = reply-at-start count accepted (omega arith)
+laid-reply m count (Accepted m′ log expired) h = reply-of-start count accepted refl
 
 pub answer-reply : (m : TableMetadata) (us : UpdateList) (terms : RunTerms) (limit : List ℕ) → Reply (us .count) (answer m us terms limit .number) (answer m us terms limit .place)
 unfolding answer
@@ -166,4 +166,4 @@ answer-reply m us terms limit =
     laid-reply m (us .count) (cond (isTidyMetadata m) (run (readTerms terms limit) (readMetadata m) (readUpdates us)) (Refused startNotFormed 0))
     (by-test (Replies (us .count)) (isTidyMetadata m)
     (λ t. rw (read-count us) at (run-replies (readTerms terms limit) (readMetadata m) (readUpdates us)))
-    (λ f. (omega arith, reply-at-start (us .count) startNotFormed (omega arith))))
+    (λ f. (omega arith, reply-of-start (us .count) startNotFormed refl)))

@@ -112,15 +112,15 @@ add-apart s st k p =
 step-apart : (st st′ : State) (new : List Snapshot) → Step st st′ new → Passes (st .metadata) → Passes (st′ .metadata)
 step-apart st st′ new (leaves k) p = apart-kept st st′ k p
 step-apart st st′ new (removes ids k) p = apart-kept (withoutSnapshots ids st) st′ k (without-apart ids st p)
-step-apart st st′ new (adds s e k) p = apart-kept (addSnapshot s st) st′ k (add-apart s st (add-ranged s st (p .version) e) p)
+step-apart st st′ new (adds tolerance s e k) p = apart-kept (addSnapshot s st) st′ k (add-apart s st (add-ranged tolerance s st (p .version) e) p)
 
 run-apart : (terms : Terms) (us : List Update) (place : ℕ) (st st′ : State) → runFrom terms us place st ≡ Reached st′ → Passes (st .metadata) → Passes (st′ .metadata)
 unfolding runFrom
 run-apart terms [] place st st′ e p = subst (λ (x : State). Passes (x .metadata)) (same-state st st′ e) p
 run-apart terms (u ∷ us) place st st′ e p =
-    let k = only-then (eqb (updateNumber u st) accepted) (not-reached (updateNumber u st) place st′) e in
+    let k = only-then (eqb (updateNumber terms u st) accepted) (not-reached (updateNumber terms u st) place st′) e in
     let next : State = effect terms u st in
-    run-apart terms us (suc place) next st′ (k .1) (step-apart st next _ (effect-step terms u st (eqb-true (updateNumber u st) accepted (k .0)) (p .version)) p)
+    run-apart terms us (suc place) next st′ (k .1) (step-apart st next _ (effect-step terms u st (eqb-true (updateNumber terms u st) accepted (k .0)) (p .version)) p)
 
 -- the close leaves version, next row id and snapshots
 closed-apart : (terms : Terms) (st : State) → Passes (st .metadata) → Passes (closed terms (st .log) st)

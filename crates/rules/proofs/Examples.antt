@@ -16,12 +16,12 @@ use Rattle.rules.specs.OrderUpdates.{addSortOrderChecks, addSortOrder, s
 use Rattle.rules.specs.Updates.{checks, updateNumber, effect}
 use Rattle.rules.specs.Close.{isDefaultUnfit, intermediates, rebuilt, endsElsewhere, expired, staying, closeChecks, closed}
 use Rattle.rules.specs.Moment.{currentAt, entriesRead, isWhole, removesAndAdds}
-use Rattle.rules.specs.Run.{listSum, runFrom, close, run}
+use Rattle.rules.specs.Run.{listSum, runFrom, close, startChecks, run}
 use Rattle.rules.specs.Examples.{Example, replyTo, examples}
 
 -- a run, such that whoever opens this opens every definition that a run comes to
 unfoldable pub computed : Terms → Metadata → List Update → Outcome
-unfolding limitOf trimmed isBefore snapshotsFormed refsFormed snapshotLogFormed metadataLogFormed schemasFormed ordersFormed refsHeld mainAgrees currentSchemaHeld defaultOrderHeld fieldsFormed metadataFormed updateFormed logsAddition logsMain logsRemoval assignUuid upgradeFormatVersionChecks upgradeFormatVersion setLocation addSnapshotChecks addSnapshot removeSnapshots setRefChecks setRef setBranchSnapshotChecks setBranchSnapshot removeRef addSchemaChecks addSchema setCurrentSchemaChecks setCurrentSchema removeSchemasChecks removeSchemas addSortOrderChecks addSortOrder setDefaultSortOrderChecks setDefaultSortOrder checks updateNumber effect isDefaultUnfit intermediates rebuilt endsElsewhere expired staying closeChecks closed listSum runFrom close run
+unfolding limitOf trimmed isBefore snapshotsFormed refsFormed snapshotLogFormed metadataLogFormed schemasFormed ordersFormed refsHeld mainAgrees currentSchemaHeld defaultOrderHeld fieldsFormed metadataFormed updateFormed logsAddition logsMain logsRemoval assignUuid upgradeFormatVersionChecks upgradeFormatVersion setLocation addSnapshotChecks addSnapshot removeSnapshots setRefChecks setRef setBranchSnapshotChecks setBranchSnapshot removeRef addSchemaChecks addSchema setCurrentSchemaChecks setCurrentSchema removeSchemasChecks removeSchemas addSortOrderChecks addSortOrder setDefaultSortOrderChecks setDefaultSortOrder checks updateNumber effect isDefaultUnfit intermediates rebuilt endsElsewhere expired staying closeChecks closed listSum runFrom close startChecks run
 computed terms m us = run terms m us
 
 pub examples-hold : map (λ (e : Example). replyTo (e .asked)) examples ≡ map (λ (e : Example). e .reply) examples

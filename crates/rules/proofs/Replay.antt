@@ -29,11 +29,11 @@ use Rattle.rules.proofs.ReplaySchemas.{add-schema-replays, set-current-
 use Rattle.rules.proofs.ReplayOrders.{add-sort-order-replays, set-default-sort-order-replays}
 use Rattle.rules.proofs.ReplayClose.{close-alike}
 use Rattle.rules.proofs.SoundRun.{not-reached, same-state}
-use Rattle.rules.proofs.AcceptedRun.{Ends, run-accepted}
+use Rattle.rules.proofs.AcceptedRun.{Ends, run-accepted, run-started}
 
 -- ---- an accepted update
 
-update-replays : (terms : Terms) (u : Update) (st : State) → updateNumber u st ≡ 0 → Sound (st .metadata) → Replays terms (weight u) st (effect terms u st)
+update-replays : (terms : Terms) (u : Update) (st : State) → updateNumber terms u st ≡ 0 → Sound (st .metadata) → Replays terms (weight u) st (effect terms u st)
 unfolding effect updateFormed
 update-replays terms (AssignUuid uuid) st e k = uuid-replays terms uuid st e
 update-replays terms (UpgradeFormatVersion v) st e k = version-replays terms v st e
@@ -48,7 +48,7 @@ update-replays terms (SetCurrentSchema id) st e k = set-current-schema-replays t
 update-replays terms (RemoveSchemas ids) st e k = remove-schemas-replays terms ids st e k
 update-replays terms (AddSortOrder o) st e k = add-sort-order-replays terms o st e k
 update-replays terms (SetDefaultSortOrder id) st e k = set-default-sort-order-replays terms id st e
-update-replays terms (NotFormed counts) st e k = absurd (false≢true (accepted-form (NotFormed counts) st e))
+update-replays terms (NotFormed counts) st e k = absurd (false≢true (accepted-form terms (NotFormed counts) st e))
 
 -- ---- the updates of a run, from any state and at any place
 
@@ -56,8 +56,8 @@ updates-replay : (terms : Terms) (us : List Update) (place : ℕ) (st st′ : St
 unfolding runFrom listSum
 updates-replay terms [] place st st′ e k = subst (Replays terms 0 st) (same-state st st′ e) (nothing terms 0 st)
 updates-replay terms (u ∷ us) place st st′ e k =
-    let t = only-then (eqb (updateNumber u st) 0) (not-reached (updateNumber u st) place st′) e in
-    let n : updateNumber u st ≡ 0 = eqb-true (updateNumber u st) 0 (t .0) in
+    let t = only-then (eqb (updateNumber terms u st) 0) (not-reached (updateNumber terms u st) place st′) e in
+    let n : updateNumber terms u st ≡ 0 = eqb-true (updateNumber terms u st) 0 (t .0) in
     followed terms (weight u) (listSum us) st (effect terms u st) st′
     (update-replays terms u st n k)
     (updates-replay terms us (suc place) (effect terms u st) st′ (t .1) (effect-sound terms u st n k))
@@ -85,9 +85,8 @@ module _ (terms : Terms) (m : Metadata) (us : List Update) (m′ : Metadata) (lo
   reached-again = rw log-is at (replays .again 0 [] (λ id. refl))
 
   accepted-again : run terms m log ≡ Accepted m′ (strip log) expired
-  unfolding run
   accepted-again =
-      rw (ends .formed, le-leb (listSum log) listRoom log-light, reached-again)
+      rw (run-started terms m log (ends .formed) log-light (ends .tolerated), reached-again)
       (rw (ends .closes .logged) at (close-alike terms m′ log expired (length log) (ends .end) (ends .closes)))
 
 -- ---- the theorems

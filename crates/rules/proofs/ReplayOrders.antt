@@ -38,12 +38,12 @@ renumbered-formed id o n h =
     whole (nonNeg id) rest (n, parts (nonNeg (o .id)) rest h .1)
 
 -- neither the checks nor the search for an equal order look at the offered id
-renumbered-accepted : (id : ℤ) (o : SortOrder) (st : State) → nonNeg id ≡ true → updateNumber (AddSortOrder o) st ≡ 0 → updateNumber (AddSortOrder (numbered-as id o)) st ≡ 0
+renumbered-accepted : (terms : Terms) (id : ℤ) (o : SortOrder) (st : State) → nonNeg id ≡ true → updateNumber terms (AddSortOrder o) st ≡ 0 → updateNumber terms (AddSortOrder (numbered-as id o)) st ≡ 0
 unfolding checks addSortOrderChecks updateFormed
-renumbered-accepted id o st n e =
-    accepted-if (AddSortOrder (numbered-as id o)) st
-    (renumbered-formed id o n (accepted-form (AddSortOrder o) st e))
-    (accepted-checks (AddSortOrder o) st e)
+renumbered-accepted terms id o st n e =
+    accepted-if terms (AddSortOrder (numbered-as id o)) st
+    (renumbered-formed id o n (accepted-form terms (AddSortOrder o) st e))
+    (accepted-checks terms (AddSortOrder o) st e)
 
 new-id-nonNeg : (o : SortOrder) (l : List SortOrder) → nonNeg (newOrderId o l) ≡ true
 new-id-nonNeg o l = by-test (λ (z : ℤ). nonNeg z ≡ true) (isEmpty (o .fields)) (λ e. refl) (λ e. suc-nonNeg (highest (orderIds l)) (highest-nonNeg (orderIds l)))
@@ -66,18 +66,18 @@ reused-nonNeg o l id h q = go (first same l) (all-first orderFormed same l h) q
     go none k q = absurd (let z : _≡_ {A = ℕ} 0 1 = cc in omega arith)
     go (some x) k q = let s : x .id ≡ id = cc in rw s at (held-id-nonNeg x k)
 
-pub add-sort-order-replays : (terms : Terms) (o : SortOrder) (st : State) → updateNumber (AddSortOrder o) st ≡ 0 → Sound (st .metadata) → Replays terms 1 st (effect terms (AddSortOrder o) st)
+pub add-sort-order-replays : (terms : Terms) (o : SortOrder) (st : State) → updateNumber terms (AddSortOrder o) st ≡ 0 → Sound (st .metadata) → Replays terms 1 st (effect terms (AddSortOrder o) st)
 unfolding effect addSortOrder strip
 add-sort-order-replays terms o st e k = go (reusedOrder o (st .metadata .orders)) refl
   where
     given : SortOrder
     given = numbered-as (newOrderId o (st .metadata .orders)) o
 
-    fresh : updateNumber (AddSortOrder given) st ≡ 0
-    fresh = renumbered-accepted (newOrderId o (st .metadata .orders)) o st (new-id-nonNeg o (st .metadata .orders)) e
+    fresh : updateNumber terms (AddSortOrder given) st ≡ 0
+    fresh = renumbered-accepted terms (newOrderId o (st .metadata .orders)) o st (new-id-nonNeg o (st .metadata .orders)) e
 
-    held : (id : ℤ) → reusedOrder o (st .metadata .orders) ≡ some id → updateNumber (AddSortOrder (numbered-as id o)) st ≡ 0
-    held id q = renumbered-accepted id o st (reused-nonNeg o (st .metadata .orders) id (held-orders-formed (st .metadata .orders) (k .orders)) q) e
+    held : (id : ℤ) → reusedOrder o (st .metadata .orders) ≡ some id → updateNumber terms (AddSortOrder (numbered-as id o)) st ≡ 0
+    held id q = renumbered-accepted terms id o st (reused-nonNeg o (st .metadata .orders) id (held-orders-formed (st .metadata .orders) (k .orders)) q) e
 
     reuse : (id : ℤ) → reusedOrder o (st .metadata .orders) ≡ some id → (t : Bool) → someWith (eqZ id) (st .added .order) ≡ t → Replays terms 1 st (cond t st (logged (AddSortOrder (numbered-as id o)) (addedOrder id st)))
     reuse id q true r = nothing terms 1 st
@@ -92,19 +92,19 @@ add-sort-order-replays terms o st e k = go (reusedOrder o (st .metadata .orders)
 abbrev orderLogged : ℤ → State → ℤ
 orderLogged id st = choiceLogged (chosen id (st .added .order)) (st .added .order)
 
-order-rechosen : (id : ℤ) (st : State) → updateNumber (SetDefaultSortOrder id) st ≡ 0
+order-rechosen : (terms : Terms) (id : ℤ) (st : State) → updateNumber terms (SetDefaultSortOrder id) st ≡ 0
     → Rechosen id (st .added .order) (st .metadata .fields .defaultOrder) (holdsOrder (st .metadata .orders)) (orderLogged id st)
 unfolding checks setDefaultSortOrderChecks updateFormed
-order-rechosen id st e =
+order-rechosen terms id st e =
     rechosen id (st .added .order) (st .metadata .fields .defaultOrder) (holdsOrder (st .metadata .orders))
-    (accepted-form (SetDefaultSortOrder id) st e)
-    (accepted-checks (SetDefaultSortOrder id) st e)
+    (accepted-form terms (SetDefaultSortOrder id) st e)
+    (accepted-checks terms (SetDefaultSortOrder id) st e)
 
-order-accepted : (id : ℤ) (st : State) → updateNumber (SetDefaultSortOrder id) st ≡ 0 → updateNumber (SetDefaultSortOrder (orderLogged id st)) st ≡ 0
+order-accepted : (terms : Terms) (id : ℤ) (st : State) → updateNumber terms (SetDefaultSortOrder id) st ≡ 0 → updateNumber terms (SetDefaultSortOrder (orderLogged id st)) st ≡ 0
 unfolding checks setDefaultSortOrderChecks updateFormed
-order-accepted id st e = accepted-if (SetDefaultSortOrder (orderLogged id st)) st (order-rechosen id st e .formed) (order-rechosen id st e .passes)
+order-accepted terms id st e = accepted-if terms (SetDefaultSortOrder (orderLogged id st)) st (order-rechosen terms id st e .formed) (order-rechosen terms id st e .passes)
 
-pub set-default-sort-order-replays : (terms : Terms) (id : ℤ) (st : State) → updateNumber (SetDefaultSortOrder id) st ≡ 0 → Replays terms 1 st (effect terms (SetDefaultSortOrder id) st)
+pub set-default-sort-order-replays : (terms : Terms) (id : ℤ) (st : State) → updateNumber terms (SetDefaultSortOrder id) st ≡ 0 → Replays terms 1 st (effect terms (SetDefaultSortOrder id) st)
 unfolding effect setDefaultSortOrder strip
 set-default-sort-order-replays terms id st e = go (eqZ (chosen id (st .added .order)) (st .metadata .fields .defaultOrder)) refl
   where
@@ -113,4 +113,4 @@ set-default-sort-order-replays terms id st e = go (eqZ (chosen id (st .added .or
 
     go : (t : Bool) → eqZ (chosen id (st .added .order)) (st .metadata .fields .defaultOrder) ≡ t → Replays terms 1 st (cond t st set)
     go true q = nothing terms 1 st
-    go false q = once terms (SetDefaultSortOrder (orderLogged id st)) st set refl (order-accepted id st e) refl (λ l h. rw (order-rechosen id st e .same, q))
+    go false q = once terms (SetDefaultSortOrder (orderLogged id st)) st set refl (order-accepted terms id st e) refl (λ l h. rw (order-rechosen terms id st e .same, q))

@@ -48,7 +48,7 @@ module _ (terms : Terms) (name : List ℕ) (r : Reference) (st : State) where
   taken-alike true l h = rw h
   taken-alike false l h = rw h
 
-  pub set-ref-replays : updateNumber (SetRef name r) st ≡ 0 → Replays terms 1 st (effect terms (SetRef name r) st)
+  pub set-ref-replays : updateNumber terms (SetRef name r) st ≡ 0 → Replays terms 1 st (effect terms (SetRef name r) st)
   unfolding effect setRef strip
   set-ref-replays e = go (isHeldRef name r (st .metadata .refs)) refl
     where
@@ -62,30 +62,30 @@ held-refs-formed : (l : List NamedRef) → refsFormed l ≡ true → all refForm
 unfolding refsFormed
 held-refs-formed l h = table-parts refRoom refFormed refBelow l h .1
 
-module _ (name : List ℕ) (s : Snapshot) (st : State) (e : updateNumber (SetBranchSnapshot name s) st ≡ 0) where
+module _ (terms : Terms) (name : List ℕ) (s : Snapshot) (st : State) (e : updateNumber terms (SetBranchSnapshot name s) st ≡ 0) where
   abbrev commit : Reference
   commit = committed name (s .id) (st .metadata .refs)
 
   commit-form : refNameFormed name && snapshotFormed s ≡ true
   unfolding updateFormed
-  commit-form = accepted-form (SetBranchSnapshot name s) st e
+  commit-form = accepted-form terms (SetBranchSnapshot name s) st e
 
   -- the checks of a commit, after 13, are those of its two parts
-  pub commit-checks : firstOf (addSnapshotChecks s st ++ setRefChecks name commit (addSnapshot s st)) ≡ 0
+  pub commit-checks : firstOf (addSnapshotChecks (terms .tolerance) s st ++ setRefChecks name commit (addSnapshot s st)) ≡ 0
   unfolding checks setBranchSnapshotChecks
   commit-checks =
       passed-after
       ((isTag name (st .metadata .refs), commitOnTag) ∷ [])
-      (addSnapshotChecks s st ++ setRefChecks name commit (addSnapshot s st))
+      (addSnapshotChecks (terms .tolerance) s st ++ setRefChecks name commit (addSnapshot s st))
       refl
-      (accepted-checks (SetBranchSnapshot name s) st e)
+      (accepted-checks terms (SetBranchSnapshot name s) st e)
 
-  commit-adds : updateNumber (AddSnapshot s) st ≡ 0
+  commit-adds : updateNumber terms (AddSnapshot s) st ≡ 0
   unfolding checks updateFormed
   commit-adds =
-      accepted-if (AddSnapshot s) st
+      accepted-if terms (AddSnapshot s) st
       (and-right (refNameFormed name) (snapshotFormed s) commit-form)
-      (passed-before (addSnapshotChecks s st) (setRefChecks name commit (addSnapshot s st)) commit-checks)
+      (passed-before (addSnapshotChecks (terms .tolerance) s st) (setRefChecks name commit (addSnapshot s st)) commit-checks)
 
   commit-set-formed : Sound (st .metadata) → updateFormed (SetRef name commit) ≡ true
   unfolding updateFormed
@@ -93,24 +93,24 @@ module _ (name : List ℕ) (s : Snapshot) (st : State) (e : updateNumber (SetBra
       let n : nonNeg (s .id) ≡ true = parts (nonNeg (s .id)) (ifSome nonNeg (s .parent) ∷ nonNeg (s .sequence .0) ∷ []) (and-right (refNameFormed name) (snapshotFormed s) commit-form) .0 in
       both (and-left (refNameFormed name) (snapshotFormed s) commit-form) (committed-formed name (s .id) (st .metadata .refs) n (held-refs-formed (st .metadata .refs) (k .refs)))
 
-  commit-sets : Sound (st .metadata) → updateNumber (SetRef name commit) (addSnapshot s st) ≡ 0
+  commit-sets : Sound (st .metadata) → updateNumber terms (SetRef name commit) (addSnapshot s st) ≡ 0
   unfolding checks
   commit-sets k =
-      accepted-if (SetRef name commit) (addSnapshot s st)
+      accepted-if terms (SetRef name commit) (addSnapshot s st)
       (commit-set-formed k)
-      (passed-after (addSnapshotChecks s st) (setRefChecks name commit (addSnapshot s st)) (add-snapshot-numbered s st) commit-checks)
+      (passed-after (addSnapshotChecks (terms .tolerance) s st) (setRefChecks name commit (addSnapshot s st)) (add-snapshot-numbered (terms .tolerance) s st) commit-checks)
 
 -- a commit is an addition and a ref, and so are its two entries
-pub set-branch-snapshot-replays : (terms : Terms) (name : List ℕ) (s : Snapshot) (st : State) → updateNumber (SetBranchSnapshot name s) st ≡ 0 → Sound (st .metadata) → Replays terms 2 st (effect terms (SetBranchSnapshot name s) st)
+pub set-branch-snapshot-replays : (terms : Terms) (name : List ℕ) (s : Snapshot) (st : State) → updateNumber terms (SetBranchSnapshot name s) st ≡ 0 → Sound (st .metadata) → Replays terms 2 st (effect terms (SetBranchSnapshot name s) st)
 unfolding effect setBranchSnapshot
 set-branch-snapshot-replays terms name s st e k =
     followed terms 1 1 st (addSnapshot s st) (effect terms (SetBranchSnapshot name s) st)
-    (add-snapshot-replays terms s st (commit-adds name s st e))
-    (set-ref-replays terms name (commit name s st e) (addSnapshot s st) (commit-sets name s st e k))
+    (add-snapshot-replays terms s st (commit-adds terms name s st e))
+    (set-ref-replays terms name (commit terms name s st e) (addSnapshot s st) (commit-sets terms name s st e k))
 
 -- ---- remove ref
 
-pub remove-ref-replays : (terms : Terms) (name : List ℕ) (st : State) → updateNumber (RemoveRef name) st ≡ 0 → Replays terms 1 st (effect terms (RemoveRef name) st)
+pub remove-ref-replays : (terms : Terms) (name : List ℕ) (st : State) → updateNumber terms (RemoveRef name) st ≡ 0 → Replays terms 1 st (effect terms (RemoveRef name) st)
 unfolding effect removeRef strip
 remove-ref-replays terms name st e = go (isMain name) refl
   where

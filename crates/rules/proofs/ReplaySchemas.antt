@@ -37,22 +37,22 @@ renumbered-formed id s n h =
     whole (nonNeg id) rest (n, parts (nonNeg (s .id)) rest h .1)
 
 -- neither the checks nor the search for an equal schema look at the offered id
-renumbered-accepted : (id : ℤ) (s : Schema) (st : State) → nonNeg id ≡ true → updateNumber (AddSchema s) st ≡ 0 → updateNumber (AddSchema (numbered-as id s)) st ≡ 0
+renumbered-accepted : (terms : Terms) (id : ℤ) (s : Schema) (st : State) → nonNeg id ≡ true → updateNumber terms (AddSchema s) st ≡ 0 → updateNumber terms (AddSchema (numbered-as id s)) st ≡ 0
 unfolding checks addSchemaChecks updateFormed
-renumbered-accepted id s st n e =
-    accepted-if (AddSchema (numbered-as id s)) st
-    (renumbered-formed id s n (accepted-form (AddSchema s) st e))
-    (accepted-checks (AddSchema s) st e)
+renumbered-accepted terms id s st n e =
+    accepted-if terms (AddSchema (numbered-as id s)) st
+    (renumbered-formed id s n (accepted-form terms (AddSchema s) st e))
+    (accepted-checks terms (AddSchema s) st e)
 
-pub add-schema-replays : (terms : Terms) (s : Schema) (st : State) → updateNumber (AddSchema s) st ≡ 0 → Replays terms 1 st (effect terms (AddSchema s) st)
+pub add-schema-replays : (terms : Terms) (s : Schema) (st : State) → updateNumber terms (AddSchema s) st ≡ 0 → Replays terms 1 st (effect terms (AddSchema s) st)
 unfolding effect addSchema strip
 add-schema-replays terms s st e = go (reusedSchema s (st .metadata .schemas)) refl
   where
     given : Schema
     given = numbered-as (sucℤ (highest (schemaIds (st .metadata .schemas)))) s
 
-    fresh : updateNumber (AddSchema given) st ≡ 0
-    fresh = renumbered-accepted (sucℤ (highest (schemaIds (st .metadata .schemas)))) s st (suc-nonNeg (highest (schemaIds (st .metadata .schemas))) (highest-nonNeg (schemaIds (st .metadata .schemas)))) e
+    fresh : updateNumber terms (AddSchema given) st ≡ 0
+    fresh = renumbered-accepted terms (sucℤ (highest (schemaIds (st .metadata .schemas)))) s st (suc-nonNeg (highest (schemaIds (st .metadata .schemas))) (highest-nonNeg (schemaIds (st .metadata .schemas)))) e
 
     reuse : (id : ℤ) → reusedSchema s (st .metadata .schemas) ≡ some id → (t : Bool) → someWith (eqZ id) (st .added .schema) ≡ t → Replays terms 1 st (cond t st (logged (AddSchema s) (addedSchema id st)))
     reuse id q true r = nothing terms 1 st
@@ -67,19 +67,19 @@ add-schema-replays terms s st e = go (reusedSchema s (st .metadata .schemas)) re
 abbrev schemaLogged : ℤ → State → ℤ
 schemaLogged id st = choiceLogged (chosen id (st .added .schema)) (st .added .schema)
 
-schema-rechosen : (id : ℤ) (st : State) → updateNumber (SetCurrentSchema id) st ≡ 0
+schema-rechosen : (terms : Terms) (id : ℤ) (st : State) → updateNumber terms (SetCurrentSchema id) st ≡ 0
     → Rechosen id (st .added .schema) (st .metadata .fields .currentSchema) (holdsSchema (st .metadata .schemas)) (schemaLogged id st)
 unfolding checks setCurrentSchemaChecks updateFormed
-schema-rechosen id st e =
+schema-rechosen terms id st e =
     rechosen id (st .added .schema) (st .metadata .fields .currentSchema) (holdsSchema (st .metadata .schemas))
-    (accepted-form (SetCurrentSchema id) st e)
-    (accepted-checks (SetCurrentSchema id) st e)
+    (accepted-form terms (SetCurrentSchema id) st e)
+    (accepted-checks terms (SetCurrentSchema id) st e)
 
-schema-accepted : (id : ℤ) (st : State) → updateNumber (SetCurrentSchema id) st ≡ 0 → updateNumber (SetCurrentSchema (schemaLogged id st)) st ≡ 0
+schema-accepted : (terms : Terms) (id : ℤ) (st : State) → updateNumber terms (SetCurrentSchema id) st ≡ 0 → updateNumber terms (SetCurrentSchema (schemaLogged id st)) st ≡ 0
 unfolding checks setCurrentSchemaChecks updateFormed
-schema-accepted id st e = accepted-if (SetCurrentSchema (schemaLogged id st)) st (schema-rechosen id st e .formed) (schema-rechosen id st e .passes)
+schema-accepted terms id st e = accepted-if terms (SetCurrentSchema (schemaLogged id st)) st (schema-rechosen terms id st e .formed) (schema-rechosen terms id st e .passes)
 
-pub set-current-schema-replays : (terms : Terms) (id : ℤ) (st : State) → updateNumber (SetCurrentSchema id) st ≡ 0 → Replays terms 1 st (effect terms (SetCurrentSchema id) st)
+pub set-current-schema-replays : (terms : Terms) (id : ℤ) (st : State) → updateNumber terms (SetCurrentSchema id) st ≡ 0 → Replays terms 1 st (effect terms (SetCurrentSchema id) st)
 unfolding effect setCurrentSchema strip
 set-current-schema-replays terms id st e = go (eqZ (chosen id (st .added .schema)) (st .metadata .fields .currentSchema)) refl
   where
@@ -88,7 +88,7 @@ set-current-schema-replays terms id st e = go (eqZ (chosen id (st .added .schema
 
     go : (t : Bool) → eqZ (chosen id (st .added .schema)) (st .metadata .fields .currentSchema) ≡ t → Replays terms 1 st (cond t st set)
     go true q = nothing terms 1 st
-    go false q = once terms (SetCurrentSchema (schemaLogged id st)) st set refl (schema-accepted id st e) refl (λ l h. rw (schema-rechosen id st e .same, q))
+    go false q = once terms (SetCurrentSchema (schemaLogged id st)) st set refl (schema-accepted terms id st e) refl (λ l h. rw (schema-rechosen terms id st e .same, q))
 
 -- ---- remove schemas
 
@@ -100,15 +100,15 @@ unfolding schemasFormed
 schemas-ascending l h = table-parts schemaRoom schemaFormed schemaBelow l h .2
 
 -- the current schema is not in the list, so it is not among the held ids of the list
-held-accepted : (ids : List ℤ) (st : State) → updateNumber (RemoveSchemas ids) st ≡ 0 → Sound (st .metadata) → updateNumber (RemoveSchemas (heldSchemas ids (st .metadata .schemas))) st ≡ 0
+held-accepted : (terms : Terms) (ids : List ℤ) (st : State) → updateNumber terms (RemoveSchemas ids) st ≡ 0 → Sound (st .metadata) → updateNumber terms (RemoveSchemas (heldSchemas ids (st .metadata .schemas))) st ≡ 0
 unfolding checks updateFormed removeSchemasChecks
-held-accepted ids st e k =
-    let p : isIn ids (st .metadata .fields .currentSchema) ≡ false = passed ((isIn ids (st .metadata .fields .currentSchema), currentSchemaRemoved) ∷ []) refl (accepted-checks (RemoveSchemas ids) st e) .0 in
-    accepted-if (RemoveSchemas (heldSchemas ids (st .metadata .schemas))) st
-    (held-formed idOf ids (st .metadata .schemas) (schemas-ascending (st .metadata .schemas) (k .schemas)) (accepted-form (RemoveSchemas ids) st e))
+held-accepted terms ids st e k =
+    let p : isIn ids (st .metadata .fields .currentSchema) ≡ false = passed ((isIn ids (st .metadata .fields .currentSchema), currentSchemaRemoved) ∷ []) refl (accepted-checks terms (RemoveSchemas ids) st e) .0 in
+    accepted-if terms (RemoveSchemas (heldSchemas ids (st .metadata .schemas))) st
+    (held-formed idOf ids (st .metadata .schemas) (schemas-ascending (st .metadata .schemas) (k .schemas)) (accepted-form terms (RemoveSchemas ids) st e))
     (rw (held-not-in idOf ids (st .metadata .schemas) (st .metadata .fields .currentSchema) p))
 
-pub remove-schemas-replays : (terms : Terms) (ids : List ℤ) (st : State) → updateNumber (RemoveSchemas ids) st ≡ 0 → Sound (st .metadata) → Replays terms 1 st (effect terms (RemoveSchemas ids) st)
+pub remove-schemas-replays : (terms : Terms) (ids : List ℤ) (st : State) → updateNumber terms (RemoveSchemas ids) st ≡ 0 → Sound (st .metadata) → Replays terms 1 st (effect terms (RemoveSchemas ids) st)
 unfolding effect removeSchemas strip
 remove-schemas-replays terms ids st e k = go (isEmpty ids)
   where
@@ -125,4 +125,4 @@ remove-schemas-replays terms ids st e k = go (isEmpty ids)
 
     go : (t : Bool) → Replays terms 1 st (cond t st removed)
     go true = nothing terms 1 st
-    go false = once terms (RemoveSchemas held) st removed refl (held-accepted ids st e k) refl (λ l h. again (isEmpty held) refl l)
+    go false = once terms (RemoveSchemas held) st removed refl (held-accepted terms ids st e k) refl (λ l h. again (isEmpty held) refl l)

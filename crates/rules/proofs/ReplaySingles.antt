@@ -20,7 +20,7 @@ use Rattle.rules.proofs.ReplaySteps.{accepted-if, Replays, nothing, onc
 
 -- ---- uuid
 
-pub uuid-replays : (terms : Terms) (uuid : List ℕ) (st : State) → updateNumber (AssignUuid uuid) st ≡ 0 → Replays terms 1 st (effect terms (AssignUuid uuid) st)
+pub uuid-replays : (terms : Terms) (uuid : List ℕ) (st : State) → updateNumber terms (AssignUuid uuid) st ≡ 0 → Replays terms 1 st (effect terms (AssignUuid uuid) st)
 unfolding effect assignUuid strip
 uuid-replays terms uuid st e = go (sameBytes uuid (st .metadata .fields .uuid)) refl
   where
@@ -30,7 +30,7 @@ uuid-replays terms uuid st e = go (sameBytes uuid (st .metadata .fields .uuid)) 
 
 -- ---- version
 
-pub version-replays : (terms : Terms) (v : ℕ) (st : State) → updateNumber (UpgradeFormatVersion v) st ≡ 0 → Replays terms 1 st (effect terms (UpgradeFormatVersion v) st)
+pub version-replays : (terms : Terms) (v : ℕ) (st : State) → updateNumber terms (UpgradeFormatVersion v) st ≡ 0 → Replays terms 1 st (effect terms (UpgradeFormatVersion v) st)
 unfolding effect upgradeFormatVersion strip
 version-replays terms v st e = go (eqb v (st .metadata .fields .version)) refl
   where
@@ -70,13 +70,13 @@ trimmed-shorter (b ∷ bs) = go (all isSlash (b ∷ bs)) (trimmed-shorter bs)
     go true ih = omega arith
     go false ih = omega arith
 
-trimmed-accepted : (location : List ℕ) (st : State) → updateNumber (SetLocation location) st ≡ 0 → updateNumber (SetLocation (trimmed location)) st ≡ 0
+trimmed-accepted : (terms : Terms) (location : List ℕ) (st : State) → updateNumber terms (SetLocation location) st ≡ 0 → updateNumber terms (SetLocation (trimmed location)) st ≡ 0
 unfolding checks updateFormed
-trimmed-accepted location st e =
-    let h : length location ≤ 96 = leb-true (length location) 96 (accepted-form (SetLocation location) st e) in
-    accepted-if (SetLocation (trimmed location)) st (le-leb (length (trimmed location)) 96 (omega (arith, trimmed-shorter location))) refl
+trimmed-accepted terms location st e =
+    let h : length location ≤ 96 = leb-true (length location) 96 (accepted-form terms (SetLocation location) st e) in
+    accepted-if terms (SetLocation (trimmed location)) st (le-leb (length (trimmed location)) 96 (omega (arith, trimmed-shorter location))) refl
 
-pub location-replays : (terms : Terms) (location : List ℕ) (st : State) → updateNumber (SetLocation location) st ≡ 0 → Replays terms 1 st (effect terms (SetLocation location) st)
+pub location-replays : (terms : Terms) (location : List ℕ) (st : State) → updateNumber terms (SetLocation location) st ≡ 0 → Replays terms 1 st (effect terms (SetLocation location) st)
 unfolding effect setLocation strip
 location-replays terms location st e = go (sameBytes (trimmed location) (st .metadata .fields .location)) refl
   where
@@ -85,4 +85,4 @@ location-replays terms location st e = go (sameBytes (trimmed location) (st .met
 
     go : (t : Bool) → sameBytes (trimmed location) (st .metadata .fields .location) ≡ t → Replays terms 1 st (cond t st moved)
     go true q = nothing terms 1 st
-    go false q = once terms (SetLocation (trimmed location)) st moved refl (trimmed-accepted location st e) refl (λ l h. rw (trimmed-again location, q))
+    go false q = once terms (SetLocation (trimmed location)) st moved refl (trimmed-accepted terms location st e) refl (λ l h. rw (trimmed-again location, q))

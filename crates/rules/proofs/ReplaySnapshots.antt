@@ -21,7 +21,7 @@ use Rattle.rules.proofs.ReplaySteps.{accepted-if, Replays, nothing, onc
 
 -- ---- add snapshot
 
-pub add-snapshot-replays : (terms : Terms) (s : Snapshot) (st : State) → updateNumber (AddSnapshot s) st ≡ 0 → Replays terms 1 st (addSnapshot s st)
+pub add-snapshot-replays : (terms : Terms) (s : Snapshot) (st : State) → updateNumber terms (AddSnapshot s) st ≡ 0 → Replays terms 1 st (addSnapshot s st)
 unfolding effect addSnapshot strip
 add-snapshot-replays terms s st e = once terms (AddSnapshot s) st (addSnapshot s st) refl e refl (λ l h. refl)
 
@@ -39,14 +39,14 @@ snapshots-ascending : (l : List Snapshot) → snapshotsFormed l ≡ true → asc
 unfolding snapshotsFormed
 snapshots-ascending l h = table-parts snapshotRoom snapshotFormed snapshotBelow l h .2
 
-held-accepted : (ids : List ℤ) (st : State) → updateNumber (RemoveSnapshots ids) st ≡ 0 → Sound (st .metadata) → updateNumber (RemoveSnapshots (heldSnapshots ids (st .metadata .snapshots))) st ≡ 0
+held-accepted : (terms : Terms) (ids : List ℤ) (st : State) → updateNumber terms (RemoveSnapshots ids) st ≡ 0 → Sound (st .metadata) → updateNumber terms (RemoveSnapshots (heldSnapshots ids (st .metadata .snapshots))) st ≡ 0
 unfolding checks updateFormed
-held-accepted ids st e k =
-    accepted-if (RemoveSnapshots (heldSnapshots ids (st .metadata .snapshots))) st
-    (held-formed idOf ids (st .metadata .snapshots) (snapshots-ascending (st .metadata .snapshots) (k .snapshots)) (accepted-form (RemoveSnapshots ids) st e))
+held-accepted terms ids st e k =
+    accepted-if terms (RemoveSnapshots (heldSnapshots ids (st .metadata .snapshots))) st
+    (held-formed idOf ids (st .metadata .snapshots) (snapshots-ascending (st .metadata .snapshots) (k .snapshots)) (accepted-form terms (RemoveSnapshots ids) st e))
     refl
 
-pub remove-snapshots-replays : (terms : Terms) (ids : List ℤ) (st : State) → updateNumber (RemoveSnapshots ids) st ≡ 0 → Sound (st .metadata) → Replays terms 1 st (effect terms (RemoveSnapshots ids) st)
+pub remove-snapshots-replays : (terms : Terms) (ids : List ℤ) (st : State) → updateNumber terms (RemoveSnapshots ids) st ≡ 0 → Sound (st .metadata) → Replays terms 1 st (effect terms (RemoveSnapshots ids) st)
 unfolding effect removeSnapshots strip
 remove-snapshots-replays terms ids st e k = go (isEmpty (heldSnapshots ids (st .metadata .snapshots))) refl
   where
@@ -56,5 +56,5 @@ remove-snapshots-replays terms ids st e k = go (isEmpty (heldSnapshots ids (st .
     go : (t : Bool) → isEmpty (heldSnapshots ids (st .metadata .snapshots)) ≡ t → Replays terms 1 st (cond t (withoutSnapshots ids st) removed)
     go true q = rw (nothing-goes ids st k q) (nothing terms 1 st)
     go false q =
-        once terms (RemoveSnapshots (heldSnapshots ids (st .metadata .snapshots))) st removed refl (held-accepted ids st e k) refl
+        once terms (RemoveSnapshots (heldSnapshots ids (st .metadata .snapshots))) st removed refl (held-accepted terms ids st e k) refl
         (λ l h. rw (held-again idOf ids (st .metadata .snapshots), q, others-again idOf ids (st .metadata .snapshots)))

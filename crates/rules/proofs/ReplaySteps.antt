@@ -31,37 +31,37 @@ use Rattle.rules.proofs.ReplayLog.{SameAdditions, strip-append, go-on-a
 abbrev pub withLog : List Update → State → State
 withLog l st = record { metadata = st .metadata; own = st .own; added = st .added; log = l }
 
-checks-alike : (u : Update) (l : List Update) (st : State) → checks u (withLog l st) ≡ checks u st
+checks-alike : (terms : Terms) (u : Update) (l : List Update) (st : State) → checks terms u (withLog l st) ≡ checks terms u st
 unfolding checks upgradeFormatVersionChecks addSnapshotChecks addSnapshot setRefChecks setBranchSnapshotChecks addSchemaChecks setCurrentSchemaChecks removeSchemasChecks addSortOrderChecks setDefaultSortOrderChecks
-checks-alike (AssignUuid uuid) l st = refl
-checks-alike (UpgradeFormatVersion v) l st = refl
-checks-alike (SetLocation location) l st = refl
-checks-alike (AddSnapshot s) l st = refl
-checks-alike (SetBranchSnapshot name s) l st = refl
-checks-alike (RemoveSnapshots ids) l st = refl
-checks-alike (SetRef name r) l st = refl
-checks-alike (RemoveRef name) l st = refl
-checks-alike (AddSchema s) l st = refl
-checks-alike (SetCurrentSchema id) l st = refl
-checks-alike (RemoveSchemas ids) l st = refl
-checks-alike (AddSortOrder o) l st = refl
-checks-alike (SetDefaultSortOrder id) l st = refl
-checks-alike (NotFormed counts) l st = refl
+checks-alike terms (AssignUuid uuid) l st = refl
+checks-alike terms (UpgradeFormatVersion v) l st = refl
+checks-alike terms (SetLocation location) l st = refl
+checks-alike terms (AddSnapshot s) l st = refl
+checks-alike terms (SetBranchSnapshot name s) l st = refl
+checks-alike terms (RemoveSnapshots ids) l st = refl
+checks-alike terms (SetRef name r) l st = refl
+checks-alike terms (RemoveRef name) l st = refl
+checks-alike terms (AddSchema s) l st = refl
+checks-alike terms (SetCurrentSchema id) l st = refl
+checks-alike terms (RemoveSchemas ids) l st = refl
+checks-alike terms (AddSortOrder o) l st = refl
+checks-alike terms (SetDefaultSortOrder id) l st = refl
+checks-alike terms (NotFormed counts) l st = refl
 
 -- no check reads the log
-number-alike : (u : Update) (l : List Update) (st : State) → updateNumber u (withLog l st) ≡ updateNumber u st
+number-alike : (terms : Terms) (u : Update) (l : List Update) (st : State) → updateNumber terms u (withLog l st) ≡ updateNumber terms u st
 unfolding updateNumber
-number-alike u l st = rw (checks-alike u l st)
+number-alike terms u l st = rw (checks-alike terms u l st)
 
 -- ---- an accepted update
 
-pub accepted-if : (u : Update) (st : State) → updateFormed u ≡ true → firstOf (checks u st) ≡ 0 → updateNumber u st ≡ 0
+pub accepted-if : (terms : Terms) (u : Update) (st : State) → updateFormed u ≡ true → firstOf (checks terms u st) ≡ 0 → updateNumber terms u st ≡ 0
 unfolding updateNumber
-accepted-if u st f e = rw f e
+accepted-if terms u st f e = rw f e
 
-run-one : (terms : Terms) (u : Update) (place : ℕ) (st : State) → updateNumber u st ≡ 0 → runFrom terms (u ∷ []) place st ≡ Reached (effect terms u st)
+run-one : (terms : Terms) (u : Update) (place : ℕ) (st : State) → updateNumber terms u st ≡ 0 → runFrom terms (u ∷ []) place st ≡ Reached (effect terms u st)
 unfolding runFrom
-run-one terms u place st e = rw (eq-eqb (updateNumber u st) 0 e)
+run-one terms u place st e = rw (eq-eqb (updateNumber terms u st) 0 e)
 
 -- a run goes on where another has come to
 run-on : (terms : Terms) (xs ys : List Update) (place : ℕ) (a b c : State)
@@ -71,7 +71,7 @@ run-on : (terms : Terms) (xs ys : List Update) (place : ℕ) (a b c : State)
 unfolding runFrom
 run-on terms [] ys place a b c e k = rw (same-state a b e) (k place)
 run-on terms (x ∷ xs) ys place a b c e k =
-    let t = only-then (eqb (updateNumber x a) 0) (not-reached (updateNumber x a) place b) e in
+    let t = only-then (eqb (updateNumber terms x a) 0) (not-reached (updateNumber terms x a) place b) e in
     rw (t .0) (run-on terms xs ys (suc place) (effect terms x a) b c (t .1) k)
 
 -- ---- a step from st to st′ is replayed by the entries that it logs
@@ -96,7 +96,7 @@ nothing terms room st = record {
 }
 
 -- a step that logs one entry
-pub once : (terms : Terms) (u : Update) (st st′ : State) → weight u ≡ 1 → updateNumber u st ≡ 0 → st′ .log ≡ st .log ++ (u ∷ [])
+pub once : (terms : Terms) (u : Update) (st st′ : State) → weight u ≡ 1 → updateNumber terms u st ≡ 0 → st′ .log ≡ st .log ++ (u ∷ [])
     → ((l : List Update) → SameAdditions l (st .log) → effect terms u (withLog l st) ≡ withLog (l ++ strip (u ∷ [])) st′)
     → Replays terms 1 st st′
 unfolding listSum
@@ -104,8 +104,8 @@ once terms u st st′ w e h k = record {
   entries = u ∷ [];
   logged = h;
   light = omega arith;
-  formed = both (accepted-form u st e) refl;
-  again = λ place l s. run-one terms u place (withLog l st) (number-alike u l st ∙ e) ∙ ap {B = Ran} Reached (k l s);
+  formed = both (accepted-form terms u st e) refl;
+  again = λ place l s. run-one terms u place (withLog l st) (number-alike terms u l st ∙ e) ∙ ap {B = Ran} Reached (k l s);
 }
 
 sum-append : (xs ys : List Update) → listSum (xs ++ ys) ≡ listSum xs + listSum ys

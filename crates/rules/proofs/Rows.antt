@@ -107,7 +107,7 @@ ranged-takes s st v k =
 step-takes : (st st′ : State) (new : List Snapshot) → st .metadata .fields .version ≡ 3 → Step st st′ new → Takes st st′ new
 step-takes st st′ new v (leaves k) = takes-kept st st st′ [] (takes-none st v) k
 step-takes st st′ new v (removes ids k) = takes-kept st (withoutSnapshots ids st) st′ [] (without-takes ids st v) k
-step-takes st st′ new v (adds s e k) = takes-kept st (addSnapshot s st) st′ (s ∷ []) (ranged-takes s st v (add-ranged s st v e)) k
+step-takes st st′ new v (adds tolerance s e k) = takes-kept st (addSnapshot s st) st′ (s ∷ []) (ranged-takes s st v (add-ranged tolerance s st v e)) k
 
 -- ---- a run
 
@@ -115,9 +115,9 @@ run-takes : (terms : Terms) (us : List Update) (place : ℕ) (st st′ : State) 
 unfolding runFrom
 run-takes terms [] place st st′ e v = subst (λ (x : State). Takes st x (newSnapshots [])) (same-state st st′ e) (rw new-none (takes-none st v))
 run-takes terms (u ∷ us) place st st′ e v =
-    let k = only-then (eqb (updateNumber u st) accepted) (not-reached (updateNumber u st) place st′) e in
+    let k = only-then (eqb (updateNumber terms u st) accepted) (not-reached (updateNumber terms u st) place st′) e in
     let next : State = effect terms u st in
-    let t : Takes st next (newSnapshots (u ∷ [])) = step-takes st next (newSnapshots (u ∷ [])) v (effect-step terms u st (eqb-true (updateNumber u st) accepted (k .0)) v) in
+    let t : Takes st next (newSnapshots (u ∷ [])) = step-takes st next (newSnapshots (u ∷ [])) v (effect-step terms u st (eqb-true (updateNumber terms u st) accepted (k .0)) v) in
     subst (Takes st st′) (sym (new-append (u ∷ []) us))
     (takes-on st next st′ (newSnapshots (u ∷ [])) (newSnapshots us) t (run-takes terms us (suc place) next st′ (k .1) (t .adds .version)))
 

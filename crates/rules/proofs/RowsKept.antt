@@ -137,10 +137,10 @@ pub record Ranged (s : Snapshot) (next : ℕ) : Type 0 where
   pub begins : next ≤ range .first .0
   pub ends : endOf range ≤ largestRowId
 
-pub add-ranged : (s : Snapshot) (st : State) → st .metadata .fields .version ≡ 3 → firstOf (addSnapshotChecks s st) ≡ 0 → Ranged s (st .metadata .fields .nextRow .0)
+pub add-ranged : (tolerance : ℤ) (s : Snapshot) (st : State) → st .metadata .fields .version ≡ 3 → firstOf (addSnapshotChecks tolerance s st) ≡ 0 → Ranged s (st .metadata .fields .nextRow .0)
 unfolding addSnapshotChecks
-add-ranged s st v e =
-    let k = passed (addSnapshotChecks s st) (add-snapshot-numbered s st) e .1 .1 .1 .1 in
+add-ranged tolerance s st v e =
+    let k = passed (addSnapshotChecks tolerance s st) (add-snapshot-numbered tolerance s st) e .1 .1 .1 .1 in
     let t : isVersion3 (st .metadata .fields) ≡ true = eq-eqb (st .metadata .fields .version) 3 v in
     by-rows (s .rows) refl (rw t at (k .0)) (rw t at (k .1 .0)) (rw t at (k .1 .1 .0))
   where
@@ -160,22 +160,22 @@ add-reaches s st r v e = rw (e, eq-eqb (st .metadata .fields .version) 3 v)
 pub data Step (st st′ : State) : List Snapshot → Type 0 where
   leaves : Keeps st st′ → Step st st′ []
   removes : (ids : List ℤ) → Keeps (withoutSnapshots ids st) st′ → Step st st′ []
-  adds : (s : Snapshot) → firstOf (addSnapshotChecks s st) ≡ 0 → Keeps (addSnapshot s st) st′ → Step st st′ (s ∷ [])
+  adds : (tolerance : ℤ) (s : Snapshot) → firstOf (addSnapshotChecks tolerance s st) ≡ 0 → Keeps (addSnapshot s st) st′ → Step st st′ (s ∷ [])
 
 -- the checks of a branch commit are those of the addition, and more
-commit-adds : (name : List ℕ) (s : Snapshot) (st : State) → firstOf (setBranchSnapshotChecks name s st) ≡ 0 → firstOf (addSnapshotChecks s st) ≡ 0
+commit-adds : (tolerance : ℤ) (name : List ℕ) (s : Snapshot) (st : State) → firstOf (setBranchSnapshotChecks tolerance name s st) ≡ 0 → firstOf (addSnapshotChecks tolerance s st) ≡ 0
 unfolding setBranchSnapshotChecks
-commit-adds name s st e =
+commit-adds tolerance name s st e =
     let more : List Check = setRefChecks name (committed name (s .id) (st .metadata .refs)) (addSnapshot s st) in
-    passed-before (addSnapshotChecks s st) more (passed-after ((isTag name (st .metadata .refs), commitOnTag) ∷ []) (addSnapshotChecks s st ++ more) refl e)
+    passed-before (addSnapshotChecks tolerance s st) more (passed-after ((isTag name (st .metadata .refs), commitOnTag) ∷ []) (addSnapshotChecks tolerance s st ++ more) refl e)
 
-checked-step : (terms : Terms) (u : Update) (st : State) → updateFormed u ≡ true → firstOf (checks u st) ≡ 0 → st .metadata .fields .version ≡ 3 → Step st (effect terms u st) (newSnapshots (u ∷ []))
+checked-step : (terms : Terms) (u : Update) (st : State) → updateFormed u ≡ true → firstOf (checks terms u st) ≡ 0 → st .metadata .fields .version ≡ 3 → Step st (effect terms u st) (newSnapshots (u ∷ []))
 unfolding updateFormed checks effect newSnapshots setBranchSnapshot
 checked-step terms (AssignUuid uuid) st f e v = leaves (assign-uuid-keeps st uuid)
 checked-step terms (UpgradeFormatVersion w) st f e v = leaves (upgrade-format-version-keeps st w f e v)
 checked-step terms (SetLocation l) st f e v = leaves (set-location-keeps st l)
-checked-step terms (AddSnapshot s) st f e v = adds s e refl
-checked-step terms (SetBranchSnapshot name s) st f e v = adds s (commit-adds name s st e) (set-ref-keeps (addSnapshot s st) terms name (committed name (s .id) (st .metadata .refs)))
+checked-step terms (AddSnapshot s) st f e v = adds (terms .tolerance) s e refl
+checked-step terms (SetBranchSnapshot name s) st f e v = adds (terms .tolerance) s (commit-adds (terms .tolerance) name s st e) (set-ref-keeps (addSnapshot s st) terms name (committed name (s .id) (st .metadata .refs)))
 checked-step terms (RemoveSnapshots ids) st f e v = removes ids (remove-snapshots-keeps ids st)
 checked-step terms (SetRef name r) st f e v = leaves (set-ref-keeps st terms name r)
 checked-step terms (RemoveRef name) st f e v = leaves (remove-ref-keeps st name)
@@ -186,5 +186,5 @@ checked-step terms (AddSortOrder o) st f e v = leaves (add-sort-order-keeps st o
 checked-step terms (SetDefaultSortOrder id) st f e v = leaves (set-default-sort-order-keeps st id)
 checked-step terms (NotFormed counts) st f e v = leaves refl
 
-pub effect-step : (terms : Terms) (u : Update) (st : State) → updateNumber u st ≡ 0 → st .metadata .fields .version ≡ 3 → Step st (effect terms u st) (newSnapshots (u ∷ []))
-effect-step terms u st e v = checked-step terms u st (accepted-form u st e) (accepted-checks u st e) v
+pub effect-step : (terms : Terms) (u : Update) (st : State) → updateNumber terms u st ≡ 0 → st .metadata .fields .version ≡ 3 → Step st (effect terms u st) (newSnapshots (u ∷ []))
+effect-step terms u st e v = checked-step terms u st (accepted-form terms u st e) (accepted-checks terms u st e) v

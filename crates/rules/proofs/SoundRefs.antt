@@ -86,18 +86,18 @@ committed-formed name id l h k = go (refNamed name l) refl (all-first refFormed 
     go none e f = rw (e, committed) (whole (nonNeg id) (true ∷ true ∷ []) (h, (refl, (refl, tt))))
     go (some n) e f = rw (e, committed) (moved-formed id (n .reference) h (and-right (refNameFormed (n .name)) (referenceFormed (n .reference)) f))
 
-pub set-branch-snapshot-sound : (terms : Terms) (name : List ℕ) (s : Snapshot) (st : State) → refNameFormed name ≡ true → snapshotFormed s ≡ true → firstOf (setBranchSnapshotChecks name s st) ≡ 0
+pub set-branch-snapshot-sound : (terms : Terms) (name : List ℕ) (s : Snapshot) (st : State) → refNameFormed name ≡ true → snapshotFormed s ≡ true → firstOf (setBranchSnapshotChecks (terms .tolerance) name s st) ≡ 0
     → Sound (st .metadata) → Sound (setBranchSnapshot terms name s st .metadata)
 unfolding setBranchSnapshot setBranchSnapshotChecks refsFormed
 set-branch-snapshot-sound terms name s st f h e d =
     let r : Reference = committed name (s .id) (st .metadata .refs) in
-    let more : List Check = addSnapshotChecks s st ++ setRefChecks name r (addSnapshot s st) in
+    let more : List Check = addSnapshotChecks (terms .tolerance) s st ++ setRefChecks name r (addSnapshot s st) in
     let k : firstOf more ≡ 0 = passed-after ((isTag name (st .metadata .refs), commitOnTag) ∷ []) more refl e in
     let n : nonNeg (s .id) ≡ true = parts (nonNeg (s .id)) (ifSome nonNeg (s .parent) ∷ nonNeg (s .sequence .0) ∷ []) h .0 in
     let c : referenceFormed r ≡ true = committed-formed name (s .id) (st .metadata .refs) n (table-parts refRoom refFormed refBelow (st .metadata .refs) (d .refs) .1) in
     set-ref-sound terms name r (addSnapshot s st) (both f c)
-    (passed-after (addSnapshotChecks s st) (setRefChecks name r (addSnapshot s st)) (add-snapshot-numbered s st) k)
-    (add-snapshot-sound s st h (passed-before (addSnapshotChecks s st) (setRefChecks name r (addSnapshot s st)) k) d)
+    (passed-after (addSnapshotChecks (terms .tolerance) s st) (setRefChecks name r (addSnapshot s st)) (add-snapshot-numbered (terms .tolerance) s st) k)
+    (add-snapshot-sound (terms .tolerance) s st h (passed-before (addSnapshotChecks (terms .tolerance) s st) (setRefChecks name r (addSnapshot s st)) k) d)
 
 -- ---- remove ref
 

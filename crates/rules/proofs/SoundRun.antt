@@ -34,13 +34,13 @@ pub same-state : (st st′ : State) → Reached st ≡ Reached st′ → st ≡ 
 same-state st st′ e = cc
 
 -- what every accepted update keeps, a run keeps
-pub run-keeps : (terms : Terms) (P : State → Type 0) → ((u : Update) (st : State) → updateNumber u st ≡ 0 → P st → P (effect terms u st))
+pub run-keeps : (terms : Terms) (P : State → Type 0) → ((u : Update) (st : State) → updateNumber terms u st ≡ 0 → P st → P (effect terms u st))
     → (us : List Update) (place : ℕ) (st st′ : State) → runFrom terms us place st ≡ Reached st′ → P st → P st′
 unfolding runFrom
 run-keeps terms P f [] place st st′ e p = subst P (same-state st st′ e) p
 run-keeps terms P f (u ∷ us) place st st′ e p =
-    let k = only-then (eqb (updateNumber u st) accepted) (not-reached (updateNumber u st) place st′) e in
-    run-keeps terms P f us (suc place) (effect terms u st) st′ (k .1) (f u st (eqb-true (updateNumber u st) accepted (k .0)) p)
+    let k = only-then (eqb (updateNumber terms u st) accepted) (not-reached (updateNumber terms u st) place st′) e in
+    run-keeps terms P f us (suc place) (effect terms u st) st′ (k .1) (f u st (eqb-true (updateNumber terms u st) accepted (k .0)) p)
 
 pub run-sound : (terms : Terms) (us : List Update) (place : ℕ) (st st′ : State) → runFrom terms us place st ≡ Reached st′ → Sound (st .metadata) → Sound (st′ .metadata)
 run-sound terms = run-keeps terms SoundState (effect-sound terms)

@@ -20,19 +20,19 @@ use Rattle.rules.proofs.SoundSingles.{sequence-formed}
 
 -- ---- add snapshot
 
-pub add-snapshot-numbered : (s : Snapshot) (st : State) → numbered (addSnapshotChecks s st) ≡ true
+pub add-snapshot-numbered : (tolerance : ℤ) (s : Snapshot) (st : State) → numbered (addSnapshotChecks tolerance s st) ≡ true
 unfolding addSnapshotChecks
-add-snapshot-numbered s st = refl
+add-snapshot-numbered tolerance s st = refl
 
 -- 5 leaves ids that are not held
-pub add-new : (s : Snapshot) (st : State) → firstOf (addSnapshotChecks s st) ≡ 0 → holdsSnapshot (st .metadata .snapshots) (s .id) ≡ false
+pub add-new : (tolerance : ℤ) (s : Snapshot) (st : State) → firstOf (addSnapshotChecks tolerance s st) ≡ 0 → holdsSnapshot (st .metadata .snapshots) (s .id) ≡ false
 unfolding addSnapshotChecks
-add-new s st e = passed (addSnapshotChecks s st) (add-snapshot-numbered s st) e .0
+add-new tolerance s st e = passed (addSnapshotChecks tolerance s st) (add-snapshot-numbered tolerance s st) e .0
 
 -- 19 leaves room
-pub add-room : (s : Snapshot) (st : State) → firstOf (addSnapshotChecks s st) ≡ 0 → length (st .metadata .snapshots) < snapshotRoom
+pub add-room : (tolerance : ℤ) (s : Snapshot) (st : State) → firstOf (addSnapshotChecks tolerance s st) ≡ 0 → length (st .metadata .snapshots) < snapshotRoom
 unfolding addSnapshotChecks
-add-room s st e = leb-false snapshotRoom (length (st .metadata .snapshots)) (passed (addSnapshotChecks s st) (add-snapshot-numbered s st) e .1 .1 .1 .1 .1 .1 .1 .0)
+add-room tolerance s st e = leb-false snapshotRoom (length (st .metadata .snapshots)) (passed (addSnapshotChecks tolerance s st) (add-snapshot-numbered tolerance s st) e .1 .1 .1 .1 .1 .1 .1 .0)
 
 -- a ref to a held snapshot still points to one
 put-points : (s : Snapshot) (m : Metadata) → refsHeld m ≡ true → all (pointsIn (put snapshotBelow s (m .snapshots))) (m .refs) ≡ true
@@ -42,12 +42,12 @@ put-points s m h =
     (λ (r : NamedRef). any-put numbers-ordered (λ (x : Snapshot). x .id) (λ (k : ℤ). eqZ k (r .reference .snapshot)) s (m .snapshots))
     (m .refs) h
 
-pub add-snapshot-sound : (s : Snapshot) (st : State) → snapshotFormed s ≡ true → firstOf (addSnapshotChecks s st) ≡ 0 → Sound (st .metadata) → Sound (addSnapshot s st .metadata)
+pub add-snapshot-sound : (tolerance : ℤ) (s : Snapshot) (st : State) → snapshotFormed s ≡ true → firstOf (addSnapshotChecks tolerance s st) ≡ 0 → Sound (st .metadata) → Sound (addSnapshot s st .metadata)
 unfolding addSnapshot snapshotsFormed
-add-snapshot-sound s st h e d =
+add-snapshot-sound tolerance s st h e d =
     let m : Metadata = st .metadata in
     let l : List Snapshot = put snapshotBelow s (m .snapshots) in
-    let k : snapshotsFormed l ≡ true = table-put numbers-ordered (λ (x : Snapshot). x .id) snapshotRoom snapshotFormed s (m .snapshots) (add-room s st e) h (d .snapshots) in
+    let k : snapshotsFormed l ≡ true = table-put numbers-ordered (λ (x : Snapshot). x .id) snapshotRoom snapshotFormed s (m .snapshots) (add-room tolerance s st e) h (d .snapshots) in
     let n : nonNeg (s .sequence .0) ≡ true = parts (nonNeg (s .id)) (ifSome nonNeg (s .parent) ∷ nonNeg (s .sequence .0) ∷ []) h .1 .1 .0 in
     with-fields (withSnapshots l m) (with-snapshots m d l k (put-points s m (d .refsHeld)))
     (withLastSequence (s .sequence) (nextRowAfter s (m .fields)) (m .fields))

@@ -18,21 +18,21 @@ use Rattle.rules.proofs.SoundSchemas.{add-schema-sound, set-current-sch
 use Rattle.rules.proofs.SoundOrders.{add-sort-order-sound, set-default-sort-order-sound}
 
 -- an accepted update is well formed, and none of its checks failed
-pub accepted-form : (u : Update) (st : State) → updateNumber u st ≡ 0 → updateFormed u ≡ true
+pub accepted-form : (terms : Terms) (u : Update) (st : State) → updateNumber terms u st ≡ 0 → updateFormed u ≡ true
 unfolding updateNumber
-accepted-form u st e = not-false (updateFormed u) (passed ((not (updateFormed u), updateNotFormed) ∷ []) refl (passed-before ((not (updateFormed u), updateNotFormed) ∷ []) (checks u st) e) .0)
+accepted-form terms u st e = not-false (updateFormed u) (passed ((not (updateFormed u), updateNotFormed) ∷ []) refl (passed-before ((not (updateFormed u), updateNotFormed) ∷ []) (checks terms u st) e) .0)
 
-pub accepted-checks : (u : Update) (st : State) → updateNumber u st ≡ 0 → firstOf (checks u st) ≡ 0
+pub accepted-checks : (terms : Terms) (u : Update) (st : State) → updateNumber terms u st ≡ 0 → firstOf (checks terms u st) ≡ 0
 unfolding updateNumber
-accepted-checks u st e = passed-after ((not (updateFormed u), updateNotFormed) ∷ []) (checks u st) refl e
+accepted-checks terms u st e = passed-after ((not (updateFormed u), updateNotFormed) ∷ []) (checks terms u st) refl e
 
 -- what a well-formed update with no failed check does
-checked-sound : (terms : Terms) (u : Update) (st : State) → updateFormed u ≡ true → firstOf (checks u st) ≡ 0 → Sound (st .metadata) → Sound (effect terms u st .metadata)
+checked-sound : (terms : Terms) (u : Update) (st : State) → updateFormed u ≡ true → firstOf (checks terms u st) ≡ 0 → Sound (st .metadata) → Sound (effect terms u st .metadata)
 unfolding updateFormed checks effect
 checked-sound terms (AssignUuid uuid) st f e s = assign-uuid-sound st s uuid
 checked-sound terms (UpgradeFormatVersion v) st f e s = upgrade-format-version-sound st s v f
 checked-sound terms (SetLocation l) st f e s = set-location-sound st s l f
-checked-sound terms (AddSnapshot x) st f e s = add-snapshot-sound x st f e s
+checked-sound terms (AddSnapshot x) st f e s = add-snapshot-sound (terms .tolerance) x st f e s
 checked-sound terms (SetBranchSnapshot name x) st f e s = set-branch-snapshot-sound terms name x st (and-left (refNameFormed name) (snapshotFormed x) f) (and-right (refNameFormed name) (snapshotFormed x) f) e s
 checked-sound terms (RemoveSnapshots ids) st f e s = remove-snapshots-sound ids st s
 checked-sound terms (SetRef name r) st f e s = set-ref-sound terms name r st f e s
@@ -44,5 +44,5 @@ checked-sound terms (AddSortOrder o) st f e s = add-sort-order-sound o st f e s
 checked-sound terms (SetDefaultSortOrder id) st f e s = set-default-sort-order-sound id st e s
 checked-sound terms (NotFormed counts) st f e s = s
 
-pub effect-sound : (terms : Terms) (u : Update) (st : State) → updateNumber u st ≡ 0 → Sound (st .metadata) → Sound (effect terms u st .metadata)
-effect-sound terms u st e s = checked-sound terms u st (accepted-form u st e) (accepted-checks u st e) s
+pub effect-sound : (terms : Terms) (u : Update) (st : State) → updateNumber terms u st ≡ 0 → Sound (st .metadata) → Sound (effect terms u st .metadata)
+effect-sound terms u st e s = checked-sound terms u st (accepted-form terms u st e) (accepted-checks terms u st e) s

@@ -10,6 +10,7 @@ use lib.ListN.{replicate}
 use Rattle.records.specs.declared.counters.SequenceNumber.{SequenceNumber}
 use Rattle.records.specs.declared.counters.RowId.{RowId}
 use Rattle.rules.specs.Names.{mainName}
+use Rattle.rules.specs.Window.{defaultTolerance}
 use Rattle.rules.specs.Register.{Snapshot, Reference, NamedRef, LogEntry, FileEntry, Schema, SortOrder, Metadata, Update, Terms, Outcome}
 use Rattle.rules.specs.Register.Outcome.{Refused, Accepted}
 use Rattle.rules.specs.Register.Update.{AssignUuid, UpgradeFormatVersion, SetLocation, AddSnapshot, SetBranchSnapshot, RemoveSnapshots, SetRef, RemoveRef, AddSchema, SetCurrentSchema, RemoveSchemas, AddSortOrder, SetDefaultSortOrder}
@@ -132,16 +133,22 @@ toDraft id = SetRef draft (branchTo id)
 abbrev pub file : ℕ → ℕ → FileEntry
 file name time = record { file = name ∷ []; time = pos time }
 
--- a clock reading, no file name, an empty limit text. A call always has a limit text (`Answer.readTerms`)
+-- a clock reading and a tolerance, no file name, an empty limit text. A call always has a limit text (`Answer.readTerms`)
+abbrev pub plainTerms : ℤ → ℤ → Terms
+plainTerms clock tolerance = record { clock = clock; tolerance = tolerance; file = none; limit = some [] }
+
 abbrev pub clockAt : ℤ → Terms
-clockAt clock = record { clock = clock; file = none; limit = some [] }
+clockAt clock = plainTerms clock defaultTolerance
+
+abbrev pub tolerating : ℤ → Terms
+tolerating tolerance = plainTerms (pos 500000) tolerance
 
 abbrev pub terms : Terms
-terms = clockAt (pos 500000)
+terms = tolerating defaultTolerance
 
 -- the current file `d`, and the limit `2`
 abbrev pub fileTerms : Terms
-fileTerms = record { clock = pos 500000; file = some (100 ∷ []); limit = some (50 ∷ []) }
+fileTerms = record { clock = pos 500000; tolerance = defaultTolerance; file = some (100 ∷ []); limit = some (50 ∷ []) }
 
 -- one schema with field 1, and the order of no fields
 abbrev pub register : ℕ → ℕ → ℕ → ℤ → List Snapshot → Option ℤ → List NamedRef → List LogEntry → List FileEntry → Metadata
@@ -473,4 +480,29 @@ examples =
     ∷ (OfRun (AtMoment (pos 250000)) terms three overFour gives Current (some (entry 2 200000)) 3)
     ∷ (OfRun (AtMoment (pos 410000)) terms three overFour gives Current (some (entry 5 410000)) 1)
     ∷ (OfRun (AtMoment (pos 250000)) terms three (RemoveSnapshots (pos 2 ∷ []) ∷ []) gives Current none 1)
+    -- Document 02, request (v), by name.
+    -- tolerance 0: the time of the last entry passes 7 and one before it does not; the time of the last update passes 8 and one before it does not
+    ∷ (OfRun AtUpdated (tolerating (pos 0)) first (adding 2 100000 ∷ []) gives Updated (pos 100000))
+    ∷ (OfRun AtUpdated (tolerating (pos 0)) first (adding 2 99999 ∷ []) gives Refusal 7 0)
+    ∷ (OfRun AtUpdated (tolerating (pos 0)) (empty 2 0 (pos 100000) []) (adding 1 100000 ∷ []) gives Updated (pos 100000))
+    ∷ (OfRun AtUpdated (tolerating (pos 0)) (empty 2 0 (pos 100000) []) (adding 1 99999 ∷ []) gives Refusal 8 0)
+    -- an hour: the longest tolerance, for 7 and for 8
+    ∷ (OfRun AtUpdated (tolerating (pos 3600000)) first (AddSnapshot (snap 2 none 2 (negsuc 3499999)) ∷ []) gives Updated (negsuc 3499999))
+    ∷ (OfRun AtUpdated (tolerating (pos 3600000)) first (AddSnapshot (snap 2 none 2 (negsuc 3500000)) ∷ []) gives Refusal 7 0)
+    ∷ (OfRun AtUpdated (tolerating (pos 3600000)) (empty 2 0 (pos 3700000) []) (adding 1 100000 ∷ []) gives Updated (pos 100000))
+    ∷ (OfRun AtUpdated (tolerating (pos 3600000)) (empty 2 0 (pos 3700000) []) (adding 1 99999 ∷ []) gives Refusal 8 0)
+    -- outside: one more than that, and one below 0, also where no update is there to use it
+    ∷ (OfRun AtUpdated (tolerating (pos 3600001)) three [] gives Refusal 26 0)
+    ∷ (OfRun AtUpdated (tolerating (negsuc 0)) three [] gives Refusal 26 0)
+    -- order of 26: after 1 and 2, and before any update, here one that is not well formed
+    ∷ (OfRun AtUpdated (tolerating (negsuc 0)) (twoHeld none (mainAt 1)) [] gives Refusal 1 0)
+    ∷ (OfRun AtUpdated (tolerating (negsuc 0)) three (replicate 65 (RemoveSnapshots [])) gives Refusal 2 0)
+    ∷ (OfRun AtUpdated (tolerating (negsuc 0)) three (RemoveSnapshots [] ∷ AddSnapshot (snap 4 (some (negsuc 0)) 6 (pos 400000)) ∷ []) gives Refusal 26 0)
+    -- commit tolerated: a branch commit follows the tolerance too
+    ∷ (OfRun AtLog (tolerating (pos 1)) first (SetBranchSnapshot draft (snap 2 none 2 (pos 99999)) ∷ []) gives Log (adding 2 99999 ∷ toDraft 2 ∷ []))
+    ∷ (OfRun AtLog (tolerating (pos 0)) first (SetBranchSnapshot draft (snap 2 none 2 (pos 99999)) ∷ []) gives Refusal 7 0)
+    -- other tolerance: a log replays under the tolerance of its run; under another one it can be refused
+    ∷ (OfRun AtLog (tolerating (pos 3600000)) first (adding 2 30000 ∷ []) gives Log (adding 2 30000 ∷ []))
+    ∷ (OfReplay AtLog (tolerating (pos 3600000)) first (adding 2 30000 ∷ []) gives Log (adding 2 30000 ∷ []))
+    ∷ (OfRun AtLog terms first (adding 2 30000 ∷ []) gives Refusal 7 0)
     ∷ []

@@ -90,10 +90,10 @@ abbrev pub isTag : List ℕ → List NamedRef → Bool
 isTag name l = someWith (λ (n : NamedRef). eqb (n .reference .kind) tag) (refNamed name l)
 
 -- "13; then add; then set"
-unfoldable pub setBranchSnapshotChecks : List ℕ → Snapshot → State → List Check
-setBranchSnapshotChecks name s st =
+unfoldable pub setBranchSnapshotChecks : ℤ → List ℕ → Snapshot → State → List Check
+setBranchSnapshotChecks tolerance name s st =
     (isTag name (st .metadata .refs), commitOnTag)
-    ∷ (addSnapshotChecks s st ++ setRefChecks name (committed name (s .id) (st .metadata .refs)) (addSnapshot s st))
+    ∷ (addSnapshotChecks tolerance s st ++ setRefChecks name (committed name (s .id) (st .metadata .refs)) (addSnapshot s st))
 
 -- "Two log entries."
 unfoldable pub setBranchSnapshot : Terms → List ℕ → Snapshot → State → State

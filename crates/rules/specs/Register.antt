@@ -103,9 +103,11 @@ pub data Update : Type 0 where
 
 -- ---- a run
 
--- "a clock reading, an optional name of the current metadata file, and the optional text of the property that limits the metadata log"
+-- "a clock reading, an optional name of the current metadata file, and the optional text of the property that limits the metadata log";
+-- document 02, request (v): "a tolerance in milliseconds"
 pub record Terms : Type 0 where
   pub clock : ℤ
+  pub tolerance : ℤ
   pub file : Option (List ℕ)
   pub limit : Option (List ℕ)
 

@@ -79,3 +79,7 @@ metTwice = 24
 
 abbrev pub bufferTooShort : ℕ
 bufferTooShort = 25
+
+-- document 02, request (v): "a tolerance outside the range"
+abbrev pub toleranceOutside : ℕ
+toleranceOutside = 26

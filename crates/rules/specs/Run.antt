@@ -1,13 +1,15 @@
 -- The run: document 01, "Numbers of the replies", last paragraph: "1, then 2, then updates in order, then the close; the first refusal ends the run."
+-- Document 02, request (v): 26 "after 2, place 0".
 use Prim.Native.Nat.{ℕ, suc}
 use mathlib.Core.Bool.{Bool, cond, not, _&&_}
 use mathlib.Core.List.{List, [], _∷_}
 use mathlib.Core.Option.{none}
 use lib.Dec.{eqb, leb}
 use lib.ListN.{length}
-use Rattle.rules.specs.Words.{ifSome, total, firstOf}
-use Rattle.rules.specs.Replies.{accepted, startNotFormed, listTooLong}
+use Rattle.rules.specs.Words.{ifSome, total, firstOf, Check}
+use Rattle.rules.specs.Replies.{accepted, startNotFormed, listTooLong, toleranceOutside}
 use Rattle.rules.specs.Capacities.{listRoom}
+use Rattle.rules.specs.Window.{isOutside}
 use Rattle.rules.specs.Register.{Metadata, Update, Terms, State, Outcome}
 use Rattle.rules.specs.Register.Outcome.{Refused, Accepted}
 use Rattle.rules.specs.Register.Update.{AssignUuid, UpgradeFormatVersion, SetLocation, AddSnapshot, SetBranchSnapshot, RemoveSnapshots, SetRef, RemoveRef, AddSchema, SetCurrentSchema, RemoveSchemas, AddSortOrder, SetDefaultSortOrder, NotFormed}
@@ -45,9 +47,9 @@ pub data Ran : Type 0 where
 unfoldable pub runFrom : Terms → List Update → ℕ → State → Ran
 runFrom terms [] place st = Reached st
 runFrom terms (u ∷ us) place st =
-    cond (eqb (updateNumber u st) accepted)
+    cond (eqb (updateNumber terms u st) accepted)
     (runFrom terms us (suc place) (effect terms u st))
-    (Stopped (updateNumber u st) place)
+    (Stopped (updateNumber terms u st) place)
 
 -- nothing changed, nothing added, nothing logged yet
 abbrev pub started : Metadata → State
@@ -69,8 +71,17 @@ closeRan terms us (Reached st) = close terms (length us) (st .log) st
 abbrev pub startFormed : Terms → Metadata → Bool
 startFormed terms m = metadataFormed m && ifSome fileNameFormed (terms .file)
 
+-- what is asked before the first update
+unfoldable pub startChecks : Terms → Metadata → List Update → List Check
+startChecks terms m us =
+    (not (startFormed terms m), startNotFormed)
+    ∷ (not (leb (listSum us) listRoom), listTooLong)
+    ∷ (isOutside (terms .tolerance), toleranceOutside)
+    ∷ []
+
+-- the place of 1, 2 and 26 is 0
 unfoldable pub run : Terms → Metadata → List Update → Outcome
 run terms m us =
-    cond (startFormed terms m)
-    (cond (leb (listSum us) listRoom) (closeRan terms us (runFrom terms us 0 (started m))) (Refused listTooLong 0))
-    (Refused startNotFormed 0)
+    cond (eqb (firstOf (startChecks terms m us)) accepted)
+    (closeRan terms us (runFrom terms us 0 (started m)))
+    (Refused (firstOf (startChecks terms m us)) 0)

@@ -11,7 +11,7 @@ use Rattle.records.specs.declared.counters.RowId.{RowId}
 use Rattle.rules.specs.Words.{larger, isSome, orElse, someWith, keep, first, lastOf, isEmpty, isIn, put, Check}
 use Rattle.rules.specs.Replies.{snapshotHeld, sequenceTooLow, beforeLastEntry, beforeLastUpdate, firstRowBehind, noRowRange, rowsOverflow, tableFull}
 use Rattle.rules.specs.Capacities.{snapshotRoom}
-use Rattle.rules.specs.Window.{isBefore, minute}
+use Rattle.rules.specs.Window.{isBefore}
 use Rattle.rules.specs.RowIds.{isBehind, overflows, afterRange}
 use Rattle.rules.specs.Register.{RowRange, Snapshot, LogEntry, SingleFields, State, withFields, withSnapshots, withRefs, withMetadata, withOwn, withLastSequence, logged}
 use Rattle.rules.specs.Register.Update.{AddSnapshot, RemoveSnapshots}
@@ -23,9 +23,9 @@ use Rattle.rules.specs.WellFormed.{snapshotBelow, holdsSnapshot, pointsI
 abbrev pub tooLow : Snapshot → SingleFields → Bool
 tooLow s f = not (eqb (f .version) 1) && leZ (s .sequence .0) (f .lastSequence .0) && isSome (s .parent)
 
--- "log non-empty and time + 60,000 < last entry's time"
-abbrev pub beforeEntry : Snapshot → List LogEntry → Bool
-beforeEntry s l = someWith (λ (e : LogEntry). isBefore minute (s .time) (e .time)) (lastOf l)
+-- "log non-empty and time + 60,000 < last entry's time"; document 02, request (v): the run's tolerance in the place of 60,000
+abbrev pub beforeEntry : ℤ → Snapshot → List LogEntry → Bool
+beforeEntry tolerance s l = someWith (λ (e : LogEntry). isBefore tolerance (s .time) (e .time)) (lastOf l)
 
 -- "the larger of metadata's last update and the run's own (0 where the run has none yet)"
 abbrev pub latest : State → ℤ
@@ -41,12 +41,12 @@ abbrev pub rowsPass : Snapshot → Bool
 rowsPass s = someWith (λ (r : RowRange). overflows (r .first) (r .added)) (s .rows)
 
 -- "checks in this order: 5; 6; 7; 8; version 3 only: 10, 9, 11; then 19"
-unfoldable pub addSnapshotChecks : Snapshot → State → List Check
-addSnapshotChecks s st =
+unfoldable pub addSnapshotChecks : ℤ → Snapshot → State → List Check
+addSnapshotChecks tolerance s st =
     (holdsSnapshot (st .metadata .snapshots) (s .id), snapshotHeld)
     ∷ (tooLow s (st .metadata .fields), sequenceTooLow)
-    ∷ (beforeEntry s (st .metadata .snapshotLog), beforeLastEntry)
-    ∷ (isBefore minute (s .time) (latest st), beforeLastUpdate)
+    ∷ (beforeEntry tolerance s (st .metadata .snapshotLog), beforeLastEntry)
+    ∷ (isBefore tolerance (s .time) (latest st), beforeLastUpdate)
     ∷ (isVersion3 (st .metadata .fields) && not (isSome (s .rows)), noRowRange)
     ∷ (isVersion3 (st .metadata .fields) && firstBehind s (st .metadata .fields), firstRowBehind)
     ∷ (isVersion3 (st .metadata .fields) && rowsPass s, rowsOverflow)

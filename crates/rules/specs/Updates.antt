@@ -14,25 +14,25 @@ use Rattle.rules.specs.SchemaUpdates.{addSchemaChecks, addSchema, setCur
 use Rattle.rules.specs.OrderUpdates.{addSortOrderChecks, addSortOrder, setDefaultSortOrderChecks, setDefaultSortOrder}
 
 -- the checks of an update beside its own form
-unfoldable pub checks : Update → State → List Check
-checks (AssignUuid uuid) st = []
-checks (UpgradeFormatVersion v) st = upgradeFormatVersionChecks v st
-checks (SetLocation location) st = []
-checks (AddSnapshot s) st = addSnapshotChecks s st
-checks (SetBranchSnapshot name s) st = setBranchSnapshotChecks name s st
-checks (RemoveSnapshots ids) st = []
-checks (SetRef name r) st = setRefChecks name r st
-checks (RemoveRef name) st = []
-checks (AddSchema s) st = addSchemaChecks s st
-checks (SetCurrentSchema id) st = setCurrentSchemaChecks id st
-checks (RemoveSchemas ids) st = removeSchemasChecks ids st
-checks (AddSortOrder o) st = addSortOrderChecks o st
-checks (SetDefaultSortOrder id) st = setDefaultSortOrderChecks id st
-checks (NotFormed counts) st = []
+unfoldable pub checks : Terms → Update → State → List Check
+checks terms (AssignUuid uuid) st = []
+checks terms (UpgradeFormatVersion v) st = upgradeFormatVersionChecks v st
+checks terms (SetLocation location) st = []
+checks terms (AddSnapshot s) st = addSnapshotChecks (terms .tolerance) s st
+checks terms (SetBranchSnapshot name s) st = setBranchSnapshotChecks (terms .tolerance) name s st
+checks terms (RemoveSnapshots ids) st = []
+checks terms (SetRef name r) st = setRefChecks name r st
+checks terms (RemoveRef name) st = []
+checks terms (AddSchema s) st = addSchemaChecks s st
+checks terms (SetCurrentSchema id) st = setCurrentSchemaChecks id st
+checks terms (RemoveSchemas ids) st = removeSchemasChecks ids st
+checks terms (AddSortOrder o) st = addSortOrderChecks o st
+checks terms (SetDefaultSortOrder id) st = setDefaultSortOrderChecks id st
+checks terms (NotFormed counts) st = []
 
 -- "3 comes first within an update."
-unfoldable pub updateNumber : Update → State → ℕ
-updateNumber u st = firstOf ((not (updateFormed u), updateNotFormed) ∷ checks u st)
+unfoldable pub updateNumber : Terms → Update → State → ℕ
+updateNumber terms u st = firstOf ((not (updateFormed u), updateNotFormed) ∷ checks terms u st)
 
 -- what an accepted update does
 unfoldable pub effect : Terms → Update → State → State

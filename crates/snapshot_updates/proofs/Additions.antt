@@ -10,7 +10,7 @@ use lib.Dec.{eqb, ltb, leb}
 use lib.IntN.{ℤ}
 use lib.ListN.{length}
 use Rattle.rules.specs.Words.{someWith, firstOf, lastOf, Check}
-use Rattle.rules.specs.Window.{isBefore, minute}
+use Rattle.rules.specs.Window.{isBefore}
 use Rattle.rules.specs.Register.{Snapshot, LogEntry, State}
 use Rattle.rules.specs.WellFormed.{holdsSnapshot}
 use Rattle.rules.specs.SnapshotUpdates.{tooLow, beforeEntry, latest, addSnapshotChecks}
@@ -36,26 +36,26 @@ of-last p l = go (lastOf l)
     go none = refl
     go (some e) = refl
 
-pub number : (s : Snapshot) (st : State) {held low early late : Bool} {rows n : ℕ} → held ≡ holdsSnapshot (st .metadata .snapshots) (s .id)
+pub number : (tolerance : ℤ) (s : Snapshot) (st : State) {held low early late : Bool} {rows n : ℕ} → held ≡ holdsSnapshot (st .metadata .snapshots) (s .id)
     → low ≡ tooLow s (st .metadata .fields)
-    → early ≡ beforeEntry s (st .metadata .snapshotLog)
-    → late ≡ isBefore minute (s .time) (latest st)
+    → early ≡ beforeEntry tolerance s (st .metadata .snapshotLog)
+    → late ≡ isBefore tolerance (s .time) (latest st)
     → rows ≡ firstOf (rowChecks s (st .metadata .fields))
     → n ≡ length (st .metadata .snapshots)
-    → cond held 5 (cond low 6 (cond early 7 (cond late 8 (cond (not (eqb rows 0)) rows (cond (leb 64 n) 19 0))))) ≡ firstOf (addSnapshotChecks s st)
+    → cond held 5 (cond low 6 (cond early 7 (cond late 8 (cond (not (eqb rows 0)) rows (cond (leb 64 n) 19 0))))) ≡ firstOf (addSnapshotChecks tolerance s st)
 unfolding addSnapshotChecks
-number s st h5 h6 h7 h8 hr hn =
+number tolerance s st h5 h6 h7 h8 hr hn =
     rw (h5, h6, h7, h8, hr, hn, then (rowChecks s (st .metadata .fields)) ((leb 64 (length (st .metadata .snapshots)), 19) ∷ []) refl)
 
 -- where no check fails, none of the row range does
-pub rows-passed : (s : Snapshot) (st : State) → firstOf (addSnapshotChecks s st) ≡ 0 → firstOf (rowChecks s (st .metadata .fields)) ≡ 0
+pub rows-passed : (tolerance : ℤ) (s : Snapshot) (st : State) → firstOf (addSnapshotChecks tolerance s st) ≡ 0 → firstOf (rowChecks s (st .metadata .fields)) ≡ 0
 unfolding addSnapshotChecks
-rows-passed s st z =
+rows-passed tolerance s st z =
     let front : List Check =
     (holdsSnapshot (st .metadata .snapshots) (s .id), 5)
     ∷ (tooLow s (st .metadata .fields), 6)
-    ∷ (beforeEntry s (st .metadata .snapshotLog), 7)
-    ∷ (isBefore minute (s .time) (latest st), 8)
+    ∷ (beforeEntry tolerance s (st .metadata .snapshotLog), 7)
+    ∷ (isBefore tolerance (s .time) (latest st), 8)
     ∷ [] in
     let rows : List Check = rowChecks s (st .metadata .fields) in
     let full : List Check = (leb 64 (length (st .metadata .snapshots)), 19) ∷ [] in

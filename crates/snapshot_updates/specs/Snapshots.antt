@@ -21,8 +21,8 @@ rowChecks s f =
     ∷ []
 
 -- an addition, decided: 13 on a tag, then the rule's checks; the builder after it, and what is logged
-pub record SnapshotDecided (onTag : Bool) (s : Snapshot) (st : State) (d : Decision) : Type 0 where
-  pub number : d .number ≡ cond onTag commitOnTag (firstOf (addSnapshotChecks s st))
+pub record SnapshotDecided (onTag : Bool) (tolerance : ℤ) (s : Snapshot) (st : State) (d : Decision) : Type 0 where
+  pub number : d .number ≡ cond onTag commitOnTag (firstOf (addSnapshotChecks tolerance s st))
   pub logs : d .logs ≡ true
   pub grows : d .grows ≡ eqb (d .number) 0
   pub builder : d .number ≡ 0 → d .builder ≡ laidBuilder (addSnapshot s st)

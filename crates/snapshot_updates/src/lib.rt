@@ -3,10 +3,10 @@
 ghost use mathlib.Core.Path.{_≡_};
 ghost use mathlib.Core.Bool.{true, _||_};
 ghost use lib.Dec.{eqb};
-ghost use lib.IntN.{pos};
+ghost use lib.IntN.{ℤ, pos};
 ghost use lib.Signed.{ltZ, leZ};
 ghost use Rattle.rules.specs.Words.{larger, orElse, someWith, ascending, firstOf};
-ghost use Rattle.rules.specs.Window.{isBefore, minute};
+ghost use Rattle.rules.specs.Window.{isBefore};
 ghost use Rattle.rules.specs.Register.{State, AddSnapshot};
 ghost use Rattle.rules.specs.WellFormed.{snapshotBelow};
 ghost use Rattle.rules.specs.Layout.{given, readSnapshot, readSnapshots, laidSnapshots, readSnapshotIds, readFields};
@@ -42,9 +42,6 @@ use records::snapshot::Snapshots;
 use records::text::RefName;
 use records::update::ADD_SNAPSHOT;
 use records::update::TableUpdate;
-
-// In milliseconds.
-const MINUTE: i64 = 60000;
 
 fn at_most(a: SequenceNumber, b: SequenceNumber) -> bool
     ensures { λ r. ⌜ r ≡ leZ (a .0) (b .0) ⌝ }
@@ -97,11 +94,11 @@ fn latest(b: TableMetadataBuilder) -> Time
     later(u, o)
 }
 
-// More than a minute before the last entry, where there is one.
-fn before_entry(has_last: bool, time: Time, entry: Time) -> bool
-    ensures { λ r. ⌜ r ≡ someWith (isBefore minute (time .0)) (given «has_last» (entry .0)) ⌝ }
+// More than the tolerance before the last entry, where there is one.
+fn before_entry(has_last: bool, tolerance: Age, time: Time, entry: Time) -> bool
+    ensures { λ r. ⌜ r ≡ someWith (isBefore (tolerance .0) (time .0)) (given «has_last» (entry .0)) ⌝ }
 {
-    let early = is_before(Age(MINUTE), time, entry);
+    let early = is_before(tolerance, time, entry);
     if has_last {
         return early;
     }
@@ -148,9 +145,10 @@ fn add_snapshot_number(
     ids: &[i64],
     has_last: bool,
     entry: Time,
+    tolerance: Age,
     s: Snapshot,
 ) -> u8
-    ensures { λ r. ⌜ ((st : State) → b ≡ laidBuilder st → now (ids .entry) ≡ idsOf (st .metadata .snapshots) → given «has_last» (entry .0) ≡ lastTime (st .metadata .snapshotLog) → r ≡ firstOf (addSnapshotChecks (readSnapshot s) st)) ⌝ }
+    ensures { λ r. ⌜ ((st : State) → b ≡ laidBuilder st → now (ids .entry) ≡ idsOf (st .metadata .snapshots) → given «has_last» (entry .0) ≡ lastTime (st .metadata .snapshotLog) → r ≡ firstOf (addSnapshotChecks (tolerance .0) (readSnapshot s) st)) ⌝ }
 {
     let f = b.fields;
     let id = s.snapshot_id;
@@ -158,9 +156,9 @@ fn add_snapshot_number(
     let n = ids.len();
     let at = position(ids, id.0);
     let low = too_low(f, s);
-    let early = before_entry(has_last, time, entry);
+    let early = before_entry(has_last, tolerance, time, entry);
     let last = latest(b);
-    let late = is_before(Age(MINUTE), time, last);
+    let late = is_before(tolerance, time, last);
     let rows = rows_number(f, s);
     let n19 = choose(n >= SNAPSHOTS, TABLE_FULL, ACCEPTED);
     let n10 = choose(rows != ACCEPTED, rows, n19);
@@ -172,7 +170,7 @@ fn add_snapshot_number(
 
 // The builder after an addition that is not refused.
 fn add_snapshot_builder(b: TableMetadataBuilder, s: Snapshot) -> TableMetadataBuilder
-    ensures { λ r. ⌜ ((st : State) → b ≡ laidBuilder st → firstOf (addSnapshotChecks (readSnapshot s) st) ≡ 0 → r ≡ laidBuilder (addSnapshot (readSnapshot s) st)) ⌝ }
+    ensures { λ r. ⌜ ((tolerance : ℤ) (st : State) → b ≡ laidBuilder st → firstOf (addSnapshotChecks tolerance (readSnapshot s) st) ≡ 0 → r ≡ laidBuilder (addSnapshot (readSnapshot s) st)) ⌝ }
 {
     let f = b.fields;
     let q = s.sequence_number;
@@ -208,14 +206,15 @@ pub fn add_snapshot(
     ids: &[i64],
     has_last: bool,
     entry: Time,
+    tolerance: Age,
     u: TableUpdate,
 ) -> Decision
     requires { ⌜ isTidyUpdate u ≡ true ⌝ }
     requires { ⌜ (eqb (u .kind) addSnapshotKind || eqb (u .kind) setBranchSnapshotKind) ≡ true ⌝ }
-    ensures { λ r. ⌜ ((st : State) → b ≡ laidBuilder st → now (ids .entry) ≡ idsOf (st .metadata .snapshots) → given «has_last» (entry .0) ≡ lastTime (st .metadata .snapshotLog) → SnapshotDecided «on_tag» (readSnapshot (u .snapshot)) st r) ⌝ }
+    ensures { λ r. ⌜ ((st : State) → b ≡ laidBuilder st → now (ids .entry) ≡ idsOf (st .metadata .snapshots) → given «has_last» (entry .0) ≡ lastTime (st .metadata .snapshotLog) → SnapshotDecided «on_tag» (tolerance .0) (readSnapshot (u .snapshot)) st r) ⌝ }
 {
     let s = u.snapshot;
-    let fails = add_snapshot_number(b, ids, has_last, entry, s);
+    let fails = add_snapshot_number(b, ids, has_last, entry, tolerance, s);
     let number = choose(on_tag, COMMIT_ON_TAG, fails);
     let c = add_snapshot_builder(b, s);
     let e = addition(u);

@@ -1,26 +1,29 @@
 -- The start of a run: its number, and what the answer is where it is 0 and where it is not.
 use Prim.Native.Nat.{ℕ, _≤_, _<_}
 use native.Mathlib.Omega.{arith}
-use mathlib.Core.Path.{_≡_, refl, sym}
-use mathlib.Core.Bool.{Bool, true, false, cond, _&&_}
-use mathlib.Core.List.{List, [], _∷_}
-use lib.Dec.{leb}
+use mathlib.Core.Path.{_≡_, refl}
+use mathlib.Core.Bool.{Bool, true, false, cond, not, _&&_}
+use mathlib.Core.List.{List, []}
+use lib.Dec.{eqb, leb}
 use lib.ListN.{length}
-use borrow.Author.Tests.{leb-true, le-leb, lt-leb}
+use borrow.Author.Tests.{leb-true, le-leb, lt-leb, ne-eqb, not-false}
 use Rattle.records.specs.declared.metadata.TableMetadata.{TableMetadata}
 use Rattle.records.specs.declared.update.UpdateList.{UpdateList}
 use Rattle.records.specs.declared.run.RunTerms.{RunTerms}
 use Rattle.rules.specs.Words.{ifSome}
-use Rattle.rules.specs.Replies.{accepted, startNotFormed, listTooLong}
+use Rattle.rules.specs.Replies.{accepted, startNotFormed}
 use Rattle.rules.specs.Capacities.{listRoom}
+use Rattle.rules.specs.Window.{isOutside}
+use Rattle.rules.specs.Register.{Outcome}
 use Rattle.rules.specs.Register.Outcome.{Refused}
 use Rattle.rules.specs.WellFormed.{metadataFormed, fileNameFormed}
-use Rattle.rules.specs.Run.{listSum, runFrom, started, closeRan, run}
+use Rattle.rules.specs.Run.{listSum, runFrom, started, closeRan, startChecks, run}
 use Rattle.rules.specs.Blanks.{isTidyMetadata}
 use Rattle.rules.specs.Layout.{given, counted, readFileName, readMetadata}
 use Rattle.rules.specs.Kinds.{readUpdates}
 use Rattle.rules.specs.Answer.{readTerms, laidOutcome, answer}
-use Rattle.rules.proofs.Checks.{parts, only-then}
+use Rattle.rules.proofs.Checks.{only-then, both, and-left, and-right, passed}
+use Rattle.rules.proofs.AcceptedRun.{run-started}
 use Rattle.rules.proofs.Relaid.{length-counted}
 use Rattle.records.specs.Blanks.{noUpdate}
 use Rattle.start.specs.Start.{startNumber}
@@ -36,31 +39,34 @@ module _ (m : TableMetadata) (us : UpdateList) (terms : RunTerms) where
     pub formed : metadataFormed (readMetadata m) ≡ true
     pub file : ifSome fileNameFormed (given (terms .«has_file») (readFileName (terms .file))) ≡ true
     pub sum : listSum (readUpdates us) ≤ 64
+    pub tolerated : isOutside (terms .«tolerance_ms» .0) ≡ false
 
   pub starts : startNumber m us terms ≡ 0 → Starts
-  unfolding startNumber
+  unfolding startNumber startChecks
   starts e =
-      let k = only-then (isTidyMetadata m && metadataFormed (readMetadata m) && fileFits) (λ (z : startNotFormed ≡ 0). omega arith) e in
-      let l = only-then (leb (listSum (readUpdates us)) listRoom) (λ (z : listTooLong ≡ 0). omega arith) (k .1) in
-      let p = parts (isTidyMetadata m) (metadataFormed (readMetadata m) ∷ fileFits ∷ []) (k .0) in
-      record { tidy = p .0; formed = p .1 .0; file = p .1 .1 .0; sum = leb-true (listSum (readUpdates us)) listRoom (l .0) }
+      let k = only-then (isTidyMetadata m) (λ (z : startNotFormed ≡ 0). omega arith) e in
+      let p = passed (startChecks (readTerms terms []) (readMetadata m) (readUpdates us)) refl (k .1) in
+      let f = not-false (metadataFormed (readMetadata m) && fileFits) (p .0) in
+      record {
+        tidy = k .0;
+        formed = and-left (metadataFormed (readMetadata m)) fileFits f;
+        file = and-right (metadataFormed (readMetadata m)) fileFits f;
+        sum = leb-true (listSum (readUpdates us)) listRoom (not-false (leb (listSum (readUpdates us)) listRoom) (p .1 .0));
+        tolerated = p .1 .1 .0;
+      }
 
   -- a run that starts is the run of its updates and the close
   pub started-answer : (text : List ℕ) → Starts → answer m us terms text ≡ laidOutcome m (closeRan (readTerms terms text) (readUpdates us) (runFrom (readTerms terms text) (readUpdates us) 0 (started (readMetadata m))))
-  unfolding answer run
-  started-answer text s = rw (s .tidy, s .formed, s .file, le-leb (listSum (readUpdates us)) listRoom (s .sum))
+  unfolding answer
+  started-answer text s = rw (s .tidy, run-started (readTerms terms text) (readMetadata m) (readUpdates us) (both (s .formed) (s .file)) (s .sum) (s .tolerated))
 
   pub refused-start : (text : List ℕ) (n : ℕ) → startNumber m us terms ≡ n → (n ≡ 0 → ⊥) → laidOutcome m (Refused n 0) ≡ answer m us terms text
-  unfolding startNumber answer run
-  refused-start text n e z = go (isTidyMetadata m) (metadataFormed (readMetadata m)) fileFits (leb (listSum (readUpdates us)) listRoom) e
+  unfolding startNumber answer run startChecks
+  refused-start text n e z = go (isTidyMetadata m) _ _ e
     where
-      go : (a b c d : Bool) → cond (a && b && c) (cond d accepted listTooLong) startNotFormed ≡ n
-          → laidOutcome m (Refused n 0) ≡ laidOutcome m (cond a (cond (b && c) (cond d (closeRan (readTerms terms text) (readUpdates us) (runFrom (readTerms terms text) (readUpdates us) 0 (started (readMetadata m)))) (Refused listTooLong 0)) (Refused startNotFormed 0)) (Refused startNotFormed 0))
-      go true true true true e = absurd (z (sym e))
-      go true true true false e = rw (← e)
-      go true true false d e = rw (← e)
-      go true false c d e = rw (← e)
-      go false b c d e = rw (← e)
+      go : (tidy : Bool) (k : ℕ) (o : Outcome) → cond tidy k startNotFormed ≡ n → laidOutcome m (Refused n 0) ≡ laidOutcome m (cond tidy (cond (eqb k accepted) o (Refused k 0)) (Refused startNotFormed 0))
+      go true k o e = rw (e, ne-eqb n 0 z)
+      go false k o e = rw (← e)
 
 -- ---- the sum
 
@@ -85,21 +91,37 @@ module _ (m : TableMetadata) (us : UpdateList) (terms : RunTerms) where
   pub file-short : ifSome fileNameFormed (given (terms .«has_file») (readFileName (terms .file))) ≡ true → terms .«has_file» ≡ true → terms .file .len ≤ 96
   file-short e q = omega (arith, leb-true (length (readFileName (terms .file))) 96 (rw q at e), length-counted 0 (terms .file .bytes) (terms .file .len))
 
+  -- 1, where one of the three tests fails
+  one : (tidy formed fits : Bool) (k : ℕ) → (tidy && formed && fits) ≡ false → 1 ≡ cond tidy (cond (not (formed && fits)) startNotFormed k) startNotFormed
+  one true formed fits k e = rw e
+  one false formed fits k e = refl
+
   pub not-formed : isTidyMetadata m && metadataFormed (readMetadata m) ≡ false → 1 ≡ startNumber m us terms
-  unfolding startNumber
-  not-formed e = rw e
+  unfolding startNumber startChecks
+  not-formed e = one (isTidyMetadata m) (metadataFormed (readMetadata m)) _ _ (rw e)
 
   pub file-long : terms .«has_file» ≡ true → 96 < terms .file .len → 1 ≡ startNumber m us terms
-  unfolding startNumber
+  unfolding startNumber startChecks
   file-long e h =
       let l : leb (length (readFileName (terms .file))) 96 ≡ false = lt-leb (length (readFileName (terms .file))) 96 (omega (arith, length-counted 0 (terms .file .bytes) (terms .file .len))) in
-      rw (e, l, and-false (isTidyMetadata m && metadataFormed (readMetadata m)))
+      one (isTidyMetadata m) (metadataFormed (readMetadata m)) _ _ (rw (e, l) (and-false (isTidyMetadata m && metadataFormed (readMetadata m))))
 
   module _ (f : isTidyMetadata m && metadataFormed (readMetadata m) ≡ true) (h : terms .«has_file» ≡ true → terms .file .len ≤ 96) where
-    pub too-many : 64 < listSum (readUpdates us) → 2 ≡ startNumber m us terms
-    unfolding startNumber
-    too-many s = rw (f, file-fits h, lt-leb (listSum (readUpdates us)) 64 s)
+    formed : (metadataFormed (readMetadata m) && ifSome fileNameFormed (given (terms .«has_file») (readFileName (terms .file)))) ≡ true
+    formed = both (and-right (isTidyMetadata m) (metadataFormed (readMetadata m)) f) (file-fits h)
 
-    pub starts-0 : listSum (readUpdates us) ≤ 64 → 0 ≡ startNumber m us terms
-    unfolding startNumber
-    starts-0 s = rw (f, file-fits h, le-leb (listSum (readUpdates us)) 64 s)
+    tidy : isTidyMetadata m ≡ true
+    tidy = and-left (isTidyMetadata m) (metadataFormed (readMetadata m)) f
+
+    pub too-many : 64 < listSum (readUpdates us) → 2 ≡ startNumber m us terms
+    unfolding startNumber startChecks
+    too-many s = rw (tidy, formed, lt-leb (listSum (readUpdates us)) 64 s)
+
+    module _ (s : listSum (readUpdates us) ≤ 64) where
+      pub untolerated : isOutside (terms .«tolerance_ms» .0) ≡ true → 26 ≡ startNumber m us terms
+      unfolding startNumber startChecks
+      untolerated o = rw (tidy, formed, le-leb (listSum (readUpdates us)) 64 s, o)
+
+      pub starts-0 : isOutside (terms .«tolerance_ms» .0) ≡ false → 0 ≡ startNumber m us terms
+      unfolding startNumber startChecks
+      starts-0 o = rw (tidy, formed, le-leb (listSum (readUpdates us)) 64 s, o)

@@ -5,6 +5,7 @@ ghost use mathlib.Core.Path.{_≡_};
 ghost use Prim.Native.Nat.{_≤_};
 ghost use Rattle.records.specs.declared.update.UpdateList as lists;
 ghost use Rattle.rules.specs.Capacities.{listRoom};
+ghost use Rattle.rules.specs.Window.{isOutside};
 ghost use Rattle.rules.specs.Register.Outcome.{Refused};
 ghost use Rattle.rules.specs.Run.{listSum};
 ghost use Rattle.rules.specs.Kinds.{kindWeight, readUpdates};
@@ -12,12 +13,15 @@ ghost use Rattle.rules.specs.Answer.{laidOutcome};
 ghost use Rattle.start.specs.Start.{startNumber};
 use records::capacities::FILE_NAME;
 use records::capacities::UPDATES;
+use records::counters::Age;
 use records::metadata::MetadataLog;
 use records::metadata::TableMetadata;
 use records::replies::ACCEPTED;
 use records::replies::LIST_TOO_LONG;
 use records::replies::START_NOT_FORMED;
+use records::replies::TOLERANCE_OUTSIDE;
 use records::run::Answer;
+use records::run::LONGEST_TOLERANCE_MS;
 use records::run::RunTerms;
 use records::update::SET_BRANCH_SNAPSHOT;
 use records::update::UpdateList;
@@ -46,13 +50,22 @@ pub fn weight(kind: u8) -> usize
     1
 }
 
-// 1, then 2. The sum is that of the list, where its count is at most 64.
+// Below 0, or above an hour.
+fn is_outside(tolerance: Age) -> bool
+    ensures { λ r. ⌜ r ≡ isOutside (tolerance .0) ⌝ }
+{
+    let span = tolerance.0;
+    (span < 0) | (span > LONGEST_TOLERANCE_MS)
+}
+
+// 1, then 2, then 26. The sum is that of the list, where its count is at most 64.
 pub fn start_number(m: TableMetadata, terms: RunTerms, count: usize, sum: usize) -> u8
     ensures { λ r. ⌜ ((us : lists.UpdateList) → us .count ≡ count → (count ≤ listRoom → sum ≡ listSum (readUpdates us)) → r ≡ startNumber m us terms) ⌝ }
 {
     let has_file = terms.has_file;
     let file = terms.file;
     let length = file.len;
+    let outside = is_outside(terms.tolerance_ms);
     if !formed::metadata::is_formed(m) {
         return START_NOT_FORMED;
     }
@@ -61,6 +74,9 @@ pub fn start_number(m: TableMetadata, terms: RunTerms, count: usize, sum: usize)
     }
     if (count > UPDATES) | (sum > UPDATES) {
         return LIST_TOO_LONG;
+    }
+    if outside {
+        return TOLERANCE_OUTSIDE;
     }
     ACCEPTED
 }

@@ -1,4 +1,4 @@
--- The two numbers go through their bits unchanged, and the span is the rule's minute.
+-- The three numbers go through their bits unchanged.
 use borrow.Author.Needs.{needs}
 use mir.Facts.{toZ-ofZ}
 use Rattle.exports.proofs.register_too_early.Statement.{statement}
@@ -9,4 +9,4 @@ register-too-early-spec =
     tie.close
     (tie.spec
     (λ c κs. search needs)
-    (λ c. rw (toZ-ofZ (c .before .fits .time), toZ-ofZ (c .before .fits .last)) at (c .is-before .ensures)))
+    (λ c. rw (toZ-ofZ (c .before .fits .time), toZ-ofZ (c .before .fits .last), toZ-ofZ (c .before .fits .tolerance)) at (c .is-before .ensures)))

@@ -265,7 +265,7 @@ module _ (c : tie.After-add-snapshot Inv-loop μ-loop Inv-loop2 μ-loop2) where
   abbrev adds-at : tie.Then8 Inv-loop μ-loop Inv-loop2 μ-loop2
   adds-at = c .before .before .before
 
-  add-says : SnapshotDecided (c .before .before .commits-on-tag .result) (readSnapshot (U (loop-at (adding adds-at)) .snapshot)) (adding-standing adds-at .state) (c .add-snapshot .result)
+  add-says : SnapshotDecided (c .before .before .commits-on-tag .result) (termsOf (given (loop-at (adding adds-at))) .tolerance) (readSnapshot (U (loop-at (adding adds-at)) .snapshot)) (adding-standing adds-at .state) (c .add-snapshot .result)
   add-says = let E = adding-standing adds-at .stands in c .add-snapshot .ensures (adding-standing adds-at .state) (E .tables .builder) (held-ids E) (E .tables .last)
 
 -- where it is not refused
@@ -279,7 +279,7 @@ module _ (c : tie.Else9 Inv-loop μ-loop Inv-loop2 μ-loop2) where
   add-zero : added-call .add-snapshot .result .number ≡ 0
   add-zero = eqb-true _ _ (sym (add-says added-call .grows) ∙ not-false (added-call .add-snapshot .result .grows) (c .if9 .left))
 
-  add-fine : firstOf (addSnapshotChecks (readSnapshot (U (loop-at (adding add-kind)) .snapshot)) (adding-standing add-kind .state)) ≡ 0
+  add-fine : firstOf (addSnapshotChecks (termsOf (given (loop-at (adding add-kind))) .tolerance) (readSnapshot (U (loop-at (adding add-kind)) .snapshot)) (adding-standing add-kind .state)) ≡ 0
   add-fine = adds-fine (adding-standing add-kind) (at (deciding (adding add-kind))) (one (deciding (adding add-kind))) (formed (adding add-kind)) (either-kind add-kind) (added-call .before .before .commits-on-tag .ensures) (add-says added-call) add-zero
 
   add-back : laidSnapshot (readSnapshot (U (loop-at (adding add-kind)) .snapshot)) ≡ U (loop-at (adding add-kind)) .snapshot

@@ -14,10 +14,10 @@ use Rattle.snapshot_updates.proofs.add_snapshot_builder.Tie as tie
 
 returns : tie.Need-returns
 unfolding laidBuilder laidFields addSnapshot
-returns c st e z =
+returns c tolerance st e z =
     let s = readSnapshot (c .before .before .before .before .args .s) in
     let n : c .next-row-after .result ≡ nextRowAfter s (st .metadata .fields) =
-    subst (λ (f : SingleFields). firstOf (rowChecks s f) ≡ 0 → c .next-row-after .result ≡ nextRowAfter s f) (its-fields st e) (c .next-row-after .ensures) (rows-passed s st z) in
+    subst (λ (f : SingleFields). firstOf (rowChecks s f) ≡ 0 → c .next-row-after .result ≡ nextRowAfter s f) (its-fields st e) (c .next-row-after .ensures) (rows-passed tolerance s st z) in
     rw (n, e)
 
 pub add-snapshot-builder-spec : {M : Type 1} → statement M

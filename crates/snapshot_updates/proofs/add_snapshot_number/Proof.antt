@@ -7,7 +7,7 @@ use lib.IntN.{ℤ, pos}
 use lib.ListN.{length, length-map}
 use mir.Facts.{toZ-ofZ}
 use Rattle.rules.specs.Words.{larger, orElse, someWith, firstOf}
-use Rattle.rules.specs.Window.{isBefore, minute}
+use Rattle.rules.specs.Window.{isBefore}
 use Rattle.rules.specs.Register.{Snapshot, SingleFields}
 use Rattle.rules.specs.WellFormed.{holdsSnapshot}
 use Rattle.rules.specs.SnapshotUpdates.{tooLow, latest}
@@ -27,16 +27,16 @@ returns c st e ids entry =
     let s = readSnapshot (a .s) in
     let held : ltb (p .position .result) (length (a .ids .now)) ≡ holdsSnapshot (st .metadata .snapshots) (s .id) =
     rw (p .position .ensures, toZ-ofZ (sfits-of (p .before .struct-told .given .0 .1)), ids, length-map) (snapshot-found (s .id) (st .metadata .snapshots)) in
-    let late : k .before .is-before .result ≡ isBefore minute (s .time) (latest st) =
+    let late : k .before .is-before .result ≡ isBefore (a .tolerance .0) (s .time) (latest st) =
     k .before .is-before .ensures
-    ∙ ap (isBefore minute (s .time))
+    ∙ ap (isBefore (a .tolerance .0) (s .time))
     (k .before .before .latest .ensures
     ∙ ap₂ (λ (f : SingleFields) (o : Option ℤ). larger (f .lastUpdated) (orElse o (pos 0))) (its-fields st e) (its-own st e)) in
     rw (c .choose6 .ensures, c .before .choose5 .ensures, c .before .before .choose4 .ensures, c .before .before .before .choose3 .ensures, c .before .before .before .before .choose2 .ensures, c .before .before .before .before .before .choose .ensures)
-    (number s st
+    (number (a .tolerance .0) s st
     held
     (k .before .before .before .before .too-low .ensures ∙ ap (tooLow s) (its-fields st e))
-    (k .before .before .before .before-entry .ensures ∙ ap (someWith (isBefore minute (s .time))) entry ∙ of-last (isBefore minute (s .time)) (st .metadata .snapshotLog))
+    (k .before .before .before .before-entry .ensures ∙ ap (someWith (isBefore (a .tolerance .0) (s .time))) entry ∙ of-last (isBefore (a .tolerance .0) (s .time)) (st .metadata .snapshotLog))
     late
     (k .rows-number .ensures ∙ ap (λ (f : SingleFields). firstOf (rowChecks s f)) (its-fields st e))
     (ap length ids ∙ length-map (st .metadata .snapshots) (λ (s : Snapshot). s .id)))
