@@ -1,9 +1,10 @@
 //! A case and its answer's line.
 
+use std::collections::BTreeMap;
 use std::io::{BufRead, Write};
 
-use crate::case::{Case, CaseReader, Line, Run, WalkTerms};
-use crate::port::{self, Outcome, Owns, Reply, WalkOutcome};
+use crate::case::{Case, CaseReader, DEFAULT_TOLERANCE, Line, Run, WalkTerms};
+use crate::port::{self, Outcome, Own, Owns, Reply, WalkOutcome};
 
 /// What the unwritten part of a walk's buffer holds.
 const UNWRITTEN: i64 = -7;
@@ -14,20 +15,21 @@ pub struct Answer {
     pub number: Option<u8>,
     /// Where the answer rests on the wrapper.
     pub owns: Owns,
-    /// What the published rule for the next row id answers, where that is something else.
-    pub published: Option<PublishedAnswer>,
+    /// What a published rule answers, the one for the next row id or that of a minute, where that is something else; by its mark.
+    pub published: BTreeMap<Own, PublishedAnswer>,
 }
 
 pub struct PublishedAnswer {
     pub line: String,
     pub number: u8,
-    /// The two answers differ by the rule for the next row id and by nothing else.
+    /// The two answers differ by that rule and by nothing else.
     pub by_rule: bool,
 }
 
 pub fn answer(case: &Case) -> Answer {
     match case {
-        Case::Run(run) => reply_answer(port::run(run), |reply| run_line(run, reply)),
+        Case::Run(run) => run_answer(run, DEFAULT_TOLERANCE),
+        Case::RunGiven(run, more) => run_answer(run, more.tolerance()),
         Case::Walk {
             ids,
             parents,
@@ -40,10 +42,12 @@ pub fn answer(case: &Case) -> Answer {
             let (limit, owns) = port::limit(text.as_deref());
             leaf_answer(&[limit], None, owns)
         }
-        Case::TimeWindow { time, last } => {
-            let (within, owns) = port::time_window(*time, *last);
-            leaf_answer(&[within as u64], None, owns)
-        }
+        Case::TimeWindow { time, last } => window_answer(*time, *last, DEFAULT_TOLERANCE),
+        Case::TimeWindowGiven {
+            time,
+            last,
+            tolerance,
+        } => window_answer(*time, *last, *tolerance),
         Case::RowIds {
             next_row_id,
             first_row,
@@ -66,7 +70,7 @@ fn finished(line: Line, number: Option<u8>, owns: Owns) -> Answer {
         line: line.into_text(),
         number,
         owns,
-        published: None,
+        published: BTreeMap::new(),
     }
 }
 
@@ -76,16 +80,28 @@ fn leaf_answer(numbers: &[u64], number: Option<u8>, owns: Owns) -> Answer {
     finished(line, number, owns)
 }
 
-/// Both answers of an outcome, each written by `line`.
+fn window_answer(time: i64, last: i64, tolerance: i64) -> Answer {
+    let (within, owns) = port::time_window(time, last, tolerance);
+    leaf_answer(&[within as u64], None, owns)
+}
+
+fn run_answer(run: &Run, tolerance: i64) -> Answer {
+    reply_answer(port::run(run, tolerance), |reply| run_line(run, reply))
+}
+
+/// All answers of an outcome, each written by `line`.
 fn reply_answer(outcome: Outcome, line: impl Fn(&Reply) -> Line) -> Answer {
     let number = |reply: &Reply| reply.as_ref().err().map_or(0, |(number, _)| *number);
-    let published = outcome.published.map(|published| PublishedAnswer {
-        line: line(&published.answer).into_text(),
-        number: number(&published.answer),
-        by_rule: published.by_rule,
+    let published = outcome.published.iter().map(|(own, published)| {
+        let answer = PublishedAnswer {
+            line: line(&published.answer).into_text(),
+            number: number(&published.answer),
+            by_rule: published.by_rule,
+        };
+        (*own, answer)
     });
     Answer {
-        published,
+        published: published.collect(),
         ..finished(
             line(&outcome.answer),
             Some(number(&outcome.answer)),
@@ -148,8 +164,11 @@ pub fn answer_all(
             return writeln!(output, "bad case").map(|()| false);
         };
         let ours = answer(&case);
-        let published = ours.published.filter(|_| rows == Rows::Published);
-        let line = published.map_or(ours.line, |published| published.line);
+        let published = ours.published.get(&Own::NextRowId);
+        let line = match published.filter(|_| rows == Rows::Published) {
+            Some(published) => &published.line,
+            None => &ours.line,
+        };
         writeln!(output, "{line}")?;
     }
     Ok(true)

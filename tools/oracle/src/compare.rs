@@ -1,19 +1,20 @@
 //! Compares a program's answers with the oracle's, line by line. Document 01's three allowances have been made on the oracle's side
-//! (its clock is set, its logged ids are sorted, its pick is steered), so equal means equal to the byte. Where the published rule for
-//! the next row id gives another answer, the oracle has both: they must differ by that rule alone, and such cases are counted.
+//! (its clock is set, its logged ids are sorted, its pick is steered), so equal means equal to the byte. Where a published rule, the one
+//! for the next row id or that of a minute, gives another answer, the oracle has both: they must differ by that rule alone, and such
+//! cases are counted.
 
 use std::collections::BTreeMap;
 use std::io::{self, BufRead, Write};
 
 use crate::answer::{Answer, answer};
 use crate::case::{Case, CaseReader};
-use crate::port::Own;
+use crate::port::{self, Own};
 
 /// So many differences are shown.
 const SHOWN: u64 = 5;
 
 /// Said of a case whose two answers do not differ as the rule says.
-const BY_MORE: &str = "the published answer differs by more than the rule for the next row id";
+const BY_MORE: &str = "the published answer differs by more than the rule";
 
 /// So many numbers of an answer are shown from a difference on.
 const CONTEXT: usize = 12;
@@ -25,8 +26,11 @@ struct Tally {
     replies: BTreeMap<(&'static str, Option<u8>), u64>,
     owns: BTreeMap<Own, u64>,
     published_alone: u64,
-    /// Cases that the published rule for the next row id answers otherwise: by kind, reply number and whether that rule accepts.
-    by_rule: BTreeMap<(&'static str, Option<u8>, bool), u64>,
+    accepted_runs: u64,
+    /// Runs with a tolerance that they may have and that is not a minute.
+    other_tolerance: u64,
+    /// Cases that a published rule answers otherwise: by its mark, kind, reply number and whether that rule accepts.
+    by_rule: BTreeMap<(Own, &'static str, Option<u8>, bool), u64>,
     different: u64,
 }
 
@@ -48,7 +52,7 @@ pub fn compare(
         tally.count(&case, &expected);
         let given = actual.next().transpose()?;
         let equal = given.as_ref() == Some(&expected.line);
-        let by_rule = expected.published.is_none_or(|published| published.by_rule);
+        let by_rule = expected.published.values().all(|answer| answer.by_rule);
         if equal && by_rule {
             continue;
         }
@@ -81,8 +85,12 @@ impl Tally {
             *self.owns.entry(*own).or_default() += 1;
         }
         self.published_alone += expected.owns.is_empty() as u64;
-        if let Some(published) = &expected.published {
-            let here = (case.kind(), expected.number, published.number == 0);
+        if let Some((_, tolerance)) = case.run() {
+            self.accepted_runs += (expected.number == Some(0)) as u64;
+            self.other_tolerance += port::is_another_tolerance(tolerance) as u64;
+        }
+        for (own, published) in &expected.published {
+            let here = (*own, case.kind(), expected.number, published.number == 0);
             *self.by_rule.entry(here).or_default() += 1;
         }
     }
@@ -95,26 +103,24 @@ impl Tally {
                 None => writeln!(report, "  {kind}: {count}")?,
             }
         }
-        let accepted = self.replies.get(&("run", Some(0))).unwrap_or(&0);
-        writeln!(report, "accepted runs {accepted}")?;
+        writeln!(report, "accepted runs {}", self.accepted_runs)?;
+        writeln!(
+            report,
+            "runs with another tolerance than a minute {}",
+            self.other_tolerance
+        )?;
         writeln!(
             report,
             "decided by the published code alone {}",
             self.published_alone
         )?;
-        let by_rule: u64 = self.by_rule.values().sum();
-        writeln!(report, "next row id by rule {by_rule}")?;
-        for ((kind, number, accepts), count) in &self.by_rule {
-            let number = number.unwrap_or_default();
-            let published = match accepts {
-                true => "accepts",
-                false => "refuses elsewhere",
-            };
-            writeln!(
-                report,
-                "  {kind} answered {number}, the published rule {published}: {count}"
-            )?;
-        }
+        self.write_by_rule(
+            &mut report,
+            Own::NextRowId,
+            "next row id",
+            "the published rule",
+        )?;
+        self.write_by_rule(&mut report, Own::Tolerance, "tolerance", "a minute")?;
         writeln!(
             report,
             "explained, where the published code alone differs or might:"
@@ -123,6 +129,31 @@ impl Tally {
             writeln!(report, "  {}: {count}", own.describe())?;
         }
         writeln!(report, "different {}", self.different)
+    }
+
+    /// The cases that the published rule of this mark answers otherwise.
+    fn write_by_rule(
+        &self,
+        mut report: impl Write,
+        own: Own,
+        title: &str,
+        rule: &str,
+    ) -> io::Result<()> {
+        let of_rule = || self.by_rule.iter().filter(|((mark, ..), _)| *mark == own);
+        let all: u64 = of_rule().map(|(_, count)| count).sum();
+        writeln!(report, "{title} by rule {all}")?;
+        for ((_, kind, number, accepts), count) in of_rule() {
+            let number = number.unwrap_or_default();
+            let published = match accepts {
+                true => "accepts",
+                false => "refuses elsewhere",
+            };
+            writeln!(
+                report,
+                "  {kind} answered {number}, {rule} {published}: {count}"
+            )?;
+        }
+        Ok(())
     }
 }
 

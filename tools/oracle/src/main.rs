@@ -27,7 +27,7 @@ pub use catalog::{TableCreation, TableUpdate};
 use generate::Kind;
 
 const USAGE: &str = "oracle answer [--published-rows] < CASES > ANSWERS
-oracle generate --seed S --count N [--kind run|walk|limit|mixed]
+oracle generate --seed S --count N [--kind run|walk|limit|tolerance|mixed]
 oracle compare CASES ACTUAL        (ACTUAL may be - for standard input)
 oracle pick --count K < CASES
 oracle differences [--cases]
@@ -109,6 +109,7 @@ fn kind(options: &[&str]) -> Option<Kind> {
         Some("run") => Some(Kind::Run),
         Some("walk") => Some(Kind::Walk),
         Some("limit") => Some(Kind::Limit),
+        Some("tolerance") => Some(Kind::Tolerance),
         Some("mixed") | None => Some(Kind::Mixed),
         Some(_) => None,
     }

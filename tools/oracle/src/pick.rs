@@ -1,12 +1,12 @@
 //! Picks a small list that shows what the given cases show: each reply, each update accepted with and without an entry in the log,
-//! each update refused with each number, each place where the answer rests on the wrapper, each reply beside what the published rule
-//! for the next row id says; then versions, pairs and sizes.
+//! each update refused with each number, each place where the answer rests on the wrapper, each reply beside what a published rule
+//! says that differs, each reply to a tolerance outside its bounds; then versions, pairs and sizes.
 
 use std::collections::{BTreeMap, BTreeSet};
 use std::io::{self, BufRead, Write};
 
-use crate::answer::answer;
-use crate::case::{Case, CaseReader, Line, Run};
+use crate::answer::{PublishedAnswer, answer};
+use crate::case::{Case, CaseReader, Line, Run, TOLERANCES};
 use crate::port::{self, Own, Owns};
 
 /// A thing that a case can show. Those above `Version` come first.
@@ -18,8 +18,10 @@ enum Shown {
     /// An update's kind and its refusal's number.
     Refused(u8, u8),
     Own(Own),
-    /// A reply, and whether the published rule for the next row id accepts, where that gives another answer.
-    NextRowId(&'static str, Option<u8>, bool),
+    /// A reply, and whether a published rule, known by its mark, accepts, where that gives another answer.
+    ByRule(Own, &'static str, Option<u8>, bool),
+    /// The reply to a run whose tolerance is outside its bounds, and whether its updates are well formed.
+    Outside(Option<u8>, bool),
     /// The version of a run's start and the run's reply.
     Version(u8, Option<u8>),
     /// The kinds of two updates, one after the other, that were logged in an accepted run.
@@ -60,20 +62,25 @@ fn candidate(case: Case) -> Candidate {
     let line = Line::of_case(&case);
     let mut shown: BTreeSet<Shown> = answer.owns.iter().copied().map(Shown::Own).collect();
     shown.insert(Shown::Reply(case.kind(), answer.number));
-    let accepts = answer.published.map(|published| published.number == 0);
-    shown.extend(accepts.map(|accepts| Shown::NextRowId(case.kind(), answer.number, accepts)));
+    let by_rule = |(own, published): (&Own, &PublishedAnswer)| {
+        Shown::ByRule(*own, case.kind(), answer.number, published.number == 0)
+    };
+    shown.extend(answer.published.iter().map(by_rule));
     shown.insert(Shown::Size(case.kind(), answer.number, line.len().ilog2()));
-    if let Case::Run(run) = &case {
+    if let Some((run, tolerance)) = case.run() {
+        let formed = run.updates.iter().all(port::update_formed);
+        let outside = !TOLERANCES.contains(&tolerance);
+        shown.extend(outside.then_some(Shown::Outside(answer.number, formed)));
         shown.insert(Shown::Version(run.metadata.version, answer.number));
-        shown.extend(updates_shown(run));
+        shown.extend(updates_shown(run, tolerance));
     }
     Candidate { line, shown }
 }
 
-fn updates_shown(run: &Run) -> Vec<Shown> {
+fn updates_shown(run: &Run, tolerance: i64) -> Vec<Shown> {
     let mut shown = Vec::new();
     let mut owns = Owns::new();
-    let Ok(mut builder) = port::begin(run, &mut owns) else {
+    let Ok(mut builder) = port::begin(run, tolerance, &mut owns) else {
         return shown;
     };
     let mut before = None;

@@ -6,6 +6,8 @@ mod read;
 mod tokens;
 mod write;
 
+use std::ops::RangeInclusive;
+
 pub use read::CaseReader;
 pub use tokens::{BadCase, Tokens};
 pub use write::Line;
@@ -143,6 +145,14 @@ impl Update {
             Self::UnknownKind(kind) => *kind,
         }
     }
+
+    /// The snapshot that it adds, if it does.
+    pub fn added(&self) -> Option<&Snapshot> {
+        match self {
+            Self::AddSnapshot(added) | Self::SetBranchSnapshot(_, added) => Some(added),
+            _ => None,
+        }
+    }
 }
 
 #[derive(Debug, Clone)]
@@ -152,6 +162,25 @@ pub struct Run {
     pub file: Option<Bytes>,
     pub limit: Option<Bytes>,
     pub updates: Vec<Update>,
+}
+
+/// What a run may be given beside that, each by its tag.
+#[derive(Debug, Clone, Default)]
+pub struct More {
+    /// Tag 1, in milliseconds.
+    pub tolerance: Option<i64>,
+}
+
+/// The tolerance of a run that is given none, in milliseconds.
+pub const DEFAULT_TOLERANCE: i64 = 60_000;
+
+/// The tolerances that a run may be given.
+pub const TOLERANCES: RangeInclusive<i64> = 0..=3_600_000;
+
+impl More {
+    pub fn tolerance(&self) -> i64 {
+        self.tolerance.unwrap_or(DEFAULT_TOLERANCE)
+    }
 }
 
 /// The part of a walk that both its entries share.
@@ -165,6 +194,7 @@ pub struct WalkTerms {
 #[derive(Debug, Clone)]
 pub enum Case {
     Run(Box<Run>),
+    RunGiven(Box<Run>, More),
     Walk {
         ids: Vec<i64>,
         parents: Vec<i64>,
@@ -179,6 +209,11 @@ pub enum Case {
         time: i64,
         last: i64,
     },
+    TimeWindowGiven {
+        time: i64,
+        last: i64,
+        tolerance: i64,
+    },
     RowIds {
         next_row_id: u64,
         first_row: u64,
@@ -191,12 +226,23 @@ impl Case {
     pub fn kind(&self) -> &'static str {
         match self {
             Self::Run(_) => "run",
+            Self::RunGiven(..) => "run given more",
             Self::Walk { .. } => "walk",
             Self::WalkRecords { .. } => "walk over records",
             Self::Limit(_) => "limit",
             Self::TimeWindow { .. } => "time window",
+            Self::TimeWindowGiven { .. } => "time window given a tolerance",
             Self::RowIds { .. } => "row ids",
             Self::Trim(_) => "trim",
+        }
+    }
+
+    /// The run and its tolerance, if the case is a run.
+    pub fn run(&self) -> Option<(&Run, i64)> {
+        match self {
+            Self::Run(run) => Some((run, DEFAULT_TOLERANCE)),
+            Self::RunGiven(run, more) => Some((run, more.tolerance())),
+            _ => None,
         }
     }
 }

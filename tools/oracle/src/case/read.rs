@@ -47,6 +47,12 @@ impl<R: BufRead> CaseReader<R> {
                 added_rows: self.number()?,
             }),
             7 => Ok(Case::Trim(self.bytes()?)),
+            9 => Ok(Case::RunGiven(Box::new(self.run()?), self.more()?)),
+            10 => Ok(Case::TimeWindowGiven {
+                time: self.number()?,
+                last: self.number()?,
+                tolerance: self.number()?,
+            }),
             _ => Err(BadCase),
         }
     }
@@ -59,6 +65,22 @@ impl<R: BufRead> CaseReader<R> {
             limit: self.optional_bytes()?,
             updates: self.counted(Self::update)?,
         })
+    }
+
+    /// Each tag is one that is known, above the one before it.
+    fn more(&mut self) -> Read<More> {
+        let mut more = More::default();
+        let mut before = 0;
+        for _ in 0..self.number::<u64>()? {
+            let tag: u64 = self.number()?;
+            match tag {
+                _ if tag <= before => return Err(BadCase),
+                1 => more.tolerance = Some(self.number()?),
+                _ => return Err(BadCase),
+            }
+            before = tag;
+        }
+        Ok(more)
     }
 
     fn walk_terms(&mut self) -> Read<WalkTerms> {

@@ -75,6 +75,7 @@ impl Line {
     fn case(&mut self, case: &Case) -> &mut Self {
         match case {
             Case::Run(run) => self.number(1).run(run),
+            Case::RunGiven(run, more) => self.number(9).run(run).more(more),
             Case::Walk {
                 ids,
                 parents,
@@ -90,6 +91,11 @@ impl Line {
             }
             Case::Limit(text) => self.number(4).optional_bytes(text.as_ref()),
             Case::TimeWindow { time, last } => self.number(5).number(time).number(last),
+            Case::TimeWindowGiven {
+                time,
+                last,
+                tolerance,
+            } => self.number(10).numbers(&[time, last, tolerance]),
             Case::RowIds {
                 next_row_id,
                 first_row,
@@ -106,6 +112,15 @@ impl Line {
         self.optional_bytes(run.file.as_ref());
         self.optional_bytes(run.limit.as_ref());
         self.updates(&run.updates)
+    }
+
+    /// A count, then the tags that are given, ascending.
+    fn more(&mut self, more: &More) -> &mut Self {
+        self.number(more.tolerance.is_some() as u8);
+        match more.tolerance {
+            Some(tolerance) => self.number(1).number(tolerance),
+            None => self,
+        }
     }
 
     fn walk_terms(&mut self, terms: &WalkTerms) -> &mut Self {

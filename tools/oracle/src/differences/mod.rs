@@ -14,6 +14,7 @@ use crate::published::apply::{apply, call};
 use crate::published::number::in_words;
 use crate::published::to_published as to;
 use crate::spec::table_metadata_builder::TableMetadataBuilder;
+use crate::spec::{MINUTE_MS, set_tolerance};
 
 /// The map's order is another each time; so often both picks of two have come up.
 const TRIES: usize = 64;
@@ -42,8 +43,8 @@ pub fn cases(mut output: impl Write) -> io::Result<()> {
 
 /// The number, and behind a refused run's its place.
 fn here(case: &Case) -> String {
-    if let Case::Run(run) = case {
-        return match port::run(run).answer {
+    if let Some((run, tolerance)) = case.run() {
+        return match port::run(run, tolerance).answer {
             Ok(accepted) => accepted_with(accepted.metadata.version, accepted.metadata.next_row_id),
             Err((number, place)) => format!("{number} at {place}"),
         };
@@ -66,7 +67,7 @@ fn accepted_with(version: u8, next_row_id: u64) -> String {
 
 fn alone(case: &Case) -> String {
     match case {
-        Case::Run(run) => run_alone(run),
+        Case::Run(run) | Case::RunGiven(run, _) => run_alone(run),
         Case::Walk {
             ids,
             parents,
@@ -76,8 +77,10 @@ fn alone(case: &Case) -> String {
     }
 }
 
+/// The published builder takes no tolerance; it has its minute.
 fn run_alone(run: &Run) -> String {
     chrono::set_clock(run.clock);
+    set_tolerance(MINUTE_MS);
     let previous = to::metadata(&run.metadata, run.limit.as_deref());
     let file = run.file.as_deref().map(to::text);
     let mut builder = TableMetadataBuilder::new_from_metadata(previous, file);

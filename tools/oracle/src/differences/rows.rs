@@ -1,7 +1,7 @@
 //! The inputs, in the order of the page, each as small as shows its row.
 
 use crate::case::{
-    BRANCH, Case, Flagged, Metadata, MetadataLogEntry, Order, Ref, Run, Schema, Snapshot,
+    BRANCH, Case, Flagged, Metadata, MetadataLogEntry, More, Order, Ref, Run, Schema, Snapshot,
     SnapshotLogEntry, SortField, Update, WalkTerms, capacity,
 };
 use crate::port;
@@ -10,6 +10,7 @@ pub fn all() -> Vec<(&'static str, Case)> {
     [
         arithmetic(),
         row_ids(),
+        tolerances(),
         capacities(),
         starts(),
         numbers_below_their_bounds(),
@@ -29,14 +30,18 @@ fn bare() -> Metadata {
     }
 }
 
-fn run(metadata: Metadata, updates: Vec<Update>) -> Case {
-    Case::Run(Box::new(Run {
+fn run_of(metadata: Metadata, updates: Vec<Update>) -> Run {
+    Run {
         metadata,
         clock: 0,
         file: None,
         limit: None,
         updates,
-    }))
+    }
+}
+
+fn run(metadata: Metadata, updates: Vec<Update>) -> Case {
+    Case::Run(Box::new(run_of(metadata, updates)))
 }
 
 fn snapshot(id: i64, timestamp_ms: i64) -> Snapshot {
@@ -157,6 +162,45 @@ fn row_ids() -> Vec<(&'static str, Case)> {
             "next row id 0: a row from 2^64 - 1",
             run(port::bare(), vec![add(0, (u64::MAX, 1))]),
         ),
+    ]
+}
+
+/// After an entry at 100000, and on both sides of the bounds.
+fn tolerances() -> Vec<(&'static str, Case)> {
+    let start = Metadata {
+        snapshot_log: vec![entry(0, 100_000)],
+        ..bare()
+    };
+    let late_update = Metadata {
+        last_updated_ms: 100_000,
+        ..bare()
+    };
+    let given = |metadata: &Metadata, time, tolerance| {
+        let updates = vec![Update::AddSnapshot(snapshot(0, time))];
+        let more = More {
+            tolerance: Some(tolerance),
+        };
+        Case::RunGiven(Box::new(run_of(metadata.clone(), updates)), more)
+    };
+    vec![
+        (
+            "last entry 100000, a snapshot at 39999, tolerance 60001",
+            given(&start, 39_999, 60_001),
+        ),
+        (
+            "last update 100000, a snapshot at 39999, tolerance 60001",
+            given(&late_update, 39_999, 60_001),
+        ),
+        (
+            "last entry 100000, a snapshot at 40000, tolerance 59999",
+            given(&start, 40_000, 59_999),
+        ),
+        (
+            "last update 100000, a snapshot at 40000, tolerance 59999",
+            given(&late_update, 40_000, 59_999),
+        ),
+        ("tolerance -1", given(&bare(), 0, -1)),
+        ("tolerance 3600001", given(&bare(), 0, 3_600_001)),
     ]
 }
 

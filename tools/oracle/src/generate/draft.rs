@@ -17,9 +17,13 @@ pub struct Draft {
 }
 
 impl Draft {
-    /// A well-formed start with an empty list. `adjust` may change it, well formed.
-    pub fn new(random: &mut Random, adjust: impl FnOnce(&mut Random, &mut Run)) -> Self {
-        let world = World::new(random);
+    /// A well-formed start with an empty list, of a run with this tolerance. `adjust` may change it, well formed.
+    pub fn new(
+        random: &mut Random,
+        tolerance: i64,
+        adjust: impl FnOnce(&mut Random, &mut Run),
+    ) -> Self {
+        let world = World::new(random, tolerance);
         let has_file = random.percent(60);
         let mut run = Run {
             metadata: start::start(random, &world),
@@ -29,7 +33,8 @@ impl Draft {
             updates: Vec::new(),
         };
         adjust(random, &mut run);
-        let builder = port::begin(&run, &mut Owns::new()).expect("a start is well formed");
+        let builder =
+            port::begin(&run, tolerance, &mut Owns::new()).expect("a start is well formed");
         Self {
             run,
             world,
@@ -103,7 +108,8 @@ impl Draft {
                 }
             }
         }
-        while port::run(&self.run).answer.is_err() && self.run.updates.pop().is_some() {}
+        let refused = |run: &Run| port::run(run, self.world.tolerance).answer.is_err();
+        while refused(&self.run) && self.run.updates.pop().is_some() {}
     }
 
     fn main_to_any(&self, random: &mut Random) -> Update {

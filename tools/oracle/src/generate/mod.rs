@@ -8,12 +8,13 @@ mod provoke;
 mod random;
 mod runs;
 mod start;
+mod tolerances;
 mod walks;
 mod world;
 
 use std::io::Write;
 
-use crate::case::{Case, Line};
+use crate::case::{Case, DEFAULT_TOLERANCE, Line};
 use random::Random;
 
 #[derive(Clone, Copy)]
@@ -21,8 +22,17 @@ pub enum Kind {
     Run,
     Walk,
     Limit,
+    Tolerance,
     Mixed,
 }
+
+/// What a mixed lot has, each as often as it is to come.
+const MIXED: [(Kind, usize); 4] = [
+    (Kind::Run, 6),
+    (Kind::Walk, 2),
+    (Kind::Limit, 2),
+    (Kind::Tolerance, 2),
+];
 
 pub fn generate(seed: u64, count: u64, kind: Kind, mut output: impl Write) -> std::io::Result<()> {
     let mut random = Random::new(seed);
@@ -34,11 +44,12 @@ pub fn generate(seed: u64, count: u64, kind: Kind, mut output: impl Write) -> st
 
 fn case(random: &mut Random, kind: Kind) -> Case {
     match kind {
-        Kind::Run => Case::Run(Box::new(runs::run(random))),
+        Kind::Run => Case::Run(Box::new(runs::run(random, DEFAULT_TOLERANCE))),
         Kind::Walk => walks::walk(random),
         Kind::Limit => leaves::leaf(random),
+        Kind::Tolerance => tolerances::given(random),
         Kind::Mixed => {
-            let kind = random.weighted(&[(Kind::Run, 6), (Kind::Walk, 2), (Kind::Limit, 2)]);
+            let kind = random.weighted(&MIXED);
             case(random, kind)
         }
     }

@@ -107,8 +107,10 @@ fn time(random: &mut Random, now: &Now) -> i64 {
     let log_end = now.metadata.snapshot_log.last();
     let last = log_end.map_or(i64::MIN, |entry| entry.timestamp_ms);
     let last = last.max(last_update(now));
+    let tolerance = now.world.tolerance;
+    let passing = [-tolerance, 1 - tolerance, -1, 0, 0, 1, 1000, tolerance + 1];
     match random.percent(if now.world.far { 60 } else { 95 }) {
-        true => last.saturating_add(random.one_of(&[-60_000, -59_999, -1, 0, 0, 1, 1000, 60_001])),
+        true => last.saturating_add(random.one_of(&passing)),
         false => now.world.any_time(random),
     }
 }

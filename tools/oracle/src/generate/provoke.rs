@@ -132,7 +132,7 @@ fn add_or_commit(random: &mut Random, now: &Now, number: u8) -> Update {
 
 fn spoil(random: &mut Random, now: &Now, number: u8, s: &mut Snapshot) {
     let m = &now.metadata;
-    let early = random.one_of(&[60_001, 60_001, 60_002, 1_000_000]);
+    let early = now.world.tolerance + random.one_of(&[1, 1, 2, 940_000]);
     let before = |last: i64| last.saturating_sub(early);
     let next = m.next_row_id;
     match number {

@@ -10,62 +10,69 @@ use crate::port;
 /// So many drafts are tried for a wanted number.
 const TRIES: usize = 60;
 
-pub fn run(random: &mut Random) -> Run {
+/// A run with this tolerance.
+pub fn run(random: &mut Random, tolerance: i64) -> Run {
     match random.below(100) {
-        0..58 => accepted(random),
+        0..58 => accepted(random, tolerance),
         58..90 => {
             let number = 1 + random.below(23) as u8;
-            let found = (0..TRIES).find_map(|_| refused(random, number));
-            found.unwrap_or_else(|| accepted(random))
+            refused(random, tolerance, number)
         }
-        _ => as_it_comes(random),
+        _ => as_it_comes(random, tolerance),
     }
 }
 
-fn accepted(random: &mut Random) -> Run {
+fn accepted(random: &mut Random, tolerance: i64) -> Run {
     let sum = match random.below(100) {
         0..25 => random.below(5),
         25..70 => 4 + random.below(12),
         70..95 => 16 + random.below(30),
         _ => capacity::LIST_SUM - random.below(4),
     };
-    let mut draft = Draft::new(random, |_, _| ());
+    let mut draft = Draft::new(random, tolerance, |_, _| ());
     draft.grow(random, sum);
     draft.mend(random);
     draft.run
 }
 
-fn as_it_comes(random: &mut Random) -> Run {
-    let mut draft = Draft::new(random, |_, _| ());
+fn as_it_comes(random: &mut Random, tolerance: i64) -> Run {
+    let mut draft = Draft::new(random, tolerance, |_, _| ());
     let count = random.below(20);
     draft.add_unasked(random, count);
     draft.run
 }
 
-/// A run that is refused with this number, if the draft allows one. Often there is a second fault, which stands behind.
-fn refused(random: &mut Random, number: u8) -> Option<Run> {
+/// A run that is refused with this number, 1 to 23; one that is accepted if no draft allows it.
+pub fn refused(random: &mut Random, tolerance: i64, number: u8) -> Run {
+    let found = (0..TRIES).find_map(|_| refused_if(random, tolerance, number));
+    found.unwrap_or_else(|| accepted(random, tolerance))
+}
+
+/// The refused run, if the draft allows one. Often there is a second fault, which stands behind.
+fn refused_if(random: &mut Random, tolerance: i64, number: u8) -> Option<Run> {
     let run = match number {
-        1 => ill_formed_start(random),
-        2 => too_long(random),
-        3..20 => refused_update(random, number)?,
-        _ => refused_close(random, number)?,
+        1 => ill_formed_start(random, tolerance),
+        2 => too_long(random, tolerance),
+        3..20 => refused_update(random, tolerance, number)?,
+        _ => refused_close(random, tolerance, number)?,
     };
-    let wanted = matches!(port::run(&run).answer, Err((given, _)) if given == number);
+    let answer = port::run(&run, tolerance).answer;
+    let wanted = matches!(answer, Err((given, _)) if given == number);
     wanted.then_some(run)
 }
 
-fn ill_formed_start(random: &mut Random) -> Run {
+fn ill_formed_start(random: &mut Random, tolerance: i64) -> Run {
     let mut run = match random.percent(10) {
-        true => too_long(random),
-        false => accepted(random),
+        true => too_long(random, tolerance),
+        false => accepted(random, tolerance),
     };
     damage::start(random, &mut run);
     run
 }
 
 /// A sum just above 64, or a count above it; at times the list has ill-formed updates too.
-fn too_long(random: &mut Random) -> Run {
-    let mut run = accepted(random);
+fn too_long(random: &mut Random, tolerance: i64) -> Run {
+    let mut run = accepted(random, tolerance);
     let mut filler = random
         .any_of(&run.updates)
         .unwrap_or(Update::RemoveSchemas(Vec::new()));
@@ -80,8 +87,10 @@ fn too_long(random: &mut Random) -> Run {
 }
 
 /// Some accepted updates, at times one that leads up to it, then the refused one, then some that are never reached.
-fn refused_update(random: &mut Random, number: u8) -> Option<Run> {
-    let mut draft = Draft::new(random, |random, run| provoke::prepare(random, run, number));
+fn refused_update(random: &mut Random, tolerance: i64, number: u8) -> Option<Run> {
+    let mut draft = Draft::new(random, tolerance, |random, run| {
+        provoke::prepare(random, run, number)
+    });
     let sum = random.below(12);
     draft.grow(random, sum);
     if let Some(update) = provoke::lead(random, &draft.now(), number) {
@@ -97,8 +106,10 @@ fn refused_update(random: &mut Random, number: u8) -> Option<Run> {
     Some(draft.run)
 }
 
-fn refused_close(random: &mut Random, number: u8) -> Option<Run> {
-    let mut draft = Draft::new(random, |random, run| provoke::prepare(random, run, number));
+fn refused_close(random: &mut Random, tolerance: i64, number: u8) -> Option<Run> {
+    let mut draft = Draft::new(random, tolerance, |random, run| {
+        provoke::prepare(random, run, number)
+    });
     let sum = random.below(12);
     draft.grow(random, sum);
     for update in provoke::closing(random, &draft.now(), number)? {

@@ -5,6 +5,8 @@ use crate::case::{Bytes, capacity};
 
 pub struct World {
     pub time: i64,
+    /// The run's tolerance.
+    pub tolerance: i64,
     /// Times lie anywhere in 64 bits.
     pub far: bool,
     /// Row ranges may start above the next row id.
@@ -14,13 +16,8 @@ pub struct World {
     pub field_ids: Vec<i32>,
 }
 
-/// Differences that lie on the minute and beside it.
-const NEARBY_MS: [i64; 12] = [
-    -60_001, -60_000, -59_999, -1000, -1, 0, 0, 1, 1000, 59_999, 60_000, 60_001,
-];
-
 impl World {
-    pub fn new(random: &mut Random) -> Self {
+    pub fn new(random: &mut Random, tolerance: i64) -> Self {
         let ends = [i64::MAX - 200_000, i64::MIN + 200_000];
         let time = match random.below(100) {
             0..78 => random.one_of(&[100_000, 1_700_000_000_000]),
@@ -29,6 +26,7 @@ impl World {
         };
         Self {
             time,
+            tolerance,
             far: random.percent(8),
             gaps: random.percent(30),
             snapshot_ids: snapshot_ids(random),
@@ -39,11 +37,19 @@ impl World {
 
     /// A time near the world's, or anywhere.
     pub fn any_time(&self, random: &mut Random) -> i64 {
-        let ends = [i64::MIN, i64::MIN + 1, -60_001, -2, 0, i64::MAX];
+        let ends = [i64::MIN, i64::MIN + 1, -1 - self.tolerance, -2, 0, i64::MAX];
         match self.far && random.percent(40) {
             true => random.one_of(&ends),
-            false => self.time.saturating_add(random.one_of(&NEARBY_MS)),
+            false => self.time.saturating_add(random.one_of(&self.nearby())),
         }
+    }
+
+    /// Differences that lie on the tolerance and beside it.
+    fn nearby(&self) -> [i64; 12] {
+        let [below, at, above] = [-1, 0, 1].map(|beside| self.tolerance + beside);
+        [
+            -above, -at, -below, -1000, -1, 0, 0, 1, 1000, below, at, above,
+        ]
     }
 }
 

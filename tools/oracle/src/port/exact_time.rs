@@ -1,6 +1,6 @@
 //! Document 01's time differences are exact whole numbers; the published ones overflow. Where one would, the times that the
 //! builder subtracts are moved towards the snapshot's, to the nearest whose difference fits, and put back after the update.
-//! A moved difference lies at an end of 64 bits and so on the same side of a minute as the exact one.
+//! A moved difference lies at an end of 64 bits and so on the same side of the tolerance as the exact one.
 
 use super::run::Step;
 use crate::case::Update;
@@ -10,10 +10,7 @@ use crate::spec::table_metadata_builder::TableMetadataBuilder;
 
 /// The time that `update` brings, if the builder will subtract one from it that is too far away.
 pub fn far_time(builder: &TableMetadataBuilder, update: &Update) -> Option<i64> {
-    let time = match update {
-        Update::AddSnapshot(s) | Update::SetBranchSnapshot(_, s) => s.timestamp_ms,
-        _ => return None,
-    };
+    let time = update.added()?.timestamp_ms;
     let held = builder.held();
     let log_end = held.snapshot_log.last().map(|entry| entry.timestamp_ms);
     let far = |last: i64| near(time, last) != last;

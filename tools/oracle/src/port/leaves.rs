@@ -1,13 +1,14 @@
 //! The small entry points, each asked of the published builder by an update that shows it.
 
 use super::own::{Own, Owns};
-use super::run::{Outcome, run};
+use super::run::{Outcome, begin, run, step};
 use crate::case::{
-    Flagged, Metadata, MetadataLogEntry, Order, Run, Schema, Snapshot, SnapshotLogEntry, Update,
+    DEFAULT_TOLERANCE, Flagged, Metadata, MetadataLogEntry, Order, Run, Schema, Snapshot,
+    SnapshotLogEntry, Update,
 };
 use crate::published::to_published as to;
-use crate::spec::TableMetadata;
 use crate::spec::table_metadata_builder::TableMetadataBuilder;
+use crate::spec::{MINUTE_MS, TableMetadata, set_tolerance};
 
 /// So many entries make a limit below their number visible.
 const LIMIT_SHOWN: usize = 1000;
@@ -65,25 +66,43 @@ pub fn limit(text: Option<&[u8]>) -> (u64, Owns) {
     }
 }
 
-fn add(metadata: Metadata, timestamp_ms: i64, rows: (u64, u64)) -> Outcome {
-    let added = Snapshot {
+fn run_of(metadata: Metadata, updates: Vec<Update>) -> Run {
+    Run {
+        metadata,
+        clock: 0,
+        file: None,
+        limit: None,
+        updates,
+    }
+}
+
+fn add(timestamp_ms: i64, rows: (u64, u64)) -> Update {
+    Update::AddSnapshot(Snapshot {
         id: 0,
         parent: Flagged::of(None),
         sequence: 0,
         timestamp_ms,
         rows: Flagged::of(Some(rows)),
-    };
-    run(&Run {
-        metadata,
-        clock: 0,
-        file: None,
-        limit: None,
-        updates: vec![Update::AddSnapshot(added)],
     })
 }
 
-/// Whether adding a snapshot of this time, after a log that ends at `last`, is not refused with 7. (8 is asked after 7.)
-pub fn time_window(time: i64, last: i64) -> (bool, Owns) {
+/// Whether a snapshot of this time can be added after a log that ends at `last`, by this tolerance, which may be any number.
+pub fn time_window(time: i64, last: i64, tolerance: i64) -> (bool, Owns) {
+    let mut owns = Owns::new();
+    let answer = within(time, last, tolerance, &mut owns);
+    if answer != within(time, last, MINUTE_MS, &mut Owns::new()) {
+        owns.insert(Own::Tolerance);
+    }
+    (answer, owns)
+}
+
+/// Whether the addition is not refused with 7. (8 is asked after 7.) The tolerance is set when the run has begun, so that 26 is not asked.
+fn within(time: i64, last: i64, tolerance: i64, owns: &mut Owns) -> bool {
+    if tolerance == i64::MIN {
+        // It has no negation. Moved by one each, it and the time have the same sum, or one that is still below every last time.
+        owns.insert(Own::ExactTime);
+        return within(time.saturating_sub(1), last, tolerance + 1, owns);
+    }
     let entry = SnapshotLogEntry {
         snapshot_id: 0,
         timestamp_ms: last,
@@ -92,9 +111,10 @@ pub fn time_window(time: i64, last: i64) -> (bool, Owns) {
         snapshot_log: vec![entry],
         ..bare()
     };
-    let outcome = add(start, time, (0, 0));
-    let within = !matches!(outcome.answer, Err((7, _)));
-    (within, outcome.owns)
+    let begun = begin(&run_of(start, Vec::new()), DEFAULT_TOLERANCE, owns);
+    let builder = begun.expect("bare metadata begins");
+    set_tolerance(tolerance);
+    !matches!(step(builder, &add(time, (0, 0)), owns), Err(7))
 }
 
 /// Adds a snapshot with this row range.
@@ -103,7 +123,8 @@ pub fn row_ids(next_row_id: u64, first_row: u64, added_rows: u64) -> Outcome {
         next_row_id,
         ..bare()
     };
-    add(start, 0, (first_row, added_rows))
+    let updates = vec![add(0, (first_row, added_rows))];
+    run(&run_of(start, updates), DEFAULT_TOLERANCE)
 }
 
 /// Sets the location of metadata that has an empty one.

@@ -9,10 +9,12 @@ mod own;
 mod row_gap;
 mod run;
 mod texts;
+mod tolerance;
 mod walk;
 
-pub use formed::list_sum;
+pub use formed::{list_sum, update as update_formed};
 pub use leaves::{bare, limit, row_ids, time_window, trim};
 pub use own::{Own, Owns};
 pub use run::{Outcome, Reply, begin, close, run, step};
+pub use tolerance::is_another_tolerance;
 pub use walk::{WalkOutcome, published_walk, table, walk, walk_records};

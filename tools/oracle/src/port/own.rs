@@ -22,8 +22,12 @@ pub enum Own {
     Cycle,
     /// 25.
     ShortBuffer,
+    /// 26.
+    ToleranceOutside,
     /// The published next row id grows by added rows alone, and the answer is another for it.
     NextRowId,
+    /// The published tolerance is a minute, and the answer is another for it.
+    Tolerance,
     /// The published subtraction of two times overflows; document 01's is exact.
     ExactTime,
     /// A limit that is larger than the published code can be seen to keep.
@@ -52,7 +56,9 @@ impl Own {
             Own::MetadataLogFull => "23: the published metadata log has no capacity",
             Own::Cycle => "24: the published walk never ends",
             Own::ShortBuffer => "25: the published walk has no buffer",
+            Own::ToleranceOutside => "26: the published code is given no tolerance",
             Own::NextRowId => "next row id: the published one grows by added rows alone",
+            Own::Tolerance => "tolerance: the published one is a minute",
             Own::ExactTime => "exact times: the published time subtraction overflows",
             Own::LargeLimit => "limit above what the published log can show",
             Own::NotUtf8 => "a text that is not UTF-8, the published texts are",

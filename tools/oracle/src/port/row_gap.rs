@@ -10,10 +10,7 @@ use crate::spec::table_metadata_builder::TableMetadataBuilder;
 
 /// First row id and added rows that the update brings, if any.
 fn rows(update: &Update) -> Option<(u64, u64)> {
-    match update {
-        Update::AddSnapshot(s) | Update::SetBranchSnapshot(_, s) => s.rows.get(),
-        _ => None,
-    }
+    update.added()?.rows.get()
 }
 
 /// Closes the gap that the update leaves, if it does, and says so.

@@ -1,15 +1,17 @@
-//! A run: 1, then 2, then the updates in order by the published builder, then its close, with the port's own checks between.
+//! A run: 1, then 2, then 26, then the updates in order by the published builder, then its close, with the port's own checks between.
+
+use std::collections::BTreeMap;
 
 use super::own::{Own, Owns};
-use super::{exact_time, formed, map_order, row_gap, texts};
+use super::{exact_time, formed, map_order, row_gap, texts, tolerance};
 use crate::TableUpdate;
-use crate::case::{Metadata, MetadataLogEntry, Run, Update, capacity};
+use crate::case::{Metadata, MetadataLogEntry, Run, TOLERANCES, Update, capacity};
 use crate::chrono;
 use crate::published::apply::{apply, call};
 use crate::published::number::{Refusal, attempt};
 use crate::published::{from_published as from, to_published as to};
 use crate::spec::table_metadata_builder::{TableMetadataBuildResult, TableMetadataBuilder};
-use crate::spec::{MAIN_BRANCH, TableMetadata};
+use crate::spec::{MAIN_BRANCH, MINUTE_MS, TableMetadata, set_tolerance};
 
 /// What an accepted run answers.
 #[derive(Debug, PartialEq)]
@@ -26,33 +28,46 @@ pub type Reply = Result<Accepted, (u8, usize)>;
 pub struct Outcome {
     pub answer: Reply,
     pub owns: Owns,
-    /// What the published rule for the next row id answers, where that is something else.
-    pub published: Option<Published>,
+    /// What a published rule answers, the one for the next row id or that of a minute, where that is something else; by its mark.
+    pub published: BTreeMap<Own, Published>,
 }
 
 #[derive(Debug)]
 pub struct Published {
     pub answer: Reply,
-    /// The two answers differ by the rule for the next row id and by nothing else.
+    /// The two answers differ by that rule and by nothing else.
     pub by_rule: bool,
 }
 
 /// The builder after an update, or the refusal's number.
 pub type Step = Result<TableMetadataBuilder, u8>;
 
-pub fn run(run: &Run) -> Outcome {
+/// The run by its tolerance, in milliseconds.
+pub fn run(run: &Run, tolerance: i64) -> Outcome {
     let mut owns = Owns::new();
-    let ours = answer(run, step, &mut owns);
+    let ours = answer(run, tolerance, step, &mut owns);
+    let mut published = BTreeMap::new();
+    let mut ask = |own, answer: Reply, by_rule: &dyn Fn(&Reply) -> bool| {
+        if answer != ours {
+            let by_rule = by_rule(&answer);
+            published.insert(own, Published { answer, by_rule });
+        }
+    };
     // Where a gap was closed the published code is asked once more, with the gap.
-    let published = owns
-        .remove(&Own::NextRowId)
-        .then(|| answer(run, step_as_published, &mut Owns::new()))
-        .filter(|published| *published != ours)
-        .map(|published| Published {
-            by_rule: row_gap::differ_by_rule(run, &ours, &published),
-            answer: published,
+    if owns.remove(&Own::NextRowId) {
+        let with_gap = answer(run, tolerance, step_as_published, &mut Owns::new());
+        ask(Own::NextRowId, with_gap, &|published| {
+            row_gap::differ_by_rule(run, &ours, published)
         });
-    owns.extend(published.is_some().then_some(Own::NextRowId));
+    }
+    // Where the tolerance is another one it is asked once more, with a minute.
+    if tolerance::is_another_tolerance(tolerance) {
+        let by_a_minute = answer(run, MINUTE_MS, step, &mut Owns::new());
+        ask(Own::Tolerance, by_a_minute, &|published| {
+            tolerance::differ_by_rule(run, tolerance, &ours, published)
+        });
+    }
+    owns.extend(published.keys());
     Outcome {
         answer: ours,
         owns,
@@ -62,18 +77,19 @@ pub fn run(run: &Run) -> Outcome {
 
 fn answer(
     run: &Run,
+    tolerance: i64,
     step: impl Fn(TableMetadataBuilder, &Update, &mut Owns) -> Step,
     owns: &mut Owns,
 ) -> Reply {
-    let mut builder = begin(run, owns).map_err(|number| (number, 0))?;
+    let mut builder = begin(run, tolerance, owns).map_err(|number| (number, 0))?;
     for (place, update) in run.updates.iter().enumerate() {
         builder = step(builder, update, owns).map_err(|number| (number, place))?;
     }
     close(builder, owns).map_err(|number| (number, run.updates.len()))
 }
 
-/// The builder at the start, with the clock set: 1, then 2.
-pub fn begin(run: &Run, owns: &mut Owns) -> Step {
+/// The builder at the start, with the clock and the tolerance set for the steps that follow: 1, then 2, then 26.
+pub fn begin(run: &Run, tolerance: i64, owns: &mut Owns) -> Step {
     if !formed::start(run) {
         owns.insert(Own::StartNotFormed);
         return Err(1);
@@ -82,10 +98,15 @@ pub fn begin(run: &Run, owns: &mut Owns) -> Step {
         owns.insert(Own::ListSum);
         return Err(2);
     }
+    if !TOLERANCES.contains(&tolerance) {
+        owns.insert(Own::ToleranceOutside);
+        return Err(26);
+    }
     if !texts::all_utf8(run) {
         owns.insert(Own::NotUtf8);
     }
     chrono::set_clock(run.clock);
+    set_tolerance(tolerance);
     let previous = to::metadata(&run.metadata, run.limit.as_deref());
     let file = run.file.as_deref().map(to::text);
     Ok(TableMetadataBuilder::new_from_metadata(previous, file))

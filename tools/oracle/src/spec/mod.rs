@@ -1,5 +1,6 @@
 //! Stand-ins for `crate::spec`, made for document 01's domain, and the published builder compiled over them.
 
+mod minute;
 mod not_taken;
 mod partition;
 mod schema;
@@ -10,6 +11,7 @@ mod table_metadata;
 #[allow(dead_code, clippy::all)]
 pub mod table_metadata_builder;
 
+pub use minute::{MINUTE_MS, ONE_MINUTE_MS, set_tolerance};
 pub use not_taken::{EncryptedKey, PartitionStatisticsFile, StatisticsFile, not_taken};
 pub use partition::{
     DEFAULT_PARTITION_SPEC_ID, PartitionSpec, PartitionSpecBuilder, StructType, Transform,
@@ -21,6 +23,6 @@ pub use snapshot::{
 };
 pub use sort::{SortField, SortOrder, SortOrderRef};
 pub use table_metadata::{
-    FormatVersion, INITIAL_ROW_ID, MIN_FORMAT_VERSION_ROW_LINEAGE, MetadataLog, ONE_MINUTE_MS,
-    TableMetadata, TableMetadataRef, TableProperties,
+    FormatVersion, INITIAL_ROW_ID, MIN_FORMAT_VERSION_ROW_LINEAGE, MetadataLog, TableMetadata,
+    TableMetadataRef, TableProperties,
 };

@@ -11,7 +11,6 @@ use super::{
 use crate::error::Result;
 use crate::uuid::Uuid;
 
-pub const ONE_MINUTE_MS: i64 = 60_000;
 pub const INITIAL_ROW_ID: u64 = 0;
 pub const MIN_FORMAT_VERSION_ROW_LINEAGE: FormatVersion = FormatVersion::V3;
 
