@@ -13,8 +13,12 @@ extern "C" {
 /* The limit of the metadata log that the property's text gives; 100 where it is no number, and for a text of length 0. */
 uint64_t register_limit(const uint8_t *text, size_t length);
 
-/* Whether the time is over a minute before the last one; both in milliseconds. */
-bool register_too_early(int64_t time, int64_t last);
+/* The tolerance of a run that is given none, in milliseconds. */
+#define REGISTER_DEFAULT_TOLERANCE_MS INT64_C(60000)
+
+/* Whether the time is before the last one by more than the tolerance: time + tolerance < last, exactly, for any three numbers. All in
+   milliseconds. */
+bool register_too_early(int64_t time, int64_t last, int64_t tolerance);
 
 /* number: 0 accepted, 9 first row id below next row id, 11 the range would end above 2^64 - 1.
    next: the next row id from then on, first + added; on a refusal the one that came in. */

@@ -4,10 +4,13 @@ mod linked {
     // crates/exports/include/register.h says the same in C.
     extern "C" {
         pub fn register_limit(text: *const u8, length: usize) -> u64;
-        pub fn register_too_early(time: i64, last: i64) -> bool;
+        pub fn register_too_early(time: i64, last: i64, tolerance: i64) -> bool;
         pub fn register_row_check(next: u64, first: u64, added: u64) -> super::RowCheck;
     }
 }
+
+/// The tolerance of a run that is given none, in milliseconds: `REGISTER_DEFAULT_TOLERANCE_MS` of the header.
+pub const DEFAULT_TOLERANCE_MS: i64 = 60_000;
 
 /// The answer to a row range.
 #[repr(C)]
@@ -31,10 +34,10 @@ pub fn limit_of_no_text() -> u64 {
     unsafe { linked::register_limit(std::ptr::null(), 0) }
 }
 
-/// Whether `time` is over a minute before `last`, both in milliseconds.
-pub fn too_early(time: i64, last: i64) -> bool {
-    // SAFETY: any two numbers may be passed.
-    unsafe { linked::register_too_early(time, last) }
+/// Whether `time` is before `last` by more than `tolerance`, all in milliseconds.
+pub fn too_early(time: i64, last: i64, tolerance: i64) -> bool {
+    // SAFETY: any three numbers may be passed.
+    unsafe { linked::register_too_early(time, last, tolerance) }
 }
 
 /// Checks a snapshot's rows against the next row id.

@@ -2,7 +2,7 @@
 //! `compare [SEED]`; the status is 1 where a difference was found, 2 where SEED is no number from 1 to 2^64 - 1: random numbers from 0 would
 //! all be 0.
 
-use register::{limit, limit_of_no_text, row_check, too_early, RowCheck};
+use register::{limit, limit_of_no_text, row_check, too_early, RowCheck, DEFAULT_TOLERANCE_MS};
 
 /// Document 01: "optional `+`, at least one digit, nothing else, at most 2^64 - 1; otherwise 100; never below 1".
 fn limit_rule(text: &[u8]) -> u64 {
@@ -29,9 +29,9 @@ fn limit_published(text: &[u8]) -> u64 {
         .max(1)
 }
 
-/// Document 01: "time + 60,000 < last", in exact whole numbers.
-fn too_early_rule(time: i64, last: i64) -> bool {
-    i128::from(time) + 60_000 < i128::from(last)
+/// Document 01: "time + 60,000 < last", in exact whole numbers. Document 02, request (v): the tolerance is given, "default 60,000".
+fn too_early_rule(time: i64, last: i64, tolerance: i64) -> bool {
+    i128::from(time) + i128::from(tolerance) < i128::from(last)
 }
 
 /// Document 01: 9 if the first row id is below the next. Document 02, request (iv): then the next becomes first row id plus added rows,
@@ -167,30 +167,65 @@ fn limits(random: &mut Random, tally: &mut Tally) {
     );
 }
 
+/// The ends of 64 bits, those of a run's tolerance, and what lies beside both, the default and the times of the examples.
+const MOMENTS: [i64; 25] = [
+    i64::MIN,
+    i64::MIN + 1,
+    i64::MIN + 60_000,
+    i64::MIN + 3_600_000,
+    -3_600_001,
+    -3_600_000,
+    -60_001,
+    -60_000,
+    -59_999,
+    -1,
+    0,
+    1,
+    39_999,
+    40_000,
+    59_999,
+    60_000,
+    60_001,
+    100_000,
+    3_599_999,
+    3_600_000,
+    3_600_001,
+    i64::MAX - 3_600_000,
+    i64::MAX - 60_000,
+    i64::MAX - 1,
+    i64::MAX,
+];
+
 fn windows(random: &mut Random, tally: &mut Tally) {
     let mut early = 0;
-    let mut one = |time: i64, last: i64| {
-        let rule = too_early_rule(time, last);
+    let mut one = |time: i64, last: i64, tolerance: i64| {
+        let rule = too_early_rule(time, last, tolerance);
         early += u64::from(rule);
-        tally.same(&(time, last), too_early(time, last), rule);
+        let linked = too_early(time, last, tolerance);
+        tally.same(&(time, last, tolerance), linked, rule);
     };
-    let ends: Vec<i64> = [i64::MIN, -60_000, 0, 60_000, 40_000, 100_000, i64::MAX]
-        .iter()
-        .flat_map(|&e| {
-            [-60_001, -60_000, -59_999, -1, 0, 1, 59_999, 60_000, 60_001].map(|d| e.wrapping_add(d))
-        })
-        .collect();
-    for &time in &ends {
-        for &last in &ends {
-            one(time, last);
+    for time in MOMENTS {
+        for last in MOMENTS {
+            for tolerance in MOMENTS {
+                one(time, last, tolerance);
+            }
         }
     }
-    for _ in 0..600_000 {
-        let time = random.number() as i64;
-        one(time, random.number() as i64);
-        one(time, time.wrapping_add(60_000 + random.below(7) as i64 - 3));
+    for _ in 0..300_000 {
+        let [time, last, any] = [(); 3].map(|()| random.number() as i64);
+        let given = random.below(3_600_001) as i64;
+        for tolerance in [DEFAULT_TOLERANCE_MS, given, any] {
+            let beside = random.below(7) as i64 - 3;
+            one(time, last, tolerance);
+            one(
+                time,
+                time.wrapping_add(tolerance).wrapping_add(beside),
+                tolerance,
+            );
+        }
     }
     println!("{} windows, {} too early", tally.compared, early);
+    tally.same(&"the default tolerance", DEFAULT_TOLERANCE_MS, 60_000);
 }
 
 fn rows(random: &mut Random, tally: &mut Tally) {
