@@ -22,11 +22,13 @@ enum Shown {
     ByRule(Own, &'static str, Option<u8>, bool),
     /// The reply to a run whose tolerance is outside its bounds, and whether its updates are well formed.
     Outside(Option<u8>, bool),
+    /// A time window: its kind, its answer, and a place where that rests on the wrapper.
+    Window(&'static str, bool, Option<Own>),
     /// The version of a run's start and the run's reply.
     Version(u8, Option<u8>),
     /// The kinds of two updates, one after the other, that were logged in an accepted run.
     Pair(u8, u8),
-    /// A reply, and the power of two that the case's length lies under.
+    /// A reply, both kinds of runs being one, and the power of two that the case's length lies under.
     Size(&'static str, Option<u8>, u32),
 }
 
@@ -66,7 +68,13 @@ fn candidate(case: Case) -> Candidate {
         Shown::ByRule(*own, case.kind(), answer.number, published.number == 0)
     };
     shown.extend(answer.published.iter().map(by_rule));
-    shown.insert(Shown::Size(case.kind(), answer.number, line.len().ilog2()));
+    let kind = case.run().map_or(case.kind(), |_| "run");
+    shown.insert(Shown::Size(kind, answer.number, line.len().ilog2()));
+    if let Case::TimeWindow { .. } | Case::TimeWindowGiven { .. } = case {
+        let owns = answer.owns.iter().copied().map(Some);
+        let within = |own| Shown::Window(case.kind(), answer.line == "1", own);
+        shown.extend(owns.chain([None]).map(within));
+    }
     if let Some((run, tolerance)) = case.run() {
         let formed = run.updates.iter().all(port::update_formed);
         let outside = !TOLERANCES.contains(&tolerance);
