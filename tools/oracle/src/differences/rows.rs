@@ -165,7 +165,7 @@ fn row_ids() -> Vec<(&'static str, Case)> {
     ]
 }
 
-/// After an entry at 100000, and on both sides of the bounds.
+/// On both sides of a minute, after an entry and after a last update; and just outside the bounds.
 fn tolerances() -> Vec<(&'static str, Case)> {
     let start = Metadata {
         snapshot_log: vec![entry(0, 100_000)],

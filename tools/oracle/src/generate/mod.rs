@@ -1,4 +1,5 @@
-//! A seeded generator of cases: deep accepted runs, every refusal, boundaries, damaged records, walks and the small entry points.
+//! A seeded generator of cases: deep accepted runs, every refusal, boundaries, damaged records, walks, the small entry points, and
+//! tolerances.
 
 mod damage;
 mod draft;

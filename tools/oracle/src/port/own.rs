@@ -28,7 +28,7 @@ pub enum Own {
     NextRowId,
     /// The published tolerance is a minute, and the answer is another for it.
     Tolerance,
-    /// The published subtraction of two times overflows; document 01's is exact.
+    /// The published subtraction of two times, or negation of a tolerance, overflows; document 01's differences are exact.
     ExactTime,
     /// A limit that is larger than the published code can be seen to keep.
     LargeLimit,
