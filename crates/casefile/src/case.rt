@@ -28,10 +28,10 @@ pub fn read_case(input: &mut Input, place: &mut Place) -> u64 {
     0
 }
 
-// The format version that a question without a number of its own starts with; none at the end of the input, between questions.
+// The number, 0 to 255, that a question starts with; none at the end of the input, between questions.
 pub struct First {
     pub is_there: bool,
-    pub version: u8,
+    pub number: u8,
 }
 
 pub fn read_first(input: &mut Input, place: &mut Place) -> First {
@@ -40,8 +40,8 @@ pub fn read_first(input: &mut Input, place: &mut Place) -> First {
     if is_unsigned(token, u64::MAX) {
         let magnitude = token.magnitude;
         if magnitude <= 255 {
-            let version = magnitude as u8;
-            return First { is_there, version };
+            let number = magnitude as u8;
+            return First { is_there, number };
         }
     }
     if is_there {
@@ -49,7 +49,7 @@ pub fn read_first(input: &mut Input, place: &mut Place) -> First {
     }
     First {
         is_there,
-        version: 0,
+        number: 0,
     }
 }
 

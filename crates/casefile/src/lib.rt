@@ -5,6 +5,7 @@ pub mod case;
 pub mod ids;
 pub mod limit_text;
 pub mod metadata;
+pub mod more;
 pub mod reference;
 pub mod run;
 pub mod schema;

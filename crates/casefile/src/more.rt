@@ -1,0 +1,61 @@
+// What a run may be given more, after its updates: a count, then that many tags with their values, in ascending order of the tags.
+use numbers::field::read_count;
+use numbers::field::read_i64;
+use numbers::field::read_u64;
+use numbers::input::Input;
+use numbers::input::Place;
+use numbers::input::is_good;
+use numbers::input::spoil;
+use records::counters::Age;
+use records::run::DEFAULT_TOLERANCE_MS;
+
+const TOLERANCE: u64 = 1;
+
+pub struct More {
+    pub tolerance_ms: Age,
+}
+
+impl More {
+    // What holds where no tag is given.
+    pub fn none() -> More {
+        More {
+            tolerance_ms: Age(DEFAULT_TOLERANCE_MS),
+        }
+    }
+}
+
+// A tag that is not above the last one spoils the input.
+fn read_tag(last: u64, input: &mut Input, place: &mut Place) -> u64 {
+    let tag = read_u64(input, place);
+    if tag <= last {
+        spoil(place);
+    }
+    tag
+}
+
+// The value of this tag takes its place; an unknown tag spoils the input.
+fn read_value(tag: u64, given: More, input: &mut Input, place: &mut Place) -> More {
+    let mut more = given;
+    match tag {
+        TOLERANCE => {
+            let tolerance_ms = Age(read_i64(input, place));
+            more.tolerance_ms = tolerance_ms;
+        }
+        _ => spoil(place),
+    }
+    more
+}
+
+pub fn read_more(input: &mut Input, place: &mut Place) -> More {
+    let mut more = More::none();
+    let count = read_count(input, place);
+    let mut last: u64 = 0;
+    let mut i = 0;
+    while i < count && is_good(place) {
+        let tag = read_tag(last, input, place);
+        more = read_value(tag, more, input, place);
+        last = tag;
+        i += 1;
+    }
+    more
+}
