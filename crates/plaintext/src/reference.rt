@@ -6,6 +6,7 @@ use crate::number::say_u8;
 use crate::table::say_heading;
 use crate::table::say_left_out_line;
 use crate::text::say;
+use crate::time::say_age;
 use fitting::with_slots;
 use numbers::output::Output;
 use records::capacities::REFS;
@@ -38,13 +39,11 @@ fn say_retention(output: &mut Output, end: &mut usize, reference: SnapshotRefere
     }
     if reference.has_age {
         say(output, end, b", keeps snapshots for ");
-        say_i64(output, end, reference.max_snapshot_age_ms.0);
-        say(output, end, b" ms");
+        say_age(output, end, reference.max_snapshot_age_ms);
     }
     if reference.has_ref_age {
         say(output, end, b", stays for ");
-        say_i64(output, end, reference.max_ref_age_ms.0);
-        say(output, end, b" ms");
+        say_age(output, end, reference.max_ref_age_ms);
     }
 }
 

@@ -1,4 +1,4 @@
-// An answer's number and place, in the words of document 01, "Numbers of the replies".
+// An answer's number and place, in the words of document 01, "Numbers of the replies", and of document 02.
 use crate::number::say_count;
 use crate::number::say_u8;
 use crate::text::say;
@@ -13,7 +13,7 @@ pub fn say_refused(output: &mut Output, end: &mut usize, number: u8, place: usiz
     say_count(output, end, place);
 }
 
-// What a run is refused for; its numbers are 1 to 23, and a line stands for each.
+// What a run is refused for: its numbers are 1 to 23 and 26. A line stands for each number, also for the two of a walk.
 pub fn say_reason(output: &mut Output, end: &mut usize, number: u8) {
     let reasons = b"accepted\n\
         starting metadata not well formed, current file's name too long, or a walk's lists bad\n\
@@ -22,8 +22,8 @@ pub fn say_reason(output: &mut Output, end: &mut usize, number: u8) {
         version lowered\n\
         snapshot id already held\n\
         sequence number too low\n\
-        over a minute before the last snapshot-log entry\n\
-        over a minute before the last update\n\
+        more than the tolerance before the last snapshot-log entry\n\
+        more than the tolerance before the last update\n\
         first row id below next row id\n\
         version 3 and no row range\n\
         next row id would pass 2^64 - 1\n\
@@ -38,6 +38,9 @@ pub fn say_reason(output: &mut Output, end: &mut usize, number: u8) {
         close: default order names a field not in the current schema\n\
         close: rebuilt log does not end at the current snapshot\n\
         close: current snapshot and `main` disagree\n\
-        close: over 128 metadata-log entries would stay\n";
+        close: over 128 metadata-log entries would stay\n\
+        walk meets a snapshot twice\n\
+        walk's buffer shorter than its answer\n\
+        tolerance not within 0 to 3600000 ms\n";
     say_line(output, end, reasons, number as usize);
 }

@@ -1,10 +1,11 @@
-// Moments, with their dates in UTC.
+// Moments, with their dates in UTC, and spans of time.
 use crate::name::say_escaped;
 use crate::number::say_i64;
 use crate::text::say;
 use calendar::date::date_of;
 use calendar::text::text_of;
 use numbers::output::Output;
+use records::counters::Age;
 use records::counters::Time;
 
 // As `2025-03-12 10:00:00 UTC`, with `.123` after the seconds where milliseconds are not 0.
@@ -26,4 +27,10 @@ pub fn say_time(output: &mut Output, end: &mut usize, time: Time) {
     say(output, end, b" (");
     say_date(output, end, time);
     say(output, end, b")");
+}
+
+// As `94608000000 ms`.
+pub fn say_age(output: &mut Output, end: &mut usize, age: Age) {
+    say_i64(output, end, age.0);
+    say(output, end, b" ms");
 }
