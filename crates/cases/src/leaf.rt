@@ -1,9 +1,10 @@
-// Cases 4 to 7: the leaves.
+// Cases 4 to 7 and 10: the leaves.
 use casefile::limit_text::LimitText;
 use casefile::limit_text::read_limit_text;
 use casefile::untrimmed::read_untrimmed;
 use casewrite::text::put_bytes;
 use fitting::lent;
+use leaves::window::is_before;
 use numbers::field::read_i64;
 use numbers::field::read_u64;
 use numbers::input::Input;
@@ -17,9 +18,7 @@ use records::capacities::LOCATION;
 use records::counters::Age;
 use records::counters::RowId;
 use records::counters::Time;
-
-// In milliseconds.
-const MINUTE: i64 = 60000;
+use records::run::DEFAULT_TOLERANCE_MS;
 
 fn limit_of(text: LimitText) -> u64 {
     let bytes = text.bytes;
@@ -38,12 +37,23 @@ pub fn limit(input: &mut Input, place: &mut Place, output: &mut Output, end: &mu
 pub fn window(input: &mut Input, place: &mut Place, output: &mut Output, end: &mut usize) {
     let time = Time(read_i64(input, place));
     let last = Time(read_i64(input, place));
+    let tolerance = Age(DEFAULT_TOLERANCE_MS);
     if is_good(place) {
-        put_flag(
-            output,
-            end,
-            !leaves::window::is_before(Age(MINUTE), time, last),
-        );
+        put_flag(output, end, !is_before(tolerance, time, last));
+    }
+}
+
+pub fn window_given_tolerance(
+    input: &mut Input,
+    place: &mut Place,
+    output: &mut Output,
+    end: &mut usize,
+) {
+    let time = Time(read_i64(input, place));
+    let last = Time(read_i64(input, place));
+    let tolerance = Age(read_i64(input, place));
+    if is_good(place) {
+        put_flag(output, end, !is_before(tolerance, time, last));
     }
 }
 

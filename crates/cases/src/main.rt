@@ -2,6 +2,8 @@
 use casefile::case::end_answer;
 use casefile::case::put_bad_case;
 use casefile::case::read_case;
+use casefile::run::RUN;
+use casefile::run::RUN_GIVEN_MORE;
 use numbers::input::Input;
 use numbers::input::Place;
 use numbers::input::empty_input;
@@ -25,7 +27,7 @@ const NO_CASE: u64 = 0;
 // Reads the rest of a case of this kind, and answers it if it is good.
 fn answer(kind: u64, input: &mut Input, place: &mut Place, output: &mut Output, end: &mut usize) {
     match kind {
-        1 => runs::run(input, place, output, end),
+        RUN => runs::run(kind, input, place, output, end),
         2 => walks::ids(input, place, output, end),
         3 => walks::records(input, place, output, end),
         4 => leaf::limit(input, place, output, end),
@@ -33,6 +35,8 @@ fn answer(kind: u64, input: &mut Input, place: &mut Place, output: &mut Output, 
         6 => leaf::row_ids(input, place, output, end),
         7 => leaf::trim(input, place, output, end),
         8 => moments::current_at(input, place, output, end),
+        RUN_GIVEN_MORE => runs::run(kind, input, place, output, end),
+        10 => leaf::window_given_tolerance(input, place, output, end),
         11 => rows::rows_apart(input, place, output, end),
         NO_CASE => {}
         _ => spoil(place),

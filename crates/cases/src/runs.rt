@@ -1,4 +1,4 @@
-// Case 1: a run.
+// Cases 1 and 9: a run, as it is and given more.
 use casefile::run::Run;
 use casefile::run::read_run;
 use casewrite::run::put_answer;
@@ -17,8 +17,8 @@ fn answer(run: Run) -> Answer {
     register::run(run.metadata, run.updates, run.terms, &slots[..len])
 }
 
-pub fn run(input: &mut Input, place: &mut Place, output: &mut Output, end: &mut usize) {
-    let run = read_run(input, place);
+pub fn run(kind: u64, input: &mut Input, place: &mut Place, output: &mut Output, end: &mut usize) {
+    let run = read_run(kind, input, place);
     if is_good(place) {
         put_answer(output, end, answer(run));
     }

@@ -100,7 +100,7 @@ fn below_zero(time: i64) -> Addition {
 }
 
 // Metadata last update -100000, empty log: time -60000 accepted, -60001 gives 8. Both lie after that last update: it is 0, the run's own
-// while it has none, that -60001 lies over a minute before.
+// while it has none, that -60001 lies more than the tolerance before.
 pub fn p12(output: &mut Output, end: &mut usize) {
     say(output, end, b"time -60000: ");
     say_updated(output, end, below_zero(-60000));

@@ -2,9 +2,11 @@
 use numbers::output::Output;
 use plaintext::reply::say_refused;
 use plaintext::text::say;
+use records::counters::Age;
 use records::counters::Time;
 use records::metadata::TableMetadata;
 use records::run::Answer;
+use records::run::DEFAULT_TOLERANCE_MS;
 use records::run::RunTerms;
 use records::text::FileName;
 use records::update::UpdateList;
@@ -16,6 +18,7 @@ pub fn ask(m: TableMetadata, us: UpdateList) -> Answer {
     let file = FileName::blank();
     let terms = RunTerms {
         clock_ms: Time(CLOCK),
+        tolerance_ms: Age(DEFAULT_TOLERANCE_MS),
         has_file: false,
         file,
     };
@@ -26,6 +29,7 @@ pub fn ask(m: TableMetadata, us: UpdateList) -> Answer {
 pub fn ask_with_file(m: TableMetadata, us: UpdateList, file: FileName, limit: &[u8]) -> Answer {
     let terms = RunTerms {
         clock_ms: Time(CLOCK),
+        tolerance_ms: Age(DEFAULT_TOLERANCE_MS),
         has_file: true,
         file,
     };

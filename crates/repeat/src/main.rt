@@ -3,6 +3,8 @@
 // counts tell the time of a call.
 use casefile::case::put_bad_case;
 use casefile::case::read_case;
+use casefile::run::RUN;
+use casefile::run::RUN_GIVEN_MORE;
 use numbers::field::read_u64;
 use numbers::input::Input;
 use numbers::input::Place;
@@ -28,7 +30,8 @@ pub struct Kept {
 // Reads the rest of a case of this kind, and answers it so many times if it is good.
 fn answer(kind: u64, times: u64, input: &mut Input, place: &mut Place) -> Kept {
     match kind {
-        1 => runs::run(times, input, place),
+        RUN => runs::run(kind, times, input, place),
+        RUN_GIVEN_MORE => runs::run(kind, times, input, place),
         2 => walks::ids(times, input, place),
         _ => {
             spoil(place);

@@ -39,8 +39,8 @@ fn answer(times: u64, run: Run) -> Kept {
     run_times(times, run.metadata, run.updates, run.terms, &slots[..len])
 }
 
-pub fn run(times: u64, input: &mut Input, place: &mut Place) -> Kept {
-    let run = read_run(input, place);
+pub fn run(kind: u64, times: u64, input: &mut Input, place: &mut Place) -> Kept {
+    let run = read_run(kind, input, place);
     if is_good(place) {
         return answer(times, run);
     }
