@@ -1,10 +1,14 @@
 // Runs stored logs, each from its starting metadata, and says of each in one line whether it leads to its ending metadata.
-// A question has, in the case format, what a run is given (a case of kind 1 without its kind), and after it the ending metadata.
+// A question has, in the case format, what a run is given (a case of kind 1 without its kind, or one of kind 9 with it), and after it the
+// ending metadata.
 use casefile::case::end_answer;
 use casefile::case::read_first;
 use casefile::limit_text::LimitText;
 use casefile::metadata::read_metadata;
+use casefile::run::RUN;
+use casefile::run::RUN_GIVEN_MORE;
 use casefile::run::Run;
+use casefile::run::read_run;
 use casefile::run::read_run_of;
 use fitting::lent;
 use numbers::input::Input;
@@ -18,6 +22,7 @@ use numbers::output::flush;
 use plaintext::text::say;
 use records::metadata::TableMetadata;
 use verdict::Verdict;
+use words::Judged;
 
 mod words;
 
@@ -28,23 +33,36 @@ fn judge(text: LimitText, run: Run, ending: TableMetadata) -> Verdict {
     verdict::judge(run.metadata, run.updates, run.terms, &slots[..len], ending)
 }
 
-// The question whose metadata has this version. What was read of a bad one is judged too, and its verdict is not said.
-fn read_verdict(version: u8, input: &mut Input, place: &mut Place) -> Verdict {
-    let run = read_run_of(version, input, place);
+// The run that starts with this number: the kind, if it is 9, else the version of the metadata. No metadata has the version 9.
+fn read_run_from(number: u8, input: &mut Input, place: &mut Place) -> Run {
+    if number as u64 == RUN_GIVEN_MORE {
+        return read_run(RUN_GIVEN_MORE, input, place);
+    }
+    read_run_of(RUN, number, input, place)
+}
+
+// The question that starts with this number. What was read of a bad one is judged too, and its verdict is not said.
+fn read_judged(number: u8, input: &mut Input, place: &mut Place) -> Judged {
+    let run = read_run_from(number, input, place);
     let ending = read_metadata(input, place);
-    judge(run.limit, run, ending)
+    let tolerance_ms = run.terms.tolerance_ms;
+    let verdict = judge(run.limit, run, ending);
+    Judged {
+        verdict,
+        tolerance_ms,
+    }
 }
 
 fn read_and_say(
-    version: u8,
+    number: u8,
     input: &mut Input,
     place: &mut Place,
     output: &mut Output,
     end: &mut usize,
 ) {
-    let verdict = read_verdict(version, input, place);
+    let judged = read_judged(number, input, place);
     if is_good(place) {
-        words::say_verdict(output, end, verdict);
+        words::say_judged(output, end, judged);
     }
 }
 
@@ -52,7 +70,7 @@ fn read_and_say(
 fn next(input: &mut Input, place: &mut Place, output: &mut Output, end: &mut usize) -> bool {
     let first = read_first(input, place);
     if first.is_there {
-        read_and_say(first.version, input, place, output, end);
+        read_and_say(first.number, input, place, output, end);
     }
     if !is_good(place) {
         say(output, end, b"bad input\n");

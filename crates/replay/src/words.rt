@@ -6,7 +6,10 @@ use plaintext::number::say_count;
 use plaintext::reply::say_refused;
 use plaintext::text::say;
 use plaintext::text::say_line;
+use plaintext::time::say_age;
 use records::capacities;
+use records::counters::Age;
+use records::run::DEFAULT_TOLERANCE_MS;
 use verdict::Verdict;
 use verdict::leads;
 
@@ -64,7 +67,22 @@ fn say_difference(output: &mut Output, end: &mut usize, difference: Difference) 
     }
 }
 
-pub fn say_verdict(output: &mut Output, end: &mut usize, verdict: Verdict) {
+// What is said of a question.
+pub struct Judged {
+    pub verdict: Verdict,
+    pub tolerance_ms: Age,
+}
+
+// A tolerance is said if it is not the usual one.
+fn say_tolerance(output: &mut Output, end: &mut usize, tolerance_ms: Age) {
+    if tolerance_ms.0 != DEFAULT_TOLERANCE_MS {
+        say(output, end, b" (tolerance ");
+        say_age(output, end, tolerance_ms);
+        say(output, end, b")");
+    }
+}
+
+fn say_verdict(output: &mut Output, end: &mut usize, verdict: Verdict) {
     if leads(verdict) {
         say(output, end, b"the log leads there");
     } else if verdict.number != 0 {
@@ -72,5 +90,10 @@ pub fn say_verdict(output: &mut Output, end: &mut usize, verdict: Verdict) {
     } else {
         say_difference(output, end, verdict.difference);
     }
+}
+
+pub fn say_judged(output: &mut Output, end: &mut usize, judged: Judged) {
+    say_verdict(output, end, judged.verdict);
+    say_tolerance(output, end, judged.tolerance_ms);
     say(output, end, b"\n");
 }

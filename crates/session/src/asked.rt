@@ -7,6 +7,7 @@ use numbers::output::Output;
 use plaintext::name::say_file_name;
 use plaintext::number::say_u64;
 use plaintext::text::say;
+use plaintext::time::say_age;
 use plaintext::time::say_time;
 use plaintext::update::say_updates;
 use records::run::Answer;
@@ -38,6 +39,8 @@ fn say_current_file(output: &mut Output, end: &mut usize, terms: RunTerms) {
 pub fn say_asked(output: &mut Output, end: &mut usize, run: Run) {
     say(output, end, b"this session asks\n  clock: ");
     say_time(output, end, run.terms.clock_ms);
+    say(output, end, b"\n  tolerance: ");
+    say_age(output, end, run.terms.tolerance_ms);
     say(output, end, b"\n  current metadata file: ");
     say_current_file(output, end, run.terms);
     say(output, end, b"\n  limit of the metadata log: ");

@@ -1,9 +1,10 @@
-// Reads runs in the case format from standard input (cases of kind 1), runs each, and prints for each last session's metadata, what is
+// Reads runs in the case format from standard input (cases of kinds 1 and 9), runs each, and prints for each last session's metadata, what is
 // asked, and the answer, in plain words. A run that is cut short or holds what is no number of its field gets `bad input`, and nothing is
 // read after it.
 use casefile::case::end_answer;
 use casefile::case::read_case;
 use casefile::run::Run;
+use casefile::run::is_run;
 use casefile::run::read_run;
 use numbers::input::Input;
 use numbers::input::Place;
@@ -24,8 +25,6 @@ mod rows;
 // What read_case gives where no case follows.
 const NO_CASE: u64 = 0;
 
-const RUN: u64 = 1;
-
 // A heading, and under it the run and its answer.
 fn say_run(output: &mut Output, end: &mut usize, number: u64, run: Run) {
     say(output, end, b"run ");
@@ -39,12 +38,13 @@ fn say_run(output: &mut Output, end: &mut usize, number: u64, run: Run) {
 // Nothing is said before the whole run is read, so that no part of its answer stands above `bad input`.
 fn read_and_say(
     number: u64,
+    kind: u64,
     input: &mut Input,
     place: &mut Place,
     output: &mut Output,
     end: &mut usize,
 ) {
-    let run = read_run(input, place);
+    let run = read_run(kind, input, place);
     if is_good(place) {
         say_run(output, end, number, run);
     }
@@ -59,8 +59,8 @@ fn next(
     end: &mut usize,
 ) -> bool {
     let kind = read_case(input, place);
-    if kind == RUN {
-        read_and_say(number, input, place, output, end);
+    if is_run(kind) {
+        read_and_say(number, kind, input, place, output, end);
     } else if kind != NO_CASE {
         spoil(place);
     }
@@ -69,7 +69,7 @@ fn next(
         return false;
     }
     end_answer(place, output, end);
-    kind == RUN
+    kind != NO_CASE
 }
 
 // The runs are numbered from 1. The turns are counted since nothing says that an input ends; no run uses them up.
