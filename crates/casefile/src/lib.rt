@@ -1,5 +1,6 @@
 // The case format, read: for each piece the function that reads it.
-// Nothing is refused but what is no number of its field: a count above a table's capacity is kept, and what has no slot is skipped.
+// Nothing is refused but what is no number of its field, and a tag that may not stand where it stands: a count above a table's capacity is
+// kept, and what has no slot is skipped.
 // The page of the case format decides.
 pub mod case;
 pub mod ids;

@@ -33,7 +33,7 @@ fn read_tag(last: u64, input: &mut Input, place: &mut Place) -> u64 {
     tag
 }
 
-// The value of this tag takes its place; an unknown tag spoils the input.
+// What is given already, and the value of this tag; an unknown tag spoils the input.
 fn read_value(tag: u64, given: More, input: &mut Input, place: &mut Place) -> More {
     let mut more = given;
     match tag {

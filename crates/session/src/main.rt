@@ -1,6 +1,6 @@
 // Reads runs in the case format from standard input (cases of kinds 1 and 9), runs each, and prints for each last session's metadata, what is
-// asked, and the answer, in plain words. A run that is cut short or holds what is no number of its field gets `bad input`, and nothing is
-// read after it.
+// asked, and the answer, in plain words. A run that is cut short, or holds what is no number of its field or a tag that may not stand
+// there, gets `bad input`, and nothing is read after it.
 use casefile::case::end_answer;
 use casefile::case::read_case;
 use casefile::run::Run;
