@@ -10,10 +10,10 @@ use lib.IntN.{ℤ}
 use lib.ListN.{getD}
 use Rattle.rules.specs.Words.{first}
 use Rattle.rules.specs.Layout.{given}
-use Rattle.tables.specs.Places.{indexOf}
+use Rattle.search.specs.Places.{indexOf}
+use Rattle.search.proofs.Places.{first-at}
 use Rattle.tables.proofs.Table.{Kind, Tidy, listed, read-length, at}
 use Rattle.builder.specs.Added.{Numbered}
-use Rattle.builder.proofs.Positions.{first-at}
 
 module _ {K : Kind} {t : K .Whole} (h : Tidy K t) (p : K .Plain → Bool) {i : ℕ} (q : i ≡ indexOf p (listed K t)) where
   -- there is one exactly if the place is within the count

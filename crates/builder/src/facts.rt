@@ -1,11 +1,9 @@
-// What is read often, kept as plain numbers: the ids of the snapshots, where an id stands among some, and the time of the last log entry.
+// What is read often, kept as plain numbers: the ids of the snapshots, and the time of the last log entry.
 ghost use mathlib.Core.Path.{_≡_};
 ghost use lib.Dec.{ltb};
 ghost use lib.IntN.{pos};
-ghost use Rattle.rules.specs.Words.{eqZ};
 ghost use Rattle.rules.specs.Capacities.{snapshotRoom};
 ghost use Rattle.rules.specs.Layout.{given, pad, readSnapshots, readSnapshotLog};
-ghost use Rattle.tables.specs.Places.{indexOf};
 ghost use Rattle.tables.specs.Laid.{LaidSnapshots, LaidSnapshotLog};
 ghost use Rattle.builder.specs.Pieces.{idsOf, isAbove, lastTime};
 use records::capacities::SNAPSHOT_LOG;
@@ -13,20 +11,6 @@ use records::capacities::SNAPSHOTS;
 use records::counters::Time;
 use records::snapshot::SnapshotLog;
 use records::snapshot::Snapshots;
-
-// Where the id stands; the length where it does not.
-pub fn position(ids: &[i64], id: i64) -> usize
-    ensures { λ r. ⌜ r ≡ indexOf (λ x. eqZ x id) (now (ids .entry)) ⌝ }
-{
-    let mut i = 0;
-    while i < ids.len() {
-        if ids[i] == id {
-            return i;
-        }
-        i += 1;
-    }
-    i
-}
 
 // The ids of the snapshots, in table order, and zeros after them.
 pub fn ids_of(t: Snapshots) -> [i64; SNAPSHOTS]

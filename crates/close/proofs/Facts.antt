@@ -18,7 +18,7 @@ use Rattle.rules.proofs.Reread.{reread-snapshot-log}
 use Rattle.close.specs.Facts.{additions, intermediatesOf, isGone, isStaying, Told}
 use Rattle.close.specs.Answers.{HistoryOf, endsOff}
 use Rattle.close.specs.declared.history.History.{History}
-use Rattle.builder.proofs.Positions.{eqZ-turned}
+use Rattle.search.proofs.Places.{eqZ-turned}
 use Rattle.close.proofs.Ids.{in-held}
 use Rattle.close.proofs.Scans.{none-after, keep-others}
 

@@ -8,7 +8,7 @@ use Rattle.rules.specs.Words.{eqZ, keep, isIn}
 use Rattle.rules.specs.Register.{Snapshot}
 use Rattle.rules.specs.WellFormed.{holdsSnapshot}
 use Rattle.rules.proofs.Orders.{numbers-told}
-use Rattle.builder.proofs.Positions.{eqZ-turned}
+use Rattle.search.proofs.Places.{eqZ-turned}
 
 pub in-kept : (p : ℤ → Bool) (l : List ℤ) (x : ℤ) → isIn (keep p l) x ≡ isIn l x && p x
 in-kept p [] x = refl

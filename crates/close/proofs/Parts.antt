@@ -11,7 +11,7 @@ use lib.ListN.{length, getD, take, drop, take-append-drop}
 use lib.Seq.{length-take-le, drop-append-le, take-all}
 use Rattle.rules.specs.Words.{any, keep, first, lastOf, afterLast}
 use Rattle.rules.proofs.ReplayLists.{keep-append}
-use Rattle.tables.specs.Places.{indexOf}
+use Rattle.search.specs.Places.{indexOf}
 use Rattle.tables.proofs.Table.{Kind, Tidy, listed, read-length, at, rest, next}
 use Rattle.tables.proofs.Search.{place-held}
 use Rattle.close.proofs.Scans.{after-here, last-added}

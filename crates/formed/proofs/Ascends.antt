@@ -2,7 +2,7 @@
 use Prim.Native.Nat.{ℕ, _+_, _-_, _≤_, _<_}
 use native.Mathlib.Omega.{arith}
 use native.Mathlib.Numerals.{add-one}
-use mathlib.Core.Path.{_≡_, refl, sym, ap₂, _∙_}
+use mathlib.Core.Path.{_≡_, refl, sym, _∙_}
 use mathlib.Core.Bool.{Bool, true, _&&_, and-true, and-false}
 use mathlib.Core.List.{List, [], _∷_, map}
 use borrow.Table.Steps.{cases}
@@ -11,13 +11,9 @@ use lib.Seq.{drop-cons, length-take-le, getD-take}
 use Rattle.rules.specs.Words.{all, ascending}
 use Rattle.rules.specs.Layout.{counted}
 use Rattle.rules.proofs.Orders.{Ordered}
-use Rattle.rules.proofs.Tables.{byKey, all-then, ascending-head}
+use Rattle.rules.proofs.Tables.{byKey, all-then, ascending-read, ascending-head}
 use Rattle.formed.proofs.Scans.{Scanned, scan-start, scan-on}
-use Rattle.formed.proofs.Counted.{all-read, read-taken}
-
-ascending-read : {A B : Type 0} (rd : A → B) (below : B → B → Bool) (l : List A) → ascending below (map rd l) ≡ ascending (λ (x y : A). below (rd x) (rd y)) l
-ascending-read rd below [] = refl
-ascending-read rd below (x ∷ l) = ap₂ _&&_ (all-read rd (below (rd x)) l) (ascending-read rd below l)
+use Rattle.formed.proofs.Counted.{read-taken}
 
 few : {A : Type 0} (below : A → A → Bool) (l : List A) → length l ≤ 1 → ascending below l ≡ true
 few below [] h = refl

@@ -12,6 +12,7 @@ use Rattle.rules.specs.Words.{all, isEmpty}
 use Rattle.rules.specs.Layout.{counted}
 use Rattle.rules.proofs.Checks.{and-left, and-right}
 use Rattle.rules.proofs.Relaid.{length-counted, counted-take}
+use Rattle.rules.proofs.Tables.{all-read}
 use Rattle.formed.proofs.Scans.{Scanned, scan-start, each, each-on, each-end}
 
 -- ---- read
@@ -21,10 +22,6 @@ no-length [] = refl
 no-length (x ∷ l) = sym (eqb·suc-zero (length l))
 
 module _ {A B : Type 0} (rd : A → B) where
-  pub all-read : (q : B → Bool) (l : List A) → all q (map rd l) ≡ all (λ (x : A). q (rd x)) l
-  all-read q [] = refl
-  all-read q (x ∷ l) = ap (λ (z : Bool). q (rd x) && z) (all-read q l)
-
   module _ (b : A) (items : List A) (n : ℕ) where
     pub read-length : length (map rd (counted b items n)) ≡ n
     read-length = length-map (counted b items n) rd ∙ length-counted b items n
@@ -51,7 +48,7 @@ module _ {A B : Type 0} (rd : A → B) where
           omega (arith, leb-true (length (map rd (counted b items n))) room (and-left l rest (and-right tidy (l && rest) (sym e ∙ t))), read-length)
 
     pub all-counted : (q : B → Bool) → n ≤ length items → all q (map rd (counted b items n)) ≡ all (λ (x : A). q (rd x)) (take n items)
-    all-counted q h = rw (read-taken h) (all-read q (take n items))
+    all-counted q h = rw (read-taken h) (all-read rd q (take n items))
 
 -- ---- scanned
 

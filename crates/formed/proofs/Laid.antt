@@ -22,7 +22,7 @@ use Rattle.rules.specs.WellFormed.{atLeastOne, fieldIds, refNameFormed, snapsho
 use Rattle.rules.specs.Blanks.{isTidySnapshots, isBlankRef, isTidyRef, isTidyRefs, isTidySchemas, isTidySortOrders}
 use Rattle.rules.specs.Layout.{pad, readRefName, readSnapshots, readRef, laidRef, readRefs, laidRefs, readSchemas, readSortOrders}
 use Rattle.rules.proofs.Checks.{both, and-left, and-right, parts}
-use Rattle.rules.proofs.Tables.{all-then, all-drop, logFormed, log-fits, log-all}
+use Rattle.rules.proofs.Tables.{all-then, all-at, logFormed, log-fits, log-all}
 use Rattle.rules.proofs.Relaid.{table-back, blank-ref, back-snapshots, back-ref, back-schemas, back-sort-orders}
 use Rattle.tables.specs.Laid.{LaidName, LaidSnapshots, LaidRefs, LaidSchemas, LaidOrders}
 use Rattle.formed.proofs.Counted.{read-length, read-at}
@@ -60,9 +60,6 @@ refs-fit {t} h = omega (arith, h .fits, read-length readRef noRef (t .items) (t 
 any-default : {A : Type 0} (l : List A) (i : ℕ) (d e : A) → i < length l → getD l i d ≡ getD l i e
 any-default l i d e h = cc (drop-cons l i d h, drop-cons l i e h)
 
-all-at : {A : Type 0} (p : A → Bool) (l : List A) (i : ℕ) (d : A) → all p l ≡ true → i < length l → p (getD l i d) ≡ true
-all-at p l i d e h = and-left (p (getD l i d)) _ (rw (drop-cons l i d h) at (all-drop p i l e))
-
 module _ {t : Refs} (h : LaidRefs t) where
   refs-slots : length (t .items) ≡ refRoom
   unfolding laidRefs
@@ -95,7 +92,7 @@ module _ {t : Refs} (h : LaidRefs t) where
     unfolding laidRef
     laid-name =
         let p : plain.NamedRef → Bool = λ x. leb (length (x .name)) refNameRoom in
-        let f : leb (length (readRefName (here .name))) refNameRoom ≡ true = ap p (sym read-here) ∙ all-at p (readRefs t) i (readRef d) (h .names) below in
+        let f : leb (length (readRefName (here .name))) refNameRoom ≡ true = ap p (sym read-here) ∙ all-at p (readRef d) (readRefs t) (h .names) i below in
         record { back = ap (λ (x : NamedRef). x .name) laid-here; fits = leb-true _ _ f }
 
 -- ---- the other tables

@@ -31,14 +31,15 @@ use Rattle.rules.specs.Layout.{given, readRefName, readReference, laidReference
 use Rattle.rules.specs.Kinds.{readUpdates, laidUpdate, setRefKind}
 use Rattle.rules.proofs.Checks.{and-left, and-right, passed-unless}
 use Rattle.rules.proofs.Reread.{reread-ref-name, reread-reference}
-use Rattle.tables.specs.Places.{indexOf}
+use Rattle.search.specs.Places.{indexOf}
 use Rattle.tables.proofs.Table.{at, read-length}
 use Rattle.tables.proofs.Each.{tidy-snapshots, tidy-snapshot-log, made-snapshot-log}
 use Rattle.tables.proofs.Push.{pushed-one}
 use Rattle.builder.specs.declared.builder.TableMetadataBuilder.{TableMetadataBuilder}
 use Rattle.builder.specs.declared.decision.Decision.{Decision}
 use Rattle.builder.specs.Pieces.{laidBuilder, lastTime}
-use Rattle.builder.proofs.Positions.{found, first-at, snapshot-place, snapshot-found}
+use Rattle.search.proofs.Places.{index-below, first-at}
+use Rattle.builder.proofs.Positions.{snapshot-place, snapshot-found}
 use Rattle.ref_updates.specs.Refs.{Faced, RefSet, RefDecided}
 use Rattle.close.proofs.Scans.{last-added}
 use Rattle.close.specs.Facts.{additions}
@@ -55,7 +56,7 @@ use Rattle.laws.proofs.Deciding.{whole, tabled}
 module _ {g : Given} {st : State} {p : Pieces} (E : Represents g st p) where
   -- the log has its addition exactly if its id stands among those added
   is-logged : (id : ℤ) {v : ℕ} → v ≡ indexOf (λ z. eqZ z id) (take (p .changes .adds) (p .changes .added)) → ltb v (p .changes .adds) ≡ logsAddition (st .log) id
-  is-logged id e = rw (e, added-ids E, E .logs .adds) (found (λ z. eqZ z id) (additions (st .log)) ∙ logs-addition id (st .log))
+  is-logged id e = rw (e, added-ids E, E .logs .adds) (index-below (λ z. eqZ z id) (additions (st .log)) ∙ logs-addition id (st .log))
 
   module _ (id : ℤ) {j : ℕ} (q : j ≡ indexOf (λ z. eqZ z id) (take (p .held .snapshots .count) (p .held .ids))) where
     is-there : ltb j (p .held .snapshots .count) ≡ holdsSnapshot (st .metadata .snapshots) id

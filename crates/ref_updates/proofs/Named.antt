@@ -8,7 +8,7 @@ use Rattle.records.specs.declared.reference.NamedRef.{NamedRef}
 use Rattle.records.specs.declared.reference.Refs.{Refs}
 use Rattle.rules.specs.RefUpdates.{hasName, refNamed}
 use Rattle.rules.specs.Layout.{given, readRef, readRefs}
-use Rattle.tables.specs.Places.{indexOf}
+use Rattle.search.specs.Places.{indexOf}
 use Rattle.tables.specs.Laid.{LaidRefs}
 use Rattle.tables.proofs.Table.{read-length, within}
 use Rattle.tables.proofs.Each.{tidy-refs}

@@ -17,7 +17,7 @@ use Rattle.rules.specs.Rows.{rangesOf, Given, answeredFrom, addedOver, n
 use Rattle.rules.specs.Examples.{snapRows, register, ranged}
 use Rattle.rules.proofs.Examples.{computed}
 use Rattle.rules.proofs.Checks.{both}
-use Rattle.rules.proofs.Tables.{all-head, all-tail, ascending-head, ascending-tail}
+use Rattle.rules.proofs.Tables.{all-at, ascending-head, ascending-tail}
 use Rattle.rules.proofs.Ranges.{row-placed, earlier-later, apart-shares-none, shares-none-apart}
 use Rattle.rules.proofs.Rows.{rows-disjoint, from10, threeRuns}
 use Rattle.rules.proofs.Apart.{Passes, apart-passes, passes-apart}
@@ -25,11 +25,6 @@ use Rattle.rules.proofs.Apart.{Passes, apart-passes, passes-apart}
 -- ---- lists by position
 
 module _ {A : Type 0} (p : A → Bool) (d : A) where
-  all-at : (l : List A) → all p l ≡ true → (i : ℕ) → i < length l → p (getD l i d) ≡ true
-  all-at [] h i k = absurd (omega arith)
-  all-at (x ∷ l) h zero k = all-head p x l h
-  all-at (x ∷ l) h (suc i) k = all-at l (all-tail p x l h) i (omega arith)
-
   at-all : (l : List A) → ((i : ℕ) → i < length l → p (getD l i d) ≡ true) → all p l ≡ true
   at-all [] f = refl
   at-all (x ∷ l) f = both (f 0 (omega arith)) (at-all l (λ i k. f (suc i) (omega arith)))

@@ -1,12 +1,12 @@
 -- Laws of lists and of tables by key, once for any element and any key: what a test says of the kept, of the rest, of a table into which an element was put.
 use Prim.Native.Nat.{ℕ, zero, suc, _≤_, _<_}
 use native.Mathlib.Omega.{arith}
-use mathlib.Core.Path.{_≡_, refl, sym, ap, _∙_, subst}
+use mathlib.Core.Path.{_≡_, refl, sym, ap, ap₂, _∙_, subst}
 use mathlib.Core.Bool.{Bool, true, false, cond, _&&_, _||_, false≢true, true≢false}
-use mathlib.Core.List.{List, [], _∷_, _++_}
+use mathlib.Core.List.{List, [], _∷_, _++_, map}
 use mathlib.Core.Option.{Option, some}
 use lib.Dec.{leb}
-use lib.ListN.{length, drop, length-append}
+use lib.ListN.{length, getD, drop, length-append}
 use borrow.Author.Tests.{leb-true, le-leb}
 use Rattle.rules.specs.Words.{isSome, ifSome, all, any, keep, first, afterLast, ascending, put}
 use Rattle.rules.proofs.Checks.{by-test, both, and-left, and-right, or-left, or-right, by-either}
@@ -45,6 +45,11 @@ module _ {A : Type 0} (p : A → Bool) where
   all-drop zero l h = h
   all-drop (suc n) [] h = refl
   all-drop (suc n) (x ∷ l) h = all-drop n l (all-tail x l h)
+
+  pub all-at : (d : A) (l : List A) → all p l ≡ true → (i : ℕ) → i < length l → p (getD l i d) ≡ true
+  all-at d [] h i b = absurd (omega arith)
+  all-at d (x ∷ l) h zero b = all-head x l h
+  all-at d (x ∷ l) h (suc i) b = all-at d l (all-tail x l h) i (omega arith)
 
   pub all-afterLast : (q : A → Bool) (l : List A) → all p l ≡ true → all p (afterLast q l) ≡ true
   all-afterLast q [] h = refl
@@ -86,6 +91,16 @@ module _ {A : Type 0} (p : A → Bool) where
       let ih : length (afterLast p l) ≤ length l = afterLast-length l in
       let P : List A → Type 0 = λ r. length r ≤ suc (length l) in
       by-test P (any p l) (λ e. omega arith) (λ e. by-test P (p x) (λ f. omega arith) (λ f. omega arith))
+
+-- what is read of each element
+module _ {A B : Type 0} (f : A → B) where
+  pub all-read : (p : B → Bool) (l : List A) → all p (map f l) ≡ all (λ (x : A). p (f x)) l
+  all-read p [] = refl
+  all-read p (x ∷ l) = ap (λ (z : Bool). p (f x) && z) (all-read p l)
+
+  pub ascending-read : (below : B → B → Bool) (l : List A) → ascending below (map f l) ≡ ascending (λ (x y : A). below (f x) (f y)) l
+  ascending-read below [] = refl
+  ascending-read below (x ∷ l) = ap₂ _&&_ (all-read (below (f x)) l) (ascending-read below l)
 
 -- ---- tables, whatever their order
 

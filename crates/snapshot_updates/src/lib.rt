@@ -20,7 +20,6 @@ use builder::builder::own_or;
 use builder::checks::choose;
 use builder::decision::Decision;
 use builder::decision::decided;
-use builder::facts::position;
 use leaves::row_ids::check_rows;
 use leaves::window::is_before;
 use records::capacities::SNAPSHOTS;
@@ -42,6 +41,7 @@ use records::snapshot::Snapshots;
 use records::text::RefName;
 use records::update::ADD_SNAPSHOT;
 use records::update::TableUpdate;
+use search::position;
 
 fn at_most(a: SequenceNumber, b: SequenceNumber) -> bool
     ensures { λ r. ⌜ r ≡ leZ (a .0) (b .0) ⌝ }

@@ -1,5 +1,4 @@
 -- What the proofs of several functions cite.
-pub mod Bits
 pub mod Table
 pub mod Search
 pub mod Push

@@ -4,22 +4,12 @@ use native.Mathlib.Omega.{arith}
 use mathlib.Core.Path.{_≡_, refl, sym, ap₂, _∙_}
 use mathlib.Core.Bool.{Bool, true, false}
 use mathlib.Core.List.{List, [], _∷_, map}
-use borrow.Author.Tests.{lt-ltb}
-use borrow.Table.Steps.{cases}
-use lib.Dec.{ltb, leb·suc-suc}
+use lib.Dec.{ltb}
 use lib.ListN.{length, getD, drop, drop-of-length-le}
 use Rattle.rules.specs.Words.{any}
-use Rattle.tables.specs.Places.{indexOf}
+use Rattle.search.specs.Places.{indexOf}
+use Rattle.search.proofs.Places.{index-le, index-below}
 use Rattle.tables.proofs.Table.{Kind, Tidy, listed, read-length, within, rest}
-
-module _ {A : Type 0} (p : A → Bool) where
-  pub index-le : (l : List A) → indexOf p l ≤ length l
-  index-le [] = omega arith
-  index-le (x ∷ l) = cases (p x) (λ t. rw t (omega arith)) (λ f. rw f (omega (arith, index-le l)))
-
-  pub index-below : (l : List A) → ltb (indexOf p l) (length l) ≡ any p l
-  index-below [] = refl
-  index-below (x ∷ l) = cases (p x) (λ t. rw t (lt-ltb 0 (suc (length l)) (omega arith))) (λ f. rw f (leb·suc-suc (suc (indexOf p l)) (length l) ∙ index-below l))
 
 -- none of the first i passes
 pub record Sought (K : Kind) (p : K .Plain → Bool) (t : K .Whole) (i : ℕ) : Type 0 where

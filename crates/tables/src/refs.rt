@@ -9,7 +9,7 @@ ghost use Rattle.rules.specs.Names.{nameBelow};
 ghost use Rattle.rules.specs.WellFormed.{refBelow, pointsIn};
 ghost use Rattle.rules.specs.RefUpdates.{hasName};
 ghost use Rattle.rules.specs.Layout.{readRefName, readRef, readRefs, laidRefs, readSnapshots};
-ghost use Rattle.tables.specs.Places.{indexOf};
+ghost use Rattle.search.specs.Places.{indexOf};
 ghost use Rattle.tables.specs.Laid.{LaidName, LaidRef, LaidRefs, LaidSnapshots};
 use crate::names::name_is_below;
 use crate::names::same_name;

@@ -9,7 +9,7 @@ ghost use Rattle.rules.specs.Words.{put as putBy, ascending, keep, isIn, sameLi
 ghost use Rattle.rules.specs.WellFormed.{schemaBelow, hasSchema, fieldIds};
 ghost use Rattle.rules.specs.SchemaUpdates.{holdsSchema, heldSchemas, sameSchemaField, schemaIds};
 ghost use Rattle.rules.specs.Layout.{readSchema, readSchemas, laidSchemas, readSchemaIds, laidSchemaIds};
-ghost use Rattle.tables.specs.Places.{indexOf};
+ghost use Rattle.search.specs.Places.{indexOf};
 ghost use Rattle.tables.specs.Laid.{LaidSchema, LaidSchemas, LaidSchemaIds};
 use crate::ids::has_schema;
 use crate::ids::push_schema;

@@ -9,7 +9,7 @@ ghost use Rattle.rules.specs.Words.{put as putBy, ascending};
 ghost use Rattle.rules.specs.WellFormed.{snapshotBelow, hasSnapshot, holdsSnapshot};
 ghost use Rattle.rules.specs.SnapshotUpdates.{heldSnapshots, otherSnapshots};
 ghost use Rattle.rules.specs.Layout.{readSnapshot, laidSnapshot, readSnapshots, laidSnapshots, readSnapshotIds, laidSnapshotIds};
-ghost use Rattle.tables.specs.Places.{indexOf};
+ghost use Rattle.search.specs.Places.{indexOf};
 ghost use Rattle.tables.specs.Laid.{LaidSnapshots, LaidSnapshotIds};
 use crate::ids::has_snapshot;
 use crate::ids::push_snapshot;

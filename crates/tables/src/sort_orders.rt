@@ -9,7 +9,7 @@ ghost use Rattle.rules.specs.Words.{put as putBy, any, isIn, sameList, larger, 
 ghost use Rattle.rules.specs.WellFormed.{orderBelow, hasOrder, fieldIds};
 ghost use Rattle.rules.specs.OrderUpdates.{holdsOrder, sameSortField, orderIds};
 ghost use Rattle.rules.specs.Layout.{readSchema, readSortField, readSortOrder, readSortOrders, laidSortOrders};
-ghost use Rattle.tables.specs.Places.{indexOf};
+ghost use Rattle.search.specs.Places.{indexOf};
 ghost use Rattle.tables.specs.Laid.{LaidSchema, LaidOrder, LaidOrders};
 use crate::ids::order_below;
 use crate::ids::same_field;

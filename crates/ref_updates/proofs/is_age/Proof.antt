@@ -1,6 +1,6 @@
 -- Two numbers are equal exactly if their bits are.
 use borrow.Author.Needs.{sfits-of}
-use Rattle.tables.proofs.Bits.{eq-bits}
+use Rattle.search.proofs.Bits.{eq-bits}
 use Rattle.ref_updates.proofs.is_age.Statement.{statement}
 use Rattle.ref_updates.proofs.is_age.Tie as tie
 

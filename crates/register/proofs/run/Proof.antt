@@ -27,7 +27,7 @@ use Rattle.rules.specs.Kinds.{isTidyUpdate, readUpdate, readUpdates, assignUuid
 use Rattle.close.specs.Answers.{HistoryOf}
 use Rattle.rules.proofs.Checks.{and-left, and-right, by-either, neither}
 use Rattle.tables.specs.Laid.{LaidName}
-use Rattle.tables.specs.Places.{indexOf}
+use Rattle.search.specs.Places.{indexOf}
 use Rattle.builder.specs.declared.decision.Decision.{Decision}
 use Rattle.builder.specs.Answers.{Decides}
 use Rattle.builder.specs.Pieces.{idsOf, isAbove}

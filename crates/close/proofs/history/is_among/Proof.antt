@@ -5,7 +5,7 @@ use borrow.Author.Needs.{needs, sfits-of}
 use lib.Dec.{ltb}
 use lib.ListN.{length}
 use mir.Facts.{toZ-ofZ}
-use Rattle.builder.proofs.Positions.{id-found}
+use Rattle.search.proofs.Places.{id-found}
 use Rattle.close.proofs.history.is_among.Statement.{statement}
 use Rattle.close.proofs.history.is_among.Tie as tie
 

@@ -1,6 +1,6 @@
 -- The bits are equal exactly if the numbers are.
 use borrow.Author.Needs.{sfits-of}
-use Rattle.tables.proofs.Bits.{eq-bits}
+use Rattle.search.proofs.Bits.{eq-bits}
 use Rattle.compare.proofs.number.same_min.Statement.{statement}
 use Rattle.compare.proofs.number.same_min.Tie as tie
 

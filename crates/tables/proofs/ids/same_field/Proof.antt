@@ -1,6 +1,6 @@
 -- The code compares the bits of two numbers that fit, which are equal exactly if the numbers are.
 use borrow.Author.Needs.{sfits-of}
-use Rattle.tables.proofs.Bits.{eq-bits}
+use Rattle.search.proofs.Bits.{eq-bits}
 use Rattle.tables.proofs.ids.same_field.Statement.{statement}
 use Rattle.tables.proofs.ids.same_field.Tie as tie
 

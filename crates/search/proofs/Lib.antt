@@ -1,0 +1,4 @@
+-- What the proofs of several functions cite, here and in the crates above, and the laws of a place in a list.
+pub mod Bits
+pub mod Places
+mod Ascending

@@ -1,0 +1,2 @@
+-- What the contracts cite beside the rules.
+pub mod Places
