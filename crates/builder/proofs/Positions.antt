@@ -10,12 +10,12 @@ use lib.Dec.{ltb}
 use lib.IntN.{ℤ}
 use lib.ListN.{length, getD}
 use lib.Signed.{ltZ}
-use Rattle.rules.specs.Words.{eqZ, lastOf, ascending}
+use Rattle.rules.specs.Words.{eqZ, lastOf, isIn, ascending}
 use Rattle.rules.specs.Register.{Snapshot}
 use Rattle.rules.specs.WellFormed.{hasSnapshot, holdsSnapshot, snapshotBelow}
 use Rattle.rules.proofs.Tables.{ascending-read}
 use Rattle.search.specs.Places.{indexOf}
-use Rattle.search.proofs.Places.{index-below}
+use Rattle.search.proofs.Places.{index-below, eqZ-turned}
 use Rattle.builder.specs.Pieces.{idsOf}
 
 -- ---- ids
@@ -29,6 +29,11 @@ module _ (id : ℤ) where
   -- which is held exactly if it has one
   pub snapshot-found : (l : List Snapshot) → ltb (indexOf (λ x. eqZ x id) (idsOf l)) (length l) ≡ holdsSnapshot l id
   snapshot-found l = ap (λ (n : ℕ). ltb n (length l)) (snapshot-place l) ∙ index-below (hasSnapshot id) l
+
+-- the ids tell which snapshots are held
+pub in-held : (l : List Snapshot) (id : ℤ) → isIn (idsOf l) id ≡ holdsSnapshot l id
+in-held [] id = refl
+in-held (s ∷ l) id = rw (eqZ-turned id (s .id), in-held l id)
 
 -- the ids of a table ascend
 pub ids-ascend : (l : List Snapshot) → ascending snapshotBelow l ≡ true → ascending ltZ (idsOf l) ≡ true

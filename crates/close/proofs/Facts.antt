@@ -19,7 +19,7 @@ use Rattle.close.specs.Facts.{additions, intermediatesOf, isGone, isStay
 use Rattle.close.specs.Answers.{HistoryOf, endsOff}
 use Rattle.close.specs.declared.history.History.{History}
 use Rattle.search.proofs.Places.{eqZ-turned}
-use Rattle.close.proofs.Ids.{in-held}
+use Rattle.builder.proofs.Positions.{in-held}
 use Rattle.close.proofs.Scans.{none-after, keep-others}
 
 -- the log adds a snapshot exactly if it is among its additions

@@ -1,14 +1,11 @@
 -- Ids in a list: one stands among those kept exactly if it stands in the list and the test holds of it.
 use mathlib.Core.Path.{_≡_, refl, sym, ap, _∙_}
 use mathlib.Core.Bool.{Bool, false, _&&_, and-false}
-use mathlib.Core.List.{List, [], _∷_, map}
+use mathlib.Core.List.{List, [], _∷_}
 use borrow.Table.Steps.{cases}
 use lib.IntN.{ℤ}
 use Rattle.rules.specs.Words.{eqZ, keep, isIn}
-use Rattle.rules.specs.Register.{Snapshot}
-use Rattle.rules.specs.WellFormed.{holdsSnapshot}
 use Rattle.rules.proofs.Orders.{numbers-told}
-use Rattle.search.proofs.Places.{eqZ-turned}
 
 pub in-kept : (p : ℤ → Bool) (l : List ℤ) (x : ℤ) → isIn (keep p l) x ≡ isIn l x && p x
 in-kept p [] x = refl
@@ -20,8 +17,3 @@ in-kept p (y ∷ l) x =
     (λ e. let g : p x ≡ false = ap p (numbers-told .equal x y e) ∙ f in
     rw (f, e) (ih ∙ rw g (and-false (isIn l x))))
     (λ n. rw (f, n) ih))
-
--- the ids of the snapshots tell which are held
-pub in-held : (l : List Snapshot) (id : ℤ) → isIn (map (λ (s : Snapshot). s .id) l) id ≡ holdsSnapshot l id
-in-held [] id = refl
-in-held (s ∷ l) id = rw (eqZ-turned id (s .id), in-held l id)

@@ -2,10 +2,11 @@
 // sets `main`, and whether it removes snapshots.
 ghost use mathlib.Core.Path.{_≡_};
 ghost use Prim.Native.Nat.{_≤_};
-ghost use mathlib.Core.Bool.{cond, not};
+ghost use mathlib.Core.Bool.{true, cond, not};
 ghost use mathlib.Core.List.{List};
 ghost use lib.ListN.{drop};
-ghost use Rattle.rules.specs.Words.{eqZ, someWith, isIn, isEmpty, keep, afterLast};
+ghost use lib.Signed.{ltZ};
+ghost use Rattle.rules.specs.Words.{ascending, eqZ, someWith, isIn, isEmpty, keep, afterLast};
 ghost use Rattle.rules.specs.Register.{Update, Metadata};
 ghost use Rattle.rules.specs.Layout.{readFields, readLogEntry, readSnapshotLog, laidSnapshotLog};
 ghost use Rattle.tables.specs.Laid.{LaidSnapshotLog};
@@ -16,6 +17,7 @@ use records::metadata::SingleFields;
 use records::snapshot::SnapshotLog;
 use records::snapshot::SnapshotLogEntry;
 use search::position;
+use tables::ids::is_held;
 use tables::ids::same_snapshot;
 
 // The history, and whether it was rebuilt.
@@ -63,6 +65,7 @@ fn has_intermediates(f: SingleFields, added: &[i64], mains: &[i64]) -> bool
 // How many entries stand up to the last whose snapshot is missing.
 fn after_last_missing(log: SnapshotLog, ids: &[i64]) -> usize
     requires { ⌜ LaidSnapshotLog log ⌝ }
+    requires { ⌜ ascending ltZ (now ids) ≡ true ⌝ }
     ensures within { λ r. ⌜ r ≤ log .count ⌝ }
     ensures after { λ r. ⌜ drop r (readSnapshotLog log) ≡ afterLast (isGone (now (ids .entry))) (readSnapshotLog log) ⌝ }
 {
@@ -71,7 +74,7 @@ fn after_last_missing(log: SnapshotLog, ids: &[i64]) -> usize
     while i > 0 {
         let e = log.items[i - 1];
         let id = e.snapshot_id;
-        if !is_among(ids, id) {
+        if !is_held(ids, id) {
             return i;
         }
         i -= 1;
@@ -93,10 +96,11 @@ fn is_staying(
     mains: &[i64],
     e: SnapshotLogEntry,
 ) -> bool
+    requires { ⌜ ascending ltZ (now ids) ≡ true ⌝ }
     ensures { λ r. ⌜ r ≡ isStaying (now (ids .entry)) (now (added .entry)) (now (mains .entry)) (readFields f .current) (readLogEntry e) ⌝ }
 {
     let id = e.snapshot_id;
-    is_among(ids, id) && !is_intermediate(f, added, mains, id)
+    is_held(ids, id) && !is_intermediate(f, added, mains, id)
 }
 
 // The entries from a place on that stay.
@@ -110,6 +114,7 @@ fn kept_from(
 ) -> SnapshotLog
     requires { ⌜ LaidSnapshotLog log ⌝ }
     requires { ⌜ from ≤ log .count ⌝ }
+    requires { ⌜ ascending ltZ (now ids) ≡ true ⌝ }
     ensures { λ r. ⌜ r ≡ laidSnapshotLog (keep (isStaying (now (ids .entry)) (now (added .entry)) (now (mains .entry)) (readFields f .current)) (drop from (readSnapshotLog log))) ⌝ }
 {
     let n = log.count;
@@ -130,6 +135,7 @@ fn kept_from(
 // The place of the first entry that may stay when the log is rebuilt: with a removal the one after the last missing snapshot's, else 0.
 fn first_kept(log: SnapshotLog, ids: &[i64], removal: bool) -> usize
     requires { ⌜ LaidSnapshotLog log ⌝ }
+    requires { ⌜ ascending ltZ (now ids) ≡ true ⌝ }
     ensures within { λ r. ⌜ r ≤ log .count ⌝ }
     ensures after { λ r. ⌜ drop r (readSnapshotLog log) ≡ cond removal (afterLast (isGone (now (ids .entry))) (readSnapshotLog log)) (readSnapshotLog log) ⌝ }
 {
@@ -148,6 +154,7 @@ pub fn close_log(
     removal: bool,
 ) -> History
     requires { ⌜ LaidSnapshotLog log ⌝ }
+    requires { ⌜ ascending ltZ (now ids) ≡ true ⌝ }
     ensures history { λ r. ⌜ ((l : List Update) (p : Metadata) → Told l p log (now (ids .entry)) f (now (added .entry)) (now (mains .entry)) removal → HistoryOf l p r) ⌝ }
     ensures laid { λ r. ⌜ LaidSnapshotLog (r .log) ⌝ }
 {

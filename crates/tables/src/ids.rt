@@ -1,9 +1,10 @@
-// Ids compared and looked for in a removal's list.
+// Ids compared, and looked for among the ids of the table or in a removal's list.
 ghost use mathlib.Core.Path.{_≡_};
 ghost use Prim.Native.Nat.{_<_};
+ghost use mathlib.Core.Bool.{true};
 ghost use mathlib.Core.List.{[], _∷_, _++_};
 ghost use lib.Signed.{ltZ};
-ghost use Rattle.rules.specs.Words.{eqZ, isIn};
+ghost use Rattle.rules.specs.Words.{ascending, eqZ, isIn};
 ghost use Rattle.rules.specs.Layout.{readSnapshotIds, laidSnapshotIds, readSchemaIds, laidSchemaIds};
 ghost use Rattle.tables.specs.Laid.{LaidSnapshotIds, LaidSchemaIds};
 use records::counters::FieldId;
@@ -12,6 +13,7 @@ use records::counters::SnapshotId;
 use records::counters::SortOrderId;
 use records::schema::SchemaIds;
 use records::snapshot::SnapshotIds;
+use search::position_ascending;
 
 pub fn same_snapshot(a: SnapshotId, b: SnapshotId) -> bool
     ensures { λ r. ⌜ r ≡ eqZ (a .0) (b .0) ⌝ }
@@ -27,6 +29,15 @@ pub fn snapshot_below(a: SnapshotId, b: SnapshotId) -> bool
     let x = a.0;
     let y = b.0;
     x < y
+}
+
+// Among the ids of the table of snapshots, which ascend.
+pub fn is_held(ids: &[i64], id: SnapshotId) -> bool
+    requires { ⌜ ascending ltZ (now ids) ≡ true ⌝ }
+    ensures { λ r. ⌜ r ≡ isIn (now (ids .entry)) (id .0) ⌝ }
+{
+    let x = id.0;
+    position_ascending(ids, x) < ids.len()
 }
 
 pub fn same_schema(a: SchemaId, b: SchemaId) -> bool

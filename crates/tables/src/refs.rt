@@ -4,19 +4,19 @@ ghost use Prim.Native.Nat.{_≤_, _<_};
 ghost use mathlib.Core.Bool.{true, false, not};
 ghost use mathlib.Core.List.{_∷_, _++_};
 ghost use lib.ListN.{take, drop};
-ghost use Rattle.rules.specs.Words.{put as putBy, any, keep, ascending};
+ghost use lib.Signed.{ltZ};
+ghost use Rattle.rules.specs.Words.{put as putBy, any, keep, ascending, isIn};
 ghost use Rattle.rules.specs.Names.{nameBelow};
-ghost use Rattle.rules.specs.WellFormed.{refBelow, pointsIn};
+ghost use Rattle.rules.specs.WellFormed.{refBelow};
 ghost use Rattle.rules.specs.RefUpdates.{hasName};
-ghost use Rattle.rules.specs.Layout.{readRefName, readRef, readRefs, laidRefs, readSnapshots};
+ghost use Rattle.rules.specs.Layout.{readRefName, readRef, readRefs, laidRefs};
 ghost use Rattle.search.specs.Places.{indexOf};
-ghost use Rattle.tables.specs.Laid.{LaidName, LaidRef, LaidRefs, LaidSnapshots};
+ghost use Rattle.tables.specs.Laid.{LaidName, LaidRef, LaidRefs};
+use crate::ids::is_held;
 use crate::names::name_is_below;
 use crate::names::same_name;
-use crate::snapshots::holds;
 use records::reference::NamedRef;
 use records::reference::Refs;
-use records::snapshot::Snapshots;
 use records::text::RefName;
 
 // Where the name stands; the count where it is not held.
@@ -121,11 +121,11 @@ pub fn without(t: Refs, name: RefName) -> Refs
     r
 }
 
-// The refs to held snapshots.
-pub fn pointing(t: Refs, snapshots: Snapshots) -> Refs
+// The refs to held snapshots, whose ids are lent in table order.
+pub fn pointing(t: Refs, ids: &[i64]) -> Refs
     requires { ⌜ LaidRefs t ⌝ }
-    requires { ⌜ LaidSnapshots snapshots ⌝ }
-    ensures { λ r. ⌜ r ≡ laidRefs (keep (pointsIn (readSnapshots snapshots)) (readRefs t)) ⌝ }
+    requires { ⌜ ascending ltZ (now ids) ≡ true ⌝ }
+    ensures { λ r. ⌜ r ≡ laidRefs (keep (λ x. isIn (now (ids .entry)) (x .reference .snapshot)) (readRefs t)) ⌝ }
 {
     let n = t.count;
     let mut r = Refs::blank();
@@ -135,7 +135,7 @@ pub fn pointing(t: Refs, snapshots: Snapshots) -> Refs
         let y = x.reference;
         let id = y.snapshot_id;
         i += 1;
-        if holds(snapshots, id) {
+        if is_held(ids, id) {
             let k = r.count;
             r.items[k] = x;
             r.count = k + 1;

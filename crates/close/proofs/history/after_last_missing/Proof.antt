@@ -27,19 +27,19 @@ after-last-missing-spec =
     (tie.spec
     Inv-loop
     μ-loop
-    (λ c. (search needs, any-end (isGone (c .args .ids .now)) (readSnapshotLog (c .args .t1)) (c .args .t1 .count) (omega (arith, read-length (tidy-snapshot-log (c .pre))))))
+    (λ c. (search needs, any-end (isGone (c .args .ids .now)) (readSnapshotLog (c .args .t1)) (c .args .t1 .count) (omega (arith, read-length (tidy-snapshot-log (c .pre .0))))))
     (λ c. search needs)
-    (λ c. omega (arith, within (tidy-snapshot-log (c .before .before .pre))))
-    (λ c. omega (arith, within (tidy-snapshot-log (c .before .before .pre))))
+    (λ c. omega (arith, within (tidy-snapshot-log (c .before .before .pre .0))))
+    (λ c. omega (arith, within (tidy-snapshot-log (c .before .before .pre .0))))
     (λ c κs. search needs)
     (λ c. let l = c .before .before .before .before .before in
     let s : (l .loop .i - 1) + 1 ≡ l .loop .i = omega arith in
-    (l .loop .inv .0, rw s at (sym (last-here (tidy-snapshot-log (l .before .pre)) (l .loop .i - 1) _ (omega arith) (isGone (l .before .args .ids .now)) (ap not (sym (c .before .is-among .ensures)) ∙ c .if1 .taken) (rw s (l .loop .inv .1))))))
+    (l .loop .inv .0, rw s at (sym (last-here (tidy-snapshot-log (l .before .pre .0)) (l .loop .i - 1) _ (omega arith) (isGone (l .before .args .ids .now)) (ap not (sym (c .before .is-held .ensures)) ∙ c .if1 .taken) (rw s (l .loop .inv .1))))))
     (λ c. search needs)
     (λ c. omega arith)
     (λ c. let l = c .before .before .before .before .before in
     let s : (l .loop .i - 1) + 1 ≡ l .loop .i = omega arith in
-    (omega arith, none-from (tidy-snapshot-log (l .before .pre)) (l .loop .i - 1) _ (omega arith) (isGone (l .before .args .ids .now)) (ap not (sym (c .before .is-among .ensures)) ∙ c .if1 .left) (rw s (l .loop .inv .1))))
+    (omega arith, none-from (tidy-snapshot-log (l .before .pre .0)) (l .loop .i - 1) _ (omega arith) (isGone (l .before .args .ids .now)) (ap not (sym (c .before .is-held .ensures)) ∙ c .if1 .left) (rw s (l .loop .inv .1))))
     (λ c. let l = c .before in
     let z : l .loop .i ≡ 0 = omega arith in
     (search needs, sym (after-none _ _ (rw z at (l .loop .inv .1))))))

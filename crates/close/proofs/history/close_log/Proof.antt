@@ -30,6 +30,6 @@ close-log-spec =
     (λ c. let s = c .before .before .before in (
       (λ l p t. is-rebuilt t (c .kept-from .result) (changed (c .before .before))
           (c .kept-from .ensures ∙ ap (λ (m : List LogEntry). laidSnapshotLog (keep (test s) m)) (c .before .first-kept .ensures .1))),
-      entries-laid _ _ (c .kept-from .ensures) (kept-fits (s .args .log) (s .pre) (test s) (c .before .first-kept .result)),
+      entries-laid _ _ (c .kept-from .ensures) (kept-fits (s .args .log) (s .pre .0) (test s) (c .before .first-kept .result)),
     ))
-    (λ c. ((λ l p t. is-left t (rw (c .before .before .if1 .left) (sym (c .before .has-intermediates .ensures) ∙ c .if2 .left)) (c .before .before .before .pre .back)), c .before .before .before .pre)))
+    (λ c. ((λ l p t. is-left t (rw (c .before .before .if1 .left) (sym (c .before .has-intermediates .ensures) ∙ c .if2 .left)) (c .before .before .before .pre .0 .back)), c .before .before .before .pre .0)))

@@ -12,5 +12,5 @@ is-staying-spec =
     (tie.spec
     (λ c κs. search needs)
     (λ c κs. search needs)
-    (λ c. by-second (c .before .before .is-among .ensures ∙ sym (Bool·not-not _)) (c .before .if1 .taken) (ap not (c .is-intermediate .ensures)))
-    (λ c. by-first _ (c .before .is-among .ensures ∙ sym (Bool·not-not _)) (c .if1 .left)))
+    (λ c. by-second (c .before .before .is-held .ensures ∙ sym (Bool·not-not _)) (c .before .if1 .taken) (ap not (c .is-intermediate .ensures)))
+    (λ c. by-first _ (c .before .is-held .ensures ∙ sym (Bool·not-not _)) (c .if1 .left)))
