@@ -41,7 +41,7 @@ use records::snapshot::Snapshots;
 use records::text::RefName;
 use records::update::ADD_SNAPSHOT;
 use records::update::TableUpdate;
-use search::position;
+use search::position_ascending;
 
 fn at_most(a: SequenceNumber, b: SequenceNumber) -> bool
     ensures { λ r. ⌜ r ≡ leZ (a .0) (b .0) ⌝ }
@@ -148,13 +148,14 @@ fn add_snapshot_number(
     tolerance: Age,
     s: Snapshot,
 ) -> u8
+    requires { ⌜ ascending ltZ (now ids) ≡ true ⌝ }
     ensures { λ r. ⌜ ((st : State) → b ≡ laidBuilder st → now (ids .entry) ≡ idsOf (st .metadata .snapshots) → given «has_last» (entry .0) ≡ lastTime (st .metadata .snapshotLog) → r ≡ firstOf (addSnapshotChecks (tolerance .0) (readSnapshot s) st)) ⌝ }
 {
     let f = b.fields;
     let id = s.snapshot_id;
     let time = s.timestamp_ms;
     let n = ids.len();
-    let at = position(ids, id.0);
+    let at = position_ascending(ids, id.0);
     let low = too_low(f, s);
     let early = before_entry(has_last, tolerance, time, entry);
     let last = latest(b);
@@ -211,6 +212,7 @@ pub fn add_snapshot(
 ) -> Decision
     requires { ⌜ isTidyUpdate u ≡ true ⌝ }
     requires { ⌜ (eqb (u .kind) addSnapshotKind || eqb (u .kind) setBranchSnapshotKind) ≡ true ⌝ }
+    requires { ⌜ ascending ltZ (now ids) ≡ true ⌝ }
     ensures { λ r. ⌜ ((st : State) → b ≡ laidBuilder st → now (ids .entry) ≡ idsOf (st .metadata .snapshots) → given «has_last» (entry .0) ≡ lastTime (st .metadata .snapshotLog) → SnapshotDecided «on_tag» (tolerance .0) (readSnapshot (u .snapshot)) st r) ⌝ }
 {
     let s = u.snapshot;

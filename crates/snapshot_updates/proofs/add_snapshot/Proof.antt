@@ -26,7 +26,7 @@ returns c st e ids entry =
       logs = refl;
       grows = refl;
       builder = λ z. B .add-snapshot-builder .ensures (s .args .tolerance .0) st e (rw k at (not-tagged (s .args .on-tag) (N .add-snapshot-number .result) (rw q at z)));
-      entry = c .addition .ensures (s .pre .1) (s .pre .0);
+      entry = c .addition .ensures (s .pre .1 .0) (s .pre .0);
     }
 
 pub add-snapshot-spec : {M : Type 1} → statement M

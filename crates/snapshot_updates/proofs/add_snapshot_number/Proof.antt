@@ -25,8 +25,8 @@ returns c st e ids entry =
     let p = k .before .before .before .before .before in
     let a = p .before .before .before .before .before .args in
     let s = readSnapshot (a .s) in
-    let held : ltb (p .position .result) (length (a .ids .now)) ≡ holdsSnapshot (st .metadata .snapshots) (s .id) =
-    rw (p .position .ensures, toZ-ofZ (sfits-of (p .before .struct-told .given .0 .1)), ids, length-map) (snapshot-found (s .id) (st .metadata .snapshots)) in
+    let held : ltb (p .position-ascending .result) (length (a .ids .now)) ≡ holdsSnapshot (st .metadata .snapshots) (s .id) =
+    rw (p .position-ascending .ensures, toZ-ofZ (sfits-of (p .before .struct-told .given .0 .1)), ids, length-map) (snapshot-found (s .id) (st .metadata .snapshots)) in
     let late : k .before .is-before .result ≡ isBefore (a .tolerance .0) (s .time) (latest st) =
     k .before .is-before .ensures
     ∙ ap (isBefore (a .tolerance .0) (s .time))
