@@ -5,7 +5,8 @@ use mathlib.Core.Path.{_≡_, refl, sym, ap, _∙_}
 use mathlib.Core.Bool.{Bool, true, cond}
 use mathlib.Core.List.{List, _++_}
 use lib.Dec.{ltb}
-use lib.IntN.{pos}
+use lib.IntN.{ℤ, pos}
+use lib.Signed.{ltZ}
 use lib.ListN.{length, take, drop, length-map}
 use borrow.Author.Tests.{ne-eqb, ltb-false}
 use Rattle.records.specs.declared.metadata.MetadataLog.{MetadataLog}
@@ -13,17 +14,17 @@ use Rattle.records.specs.declared.metadata.SingleFields.{SingleFields}
 use Rattle.records.specs.declared.counters.Time.{Time}
 use Rattle.records.specs.declared.snapshot.Snapshots.{Snapshots}
 use Rattle.records.specs.declared.run.Answer.{Answer}
-use Rattle.rules.specs.Words.{firstOf, orElse, Check}
+use Rattle.rules.specs.Words.{ascending, firstOf, orElse, Check}
 use Rattle.rules.specs.Capacities.{metadataLogRoom}
 use Rattle.rules.specs.Register.{State}
 use Rattle.rules.specs.Register.Outcome.{Refused, Accepted}
-use Rattle.rules.specs.WellFormed.{metadataLogFormed, fileNameFormed}
+use Rattle.rules.specs.WellFormed.{snapshotBelow, metadataLogFormed, fileNameFormed}
 use Rattle.rules.specs.ChangeLog.{logsMain, mainTarget}
 use Rattle.rules.specs.Limit.{limitOf, isNumber, afterPlus}
 use Rattle.rules.proofs.Checks.{by-test, passed}
 use Rattle.rules.specs.Close.{staying, expired, closeChecks, closed}
 use Rattle.rules.specs.Run.{close}
-use Rattle.rules.specs.Layout.{laidSnapshots, laidFields, laidMetadata, readMetadataLog, laidMetadataLog}
+use Rattle.rules.specs.Layout.{pad, laidSnapshots, laidFields, laidMetadata, readMetadataLog, laidMetadataLog}
 use Rattle.rules.specs.Kinds.{laidUpdates}
 use Rattle.rules.specs.Answer.{laidOutcome}
 use Rattle.rules.proofs.Reread.{reread-fields}
@@ -31,6 +32,7 @@ use Rattle.rules.proofs.Tables.{log-fits}
 use Rattle.rules.specs.Register as plain
 use Rattle.builder.specs.declared.builder.TableMetadataBuilder.{TableMetadataBuilder}
 use Rattle.builder.specs.Pieces.{laidBuilder, idsOf}
+use Rattle.builder.proofs.Positions.{ids-ascend}
 use Rattle.tables.specs.Laid.{LaidMetadataLog}
 use Rattle.tables.proofs.Table.{within}
 use Rattle.tables.proofs.Each.{tidy-metadata-log}
@@ -40,16 +42,33 @@ use Rattle.close.specs.Answers.{HistoryOf, Handed, joining}
 use Rattle.close.proofs.Join.{Filed, gone-within, stays, expires, stays-length}
 use Rattle.laws.specs.Standing.{Given, Pieces, Represents, termsOf}
 use Rattle.laws.proofs.Slots.{pad-length, pad-front, collect-length}
-use Rattle.laws.proofs.Beginning.{read-fields, read-refs, read-log, read-schemas, read-orders, snapshots-fit}
+use Rattle.laws.proofs.Beginning.{read-fields, read-refs, read-log, read-schemas, read-orders, read-snapshots, snapshots-fit, snapshots-ascend}
 
 pub limit-least : (text : List ℕ) → 1 ≤ limitOf text
 unfolding limitOf
 limit-least text = by-test (λ (n : ℕ). 1 ≤ n) (isNumber (afterPlus text)) (λ e. omega arith) (λ e. omega arith)
 
+-- a table of snapshots and their ids: the part of the ids that is lent
+module _ (l : List plain.Snapshot) {t : Snapshots} {ids : List ℤ} (x : t ≡ laidSnapshots l) (y : ids ≡ pad 64 (pos 0) (idsOf l)) where
+  counted : t .count ≡ length l
+  unfolding laidSnapshots
+  counted = ap (λ (z : Snapshots). z .count) x
+
+  pub lent : take (t .count) ids ≡ idsOf l
+  lent = rw (y, counted, ← (length-map l (λ (s : plain.Snapshot). s .id))) (pad-front (pos 0) 64 (idsOf l))
+
+  pub lent-ascends : ascending snapshotBelow l ≡ true → ascending ltZ (take (t .count) ids) ≡ true
+  lent-ascends h = rw lent (ids-ascend l h)
+
+  pub lent-within : length l ≤ 64 → t .count ≤ length ids
+  lent-within h = omega (arith, counted, ap length y ∙ pad-length (pos 0) 64 (idsOf l) (omega (arith, length-map l (λ (s : plain.Snapshot). s .id))))
+
+  pub lent-slice : t .count ≡ length (take (t .count) ids)
+  lent-slice = counted ∙ sym (ap length lent ∙ length-map l (λ (s : plain.Snapshot). s .id))
+
 module _ {g : Given} {st : State} {p : Pieces} (E : Represents g st p) where
   pub held-count : p .held .snapshots .count ≡ length (st .metadata .snapshots)
-  unfolding laidSnapshots
-  held-count = ap (λ (x : Snapshots). x .count) (E .tables .snapshots)
+  held-count = counted (st .metadata .snapshots) (E .tables .snapshots) (E .tables .ids)
 
   pub held-fits : p .held .snapshots .count ≤ 64
   held-fits = omega (arith, held-count, snapshots-fit E)
@@ -70,7 +89,10 @@ module _ {g : Given} {st : State} {p : Pieces} (E : Represents g st p) where
   mains-fit = omega (arith, mains-most, E .room)
 
   pub held-ids : take (p .held .snapshots .count) (p .held .ids) ≡ idsOf (st .metadata .snapshots)
-  held-ids = rw (E .tables .ids, held-count, ← (length-map (st .metadata .snapshots) (λ (x : plain.Snapshot). x .id))) (pad-front (pos 0) 64 (idsOf (st .metadata .snapshots)))
+  held-ids = lent (st .metadata .snapshots) (E .tables .snapshots) (E .tables .ids)
+
+  pub held-ascend : ascending ltZ (take (p .held .snapshots .count) (p .held .ids)) ≡ true
+  held-ascend = lent-ascends (st .metadata .snapshots) (E .tables .snapshots) (E .tables .ids) (rw (read-snapshots E) at (snapshots-ascend E))
 
   pub added-ids : take (p .changes .adds) (p .changes .added) ≡ additions (st .log)
   added-ids = rw (E .logs .added, E .logs .adds) (pad-front (pos 0) 64 (additions (st .log)))
@@ -159,7 +181,7 @@ module _ {g : Given} {st : State} {p : Pieces} (E : Represents g st p) where
 
   -- the parts that are lent
   pub held-within : p .held .snapshots .count ≤ length (p .held .ids)
-  held-within = omega (arith, held-fits, ap length (E .tables .ids) ∙ pad-length (pos 0) 64 (idsOf (st .metadata .snapshots)) (omega (arith, length-map (st .metadata .snapshots) (λ (x : plain.Snapshot). x .id), snapshots-fit E)))
+  held-within = lent-within (st .metadata .snapshots) (E .tables .snapshots) (E .tables .ids) (snapshots-fit E)
 
   pub adds-within : p .changes .adds ≤ length (p .changes .added)
   adds-within = omega (arith, adds-fit, ap length (E .logs .added) ∙ pad-length (pos 0) 64 (additions (st .log)) (omega (arith, adds-fit, E .logs .adds)))
@@ -168,7 +190,7 @@ module _ {g : Given} {st : State} {p : Pieces} (E : Represents g st p) where
   mains-within = omega (arith, mains-fit, ap length (E .logs .mained) ∙ pad-length (pos 0) 64 (logsMain (st .log)) (omega (arith, mains-fit, E .logs .mains)))
 
   pub held-slice : p .held .snapshots .count ≡ length (take (p .held .snapshots .count) (p .held .ids))
-  held-slice = held-count ∙ sym (ap length held-ids ∙ length-map (st .metadata .snapshots) (λ (x : plain.Snapshot). x .id))
+  held-slice = lent-slice (st .metadata .snapshots) (E .tables .snapshots) (E .tables .ids)
 
   pub added-slice : p .changes .adds ≡ length (take (p .changes .adds) (p .changes .added))
   added-slice = E .logs .adds ∙ sym (ap length added-ids)

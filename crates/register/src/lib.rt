@@ -54,6 +54,7 @@ use schema_updates::remove_schemas;
 use schema_updates::schemas_after;
 use schema_updates::set_current_schema;
 use search::position;
+use search::position_ascending;
 use snapshot_updates::add_snapshot;
 use snapshot_updates::remove_snapshots;
 use start::refused;
@@ -186,7 +187,7 @@ pub fn run(metadata: TableMetadata, updates: UpdateList, terms: RunTerms, text: 
         if (kind == SET_BRANCH_SNAPSHOT) | (kind == SET_REF) {
             let id = ref_target(update);
             let key = id.0;
-            let spot = position(&ids[..held], key);
+            let spot = position_ascending(&ids[..held], key);
             let mut time = clock;
             if spot < held {
                 let snapshot = snapshots.items[spot];
@@ -219,8 +220,9 @@ pub fn run(metadata: TableMetadata, updates: UpdateList, terms: RunTerms, text: 
         if kind == REMOVE_SNAPSHOTS {
             decision = remove_snapshots(builder, snapshots, update);
             snapshots = tables::snapshots::without(snapshots, update.snapshot_ids);
-            refs = tables::refs::pointing(refs, snapshots);
             ids = ids_of(snapshots);
+            let left = snapshots.count;
+            refs = tables::refs::pointing(refs, &ids[..left]);
             removal = removal | decision.logs;
             continue;
         }

@@ -14,9 +14,10 @@ use mir.Facts.{toZ-ofZ}
 use lib.Dec.{eqb, ltb}
 use lib.IntN.{ℤ, pos}
 use lib.ListN.{length, drop, take, length-map}
+use lib.Signed.{ltZ}
 use Rattle.records.specs.Blanks.{noSnapshot}
 use Rattle.records.specs.declared.update.TableUpdate.{TableUpdate}
-use Rattle.rules.specs.Words.{total, eqZ, firstOf, put}
+use Rattle.rules.specs.Words.{total, eqZ, firstOf, ascending, put}
 use Rattle.rules.specs.Names.{isMain}
 use Rattle.rules.specs.Register as plain
 use Rattle.rules.specs.WellFormed.{updateFormed, snapshotBelow}
@@ -40,10 +41,10 @@ use Rattle.start.proofs.Started.{refused-start}
 use Rattle.laws.specs.Standing.{Given, termsOf, Pieces, Represents, Standing}
 use Rattle.laws.specs.Turns.{nothing, updateAt, nameAt, Midway, Stands, Decided, Turn}
 use Rattle.laws.proofs.Beginning.{start-snapshots, start-log, start-short, standing-start, laid-snapshots, laid-refs, laid-log, laid-schemas, laid-orders, location-fits, snapshots-ascend, schemas-ascend, refs-ascend, orders-formed, schema-held, order-held}
-use Rattle.laws.proofs.Closed.{held-ids, held-fits, held-within, held-slice, adds-within, added-slice, mains-within, main-slice, adds-most, mains-most, told, handed, files-laid, files-fit, gone-fits, overfull-is, joins-fit, stay-is, gone-is, checks, close-refused, close-accepted}
+use Rattle.laws.proofs.Closed.{held-ids, held-ascend, held-fits, held-within, held-slice, adds-within, added-slice, mains-within, main-slice, adds-most, mains-most, told, handed, files-laid, files-fit, gone-fits, overfull-is, joins-fit, stay-is, gone-is, checks, close-refused, close-accepted}
 use Rattle.laws.proofs.Moving.{fits, ends}
 use Rattle.laws.proofs.Deciding.{whole, not-formed-decided, fields-decided, refs-decided, schemas-decided, orders-decided, refs-left, schemas-left, schemas-grown, orders-grown}
-use Rattle.laws.proofs.Removing.{left-laid, removed-decided}
+use Rattle.laws.proofs.Removing.{left-laid, left-lent, removed-decided}
 use Rattle.laws.proofs.Adding.{has-room, stored-last, id-last, put-new, put-laid, put-tables, put-ids, add-refused, adds-fine, add-decided}
 use Rattle.laws.proofs.Setting.{faced, set-midway, set-decides, main-room, other-decided, main-decided}
 use Rattle.laws.proofs.Taken.{snapshot-back, reference-back, asked-laid, schema-ids-laid, branch-name-laid, set-name-laid, removed-name-laid}
@@ -352,8 +353,8 @@ module _ (c : tie.After-set-ref Inv-loop μ-loop Inv-loop2 μ-loop2) where
       let k = target-key (sought .before .before .before) in
       set-decides W (c .set-ref .ensures)
       (faced (W .stands) (W .wanted)
-      (sought .before .position .ensures ∙ ap (λ (y : ℤ). indexOf (λ x. eqZ x y) (take (loop-at (setting set-at) .loop2 .snapshots .count) (loop-at (setting set-at) .loop2 .ids))) k)
-      (c .before .position2 .ensures ∙ ap (λ (y : ℤ). indexOf (λ x. eqZ x y) (take (loop-at (setting set-at) .loop2 .adds) (loop-at (setting set-at) .loop2 .added))) k)
+      (sought .before .position-ascending .ensures ∙ ap (λ (y : ℤ). indexOf (λ x. eqZ x y) (take (loop-at (setting set-at) .loop2 .snapshots .count) (loop-at (setting set-at) .loop2 .ids))) k)
+      (c .before .position .ensures ∙ ap (λ (y : ℤ). indexOf (λ x. eqZ x y) (take (loop-at (setting set-at) .loop2 .adds) (loop-at (setting set-at) .loop2 .added))) k)
       noSnapshot
       (λ l. ⊎-elim (λ w. w .3) (λ w. absurd (omega (arith, w .0 .left))) (sought .if12 .came)))
 
@@ -613,7 +614,7 @@ slice-aggregate-add-snapshot : tie.Need-slice-aggregate-add-snapshot Inv-loop μ
 slice-aggregate-add-snapshot c = held-slice (adding-standing (c .before .before) .stands)
 
 add-snapshot-requires : tie.Need-add-snapshot-requires Inv-loop μ-loop Inv-loop2 μ-loop2
-add-snapshot-requires c κs = let t = c .before .before in (tidy (adding t), either-kind t)
+add-snapshot-requires c κs = let t = c .before .before in (tidy (adding t), (either-kind t, held-ascend (adding-standing t .stands)))
 
 loop2-less-8 : tie.Need-loop2-less-8 Inv-loop μ-loop Inv-loop2 μ-loop2
 loop2-less-8 c =
@@ -683,8 +684,11 @@ loop2-again-9 c =
 array-share-prefix-ids-3 : tie.Need-array-share-prefix-ids-3 Inv-loop μ-loop Inv-loop2 μ-loop2
 array-share-prefix-ids-3 c = held-within (midway (c .before .before) .stands)
 
-slice-aggregate-position : tie.Need-slice-aggregate-position Inv-loop μ-loop Inv-loop2 μ-loop2
-slice-aggregate-position c = held-slice (midway (c .before .before .before) .stands)
+slice-aggregate-position-ascending : tie.Need-slice-aggregate-position-ascending Inv-loop μ-loop Inv-loop2 μ-loop2
+slice-aggregate-position-ascending c = held-slice (midway (c .before .before .before) .stands)
+
+position-ascending-requires : tie.Need-position-ascending-requires Inv-loop μ-loop Inv-loop2 μ-loop2
+position-ascending-requires c κs = held-ascend (midway (c .before .before .before) .stands)
 
 mul-snapshot-2 : tie.Need-mul-snapshot-2 Inv-loop μ-loop Inv-loop2 μ-loop2
 mul-snapshot-2 c = omega (arith, c .if12 .taken, held-fits (midway (c .before .before .before .before .before) .stands))
@@ -695,8 +699,8 @@ element-copy-out-snapshot c = omega (arith, c .if12 .taken, held-fits (midway (c
 array-share-prefix-added : tie.Need-array-share-prefix-added Inv-loop μ-loop Inv-loop2 μ-loop2
 array-share-prefix-added c = adds-within (midway (c .before .before .before .before .before) .stands)
 
-slice-aggregate-position-2 : tie.Need-slice-aggregate-position-2 Inv-loop μ-loop Inv-loop2 μ-loop2
-slice-aggregate-position-2 c = added-slice (midway (c .before .before .before .before .before .before) .stands)
+slice-aggregate-position : tie.Need-slice-aggregate-position Inv-loop μ-loop Inv-loop2 μ-loop2
+slice-aggregate-position c = added-slice (midway (c .before .before .before .before .before .before) .stands)
 
 set-ref-requires : tie.Need-set-ref-requires Inv-loop μ-loop Inv-loop2 μ-loop2
 set-ref-requires c κs =
@@ -766,28 +770,43 @@ without-requires c κs =
     let u = U (loop-at e) in
     (laid-snapshots E, asked-laid u (formed e) q)
 
+lent-left : (c : tie.After-ids-of3 Inv-loop μ-loop Inv-loop2 μ-loop2) → let n : ℕ = c .before .without .result .count in
+    (n ≤ length (c .ids-of3 .result)) × (n ≡ length (take n (c .ids-of3 .result))) × (ascending ltZ (take n (c .ids-of3 .result)) ≡ true)
+lent-left c =
+    let e = c .before .before .before .before .before .before .before .before .before in
+    let q = c .before .before .before .if14 .taken in
+    let s = S e removeSnapshotsKind q refl in
+    let u = U (loop-at e) in
+    let v = readUpdate u in
+    let xs = readSnapshotIds (u .«snapshot_ids») in
+    let w = read-remove-snapshots u (formed e) q in
+    left-lent s v (at (deciding e)) (one (deciding e)) (formed e) xs w (c .before .without .ensures) (c .ids-of3 .ensures (left-laid s v (at (deciding e)) (one (deciding e)) (formed e) xs w (c .before .without .ensures)))
+
+array-share-prefix-ids-4 : tie.Need-array-share-prefix-ids-4 Inv-loop μ-loop Inv-loop2 μ-loop2
+array-share-prefix-ids-4 c = lent-left c .0
+
+slice-aggregate-pointing : tie.Need-slice-aggregate-pointing Inv-loop μ-loop Inv-loop2 μ-loop2
+slice-aggregate-pointing c = lent-left (c .before) .1
+
 pointing-requires : tie.Need-pointing-requires Inv-loop μ-loop Inv-loop2 μ-loop2
 pointing-requires c κs =
-    let e = c .before .before .before .before .before .before .before .before in
-    let q = c .before .before .if14 .taken in
-    let s = S e removeSnapshotsKind q refl in
-    let E = s .stands in
-    let u = U (loop-at e) in
-    (laid-refs E, left-laid s (readUpdate u) (at (deciding e)) (one (deciding e)) (formed e) (readSnapshotIds (u .«snapshot_ids»)) (read-remove-snapshots u (formed e) q) (c .without .ensures))
+    let e = c .before .before .before .before .before .before .before .before .before .before in
+    let q = c .before .before .before .before .if14 .taken in
+    (laid-refs (S e removeSnapshotsKind q refl .stands), lent-left (c .before) .2)
 
 loop2-less-12 : tie.Need-loop2-less-12 Inv-loop μ-loop Inv-loop2 μ-loop2
-loop2-less-12 c = turn-less (deciding (c .before .before .before .before .before .before .before .before .before .before .before))
+loop2-less-12 c = turn-less (deciding (c .before .before .before .before .before .before .before .before .before .before .before .before))
 
 loop2-again-12 : tie.Need-loop2-again-12 Inv-loop μ-loop Inv-loop2 μ-loop2
 loop2-again-12 c =
-    let e = c .before .before .before .before .before .before .before .before .before .before .before in
-    let q = c .before .before .before .before .before .if14 .taken in
+    let e = c .before .before .before .before .before .before .before .before .before .before .before .before in
+    let q = c .before .before .before .before .before .before .if14 .taken in
     let s = S e removeSnapshotsKind q refl in
     let E = s .stands in
     let T = E .tables in
     let u = U (loop-at e) in
-    let l = c .before .before .before in
-    let R = removed-decided s (readUpdate u) (at (deciding e)) (one (deciding e)) (formed e) (readSnapshotIds (u .«snapshot_ids»)) (read-remove-snapshots u (formed e) q) (l .before .remove-snapshots .ensures (s .state) (T .builder) (T .snapshots)) (l .without .ensures) (c .before .ids-of3 .ensures (left-laid s (readUpdate u) (at (deciding e)) (one (deciding e)) (formed e) (readSnapshotIds (u .«snapshot_ids»)) (read-remove-snapshots u (formed e) q) (l .without .ensures))) (c .before .before .pointing .ensures) in
+    let l = c .before .before .before .before in
+    let R = removed-decided s (readUpdate u) (at (deciding e)) (one (deciding e)) (formed e) (readSnapshotIds (u .«snapshot_ids»)) (read-remove-snapshots u (formed e) q) (l .before .remove-snapshots .ensures (s .state) (T .builder) (T .snapshots)) (l .without .ensures) (c .before .before .before .ids-of3 .ensures (left-laid s (readUpdate u) (at (deciding e)) (one (deciding e)) (formed e) (readSnapshotIds (u .«snapshot_ids»)) (read-remove-snapshots u (formed e) q) (l .without .ensures))) (c .before .pointing .ensures) in
     waits-now (deciding e) R
 
 remove-ref-requires : tie.Need-remove-ref-requires Inv-loop μ-loop Inv-loop2 μ-loop2
@@ -953,8 +972,8 @@ loop2-again-18 c =
 returns : tie.Need-returns Inv-loop μ-loop Inv-loop2 μ-loop2
 returns c = c .refused .ensures ∙ c .before .before .before .loop2 .inv .refused (c .before .if20 .taken)
 
-array-share-prefix-ids-4 : tie.Need-array-share-prefix-ids-4 Inv-loop μ-loop Inv-loop2 μ-loop2
-array-share-prefix-ids-4 c = held-within (end (c .before) .stands)
+array-share-prefix-ids-5 : tie.Need-array-share-prefix-ids-5 Inv-loop μ-loop Inv-loop2 μ-loop2
+array-share-prefix-ids-5 c = held-within (end (c .before) .stands)
 
 slice-aggregate-close-log : tie.Need-slice-aggregate-close-log Inv-loop μ-loop Inv-loop2 μ-loop2
 slice-aggregate-close-log c = held-slice (end (c .before .before) .stands)
@@ -972,7 +991,7 @@ slice-aggregate-close-log-3 : tie.Need-slice-aggregate-close-log-3 Inv-loop μ-l
 slice-aggregate-close-log-3 c = main-slice (end (c .before .before .before .before) .stands)
 
 close-log-requires : tie.Need-close-log-requires Inv-loop μ-loop Inv-loop2 μ-loop2
-close-log-requires c κs = laid-log (end (c .before .before .before .before) .stands)
+close-log-requires c κs = let E = end (c .before .before .before .before) .stands in (laid-log E, held-ascend E)
 
 surplus-requires : tie.Need-surplus-requires Inv-loop μ-loop Inv-loop2 μ-loop2
 surplus-requires c κs = files-fit (end (c .before .before .before .before .before .before) .stands)
@@ -1077,12 +1096,12 @@ run-spec =
     loop2-again-9
     (λ c κs. search needs)
     array-share-prefix-ids-3
-    slice-aggregate-position
-    (λ c κs. search needs)
+    slice-aggregate-position-ascending
+    position-ascending-requires
     mul-snapshot-2
     element-copy-out-snapshot
     array-share-prefix-added
-    slice-aggregate-position-2
+    slice-aggregate-position
     (λ c κs. search needs)
     set-ref-requires
     refs-after-requires
@@ -1100,8 +1119,10 @@ run-spec =
     loop2-again-11
     remove-snapshots-requires
     without-requires
-    pointing-requires
     (λ c κs. search needs)
+    array-share-prefix-ids-4
+    slice-aggregate-pointing
+    pointing-requires
     loop2-less-12
     loop2-again-12
     remove-ref-requires
@@ -1128,7 +1149,7 @@ run-spec =
     loop2-again-18
     (λ c κs. search needs)
     returns
-    array-share-prefix-ids-4
+    array-share-prefix-ids-5
     slice-aggregate-close-log
     array-share-prefix-added-2
     slice-aggregate-close-log-2
