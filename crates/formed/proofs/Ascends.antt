@@ -3,15 +3,14 @@ use Prim.Native.Nat.{ℕ, _+_, _-_, _≤_, _<_}
 use native.Mathlib.Omega.{arith}
 use native.Mathlib.Numerals.{add-one}
 use mathlib.Core.Path.{_≡_, refl, sym, _∙_}
-use mathlib.Core.Bool.{Bool, true, _&&_, and-true, and-false}
+use mathlib.Core.Bool.{Bool, true, _&&_, and-true}
 use mathlib.Core.List.{List, [], _∷_, map}
-use borrow.Table.Steps.{cases}
 use lib.ListN.{length, getD, take, drop, length-drop}
 use lib.Seq.{drop-cons, length-take-le, getD-take}
-use Rattle.rules.specs.Words.{all, ascending}
+use Rattle.rules.specs.Words.{ascending}
 use Rattle.rules.specs.Layout.{counted}
 use Rattle.rules.proofs.Orders.{Ordered}
-use Rattle.rules.proofs.Tables.{byKey, all-then, ascending-read, ascending-head}
+use Rattle.rules.proofs.Tables.{byKey, ascending-read, ascending-two}
 use Rattle.formed.proofs.Scans.{Scanned, scan-start, scan-on}
 use Rattle.formed.proofs.Counted.{read-taken}
 
@@ -19,15 +18,6 @@ few : {A : Type 0} (below : A → A → Bool) (l : List A) → length l ≤ 1 �
 few below [] h = refl
 few below (x ∷ []) h = refl
 few below (x ∷ y ∷ l) h = absurd (omega arith)
-
-module _ {A K : Type 0} {lt : K → K → Bool} (o : Ordered lt) (key : A → K) where
-  ascending-two : (x y : A) (l : List A) → ascending (byKey lt key) (x ∷ y ∷ l) ≡ (lt (key x) (key y) && ascending (byKey lt key) (y ∷ l))
-  ascending-two x y l =
-      cases (lt (key x) (key y))
-      (λ t. rw t (cases (ascending (byKey lt key) (y ∷ l))
-      (λ a. let h : all (byKey lt key x) l ≡ true = all-then (byKey lt key y) (byKey lt key x) (λ z. o .transitive (key x) (key y) (key z) t) l (ascending-head (byKey lt key) y l a) in rw h)
-      (λ a. rw a (and-false (all (byKey lt key x) l)))))
-      (λ f. rw f)
 
 abbrev ascendingFrom : {A : Type 0} → (A → A → Bool) → ℕ → List A → Bool
 ascendingFrom below i l = ascending below l

@@ -2,12 +2,13 @@
 use Prim.Native.Nat.{ℕ, zero, suc, _≤_, _<_}
 use native.Mathlib.Omega.{arith}
 use mathlib.Core.Path.{_≡_, refl, sym, ap, ap₂, _∙_, subst}
-use mathlib.Core.Bool.{Bool, true, false, cond, _&&_, _||_, false≢true, true≢false}
+use mathlib.Core.Bool.{Bool, true, false, cond, _&&_, _||_, false≢true, true≢false, and-false}
 use mathlib.Core.List.{List, [], _∷_, _++_, map}
 use mathlib.Core.Option.{Option, some}
 use lib.Dec.{leb}
 use lib.ListN.{length, getD, drop, length-append}
 use borrow.Author.Tests.{leb-true, le-leb}
+use borrow.Table.Steps.{cases}
 use Rattle.rules.specs.Words.{isSome, ifSome, all, any, keep, first, afterLast, ascending, put}
 use Rattle.rules.proofs.Checks.{by-test, both, and-left, and-right, or-left, or-right, by-either}
 use Rattle.rules.proofs.Orders.{Ordered, Tells}
@@ -158,6 +159,15 @@ module _ {A K : Type 0} {lt : K → K → Bool} (o : Ordered lt) (key : A → K)
   -- so is what has the key of the first, but for the first itself
   like-below-all : (a x : A) (l : List A) → lt (key a) (key x) ≡ false → lt (key x) (key a) ≡ false → ascending (byKey lt key) (x ∷ l) ≡ true → all (byKey lt key a) l ≡ true
   like-below-all a x l e f h = subst (λ (k : K). all (λ (y : A). lt k (key y)) l ≡ true) (o .connected (key x) (key a) f e) (ascending-head (byKey lt key) x l h)
+
+  -- the first is below all others if it is below the next
+  pub ascending-two : (x y : A) (l : List A) → ascending (byKey lt key) (x ∷ y ∷ l) ≡ (lt (key x) (key y) && ascending (byKey lt key) (y ∷ l))
+  ascending-two x y l =
+      cases (lt (key x) (key y))
+      (λ t. rw t (cases (ascending (byKey lt key) (y ∷ l))
+      (λ a. let h : all (byKey lt key x) l ≡ true = all-tail (byKey lt key x) y l (below-all x y l t a) in rw h)
+      (λ a. rw a (and-false (all (byKey lt key x) l)))))
+      (λ f. rw f)
 
   pub ascending-put : (a : A) (l : List A) → ascending (byKey lt key) l ≡ true → ascending (byKey lt key) (put (byKey lt key) a l) ≡ true
   ascending-put a [] h = refl
