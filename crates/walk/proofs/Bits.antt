@@ -3,9 +3,8 @@ use Prim.Native.Nat.{ℕ}
 use mathlib.Core.Path.{_≡_, refl, sym, ap, _∙_}
 use mathlib.Core.Bool.{Bool, true, false, not}
 use native.Mathlib.Omega.{arith}
-use borrow.Author.Tests.{eqb-true, eqb-false, le-ltb}
+use borrow.Author.Tests.{le-ltb}
 use borrow.Table.Steps.{cases}
-use lib.Dec.{eqb}
 use lib.IntN.{ℤ, pos, negsuc}
 use lib.Signed.{ltZ, nonNeg}
 use mir.Syntax.{w64}
@@ -32,12 +31,6 @@ module _ {a : ℤ} {bits : ℕ} where
 -- the bits of a number are those of what is read from them
 pub whole : {z : ℤ} → SFits w64 z → ofZ w64 (toZ w64 (ofZ w64 z)) ≡ ofZ w64 z
 whole f = ap (ofZ w64) (toZ-ofZ f)
-
-pub test : (a b : ℤ) → SFits w64 a → SFits w64 b → eqb (ofZ w64 a) (ofZ w64 b) ≡ eqZ a b
-test a b f g =
-    cases (eqb (ofZ w64 a) (ofZ w64 b))
-    (λ t. t ∙ sym (eqZ-same a b (same f (eqb-true (ofZ w64 a) (ofZ w64 b) t) ∙ toZ-ofZ g)))
-    (λ n. n ∙ sym (eqZ-other a b (λ e. eqb-false (ofZ w64 a) (ofZ w64 b) n (ap (ofZ w64) e))))
 
 -- the sign of a number that was read
 pub sign : {z : ℤ} {t : Bool} → SFits w64 z → ltZ (toZ w64 (ofZ w64 z)) (pos 0) ≡ t → nonNeg z ≡ not t

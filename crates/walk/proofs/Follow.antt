@@ -1,30 +1,32 @@
 -- A walk on its way: each step lists a held id that was not listed, so fewer are left, and the steps that the rule allows are enough.
 use Prim.Native.Nat.{ℕ, suc, _+_, _-_, _≤_, _<_}
 use mathlib.Core.Path.{_≡_, refl, sym, ap, _∙_}
-use mathlib.Core.Bool.{Bool, true, false, false≢true, cond, _||_, or-true, or-false, or-assoc, and-false}
+use mathlib.Core.Bool.{Bool, true, false, false≢true, cond, _||_, or-true, or-false, or-assoc}
 use mathlib.Core.List.{List, [], _∷_, _++_}
 use mathlib.Core.Option.{Option, none, some}
 use native.Mathlib.Omega.{arith}
-use borrow.Author.Tests.{leb-true}
+use borrow.Author.Tests.{eqb-true, leb-true}
 use borrow.Table.Steps.{cases}
 use lib.Dec.{eqb, leb}
 use lib.IntN.{ℤ}
 use lib.ListN.{length, length-append}
+use lib.Signed.{nonNeg}
 use Rattle.rules.specs.Capacities.{snapshotRoom}
-use Rattle.rules.specs.Words.{eqZ, isIn, someWith}
+use Rattle.rules.specs.Words.{eqZ, all, isIn, unequal, someWith}
 use Rattle.rules.specs.Walk.{Walk, Listed, Twice, Bad, parentOf, listsFormed, follow, ancestors}
+use Rattle.rules.proofs.Checks.{Hold, parts}
 use Rattle.rules.proofs.Orders.{numbers-told}
-use Rattle.walk.specs.declared.step.Onward.{Onward}
-use Rattle.walk.specs.declared.step.Onward.the-variants.{To, End}
-use Rattle.walk.specs.Answers.{toParent, stepFrom}
 use Rattle.walk.proofs.Bits.{eqZ-same}
 
 -- ---- a step from an id is to the parent of a held one
 
-to-parent : (stops : Bool) (o : Option ℤ) {next : ℤ} → cond stops End (toParent o) ≡ To next → o ≡ some next
+-- from an id to its parent; nowhere from one that is excluded or not held
+abbrev pub nextOf : List ℤ → List ℤ → Option ℤ → ℤ → Option ℤ
+nextOf ids parents excluded id = cond (someWith (eqZ id) excluded) none (parentOf ids parents id)
+
+to-parent : (stops : Bool) (o : Option ℤ) {next : ℤ} → cond stops none o ≡ some next → o ≡ some next
 to-parent true o e = cc
-to-parent false none e = cc
-to-parent false (some x) e = cc
+to-parent false o e = e
 
 held : (ids parents : List ℤ) (id : ℤ) {next : ℤ} → parentOf ids parents id ≡ some next → isIn ids id ≡ true
 held [] parents id e = cc
@@ -71,28 +73,36 @@ module _ (listed : List ℤ) (id : ℤ) where
 
 -- ---- a walk on its way
 
-few : (ids parents : List ℤ) → listsFormed ids parents ≡ true → length ids ≤ snapshotRoom
-few ids parents e =
-    cases (leb (length ids) snapshotRoom)
-    (λ t. leb-true (length ids) snapshotRoom t)
-    (λ f. absurd (false≢true (rw (f, and-false (eqb (length ids) (length parents))) at e)))
+-- lists that are well formed
+module _ (ids parents : List ℤ) (e : listsFormed ids parents ≡ true) where
+  tests : Hold (eqb (length ids) (length parents) ∷ leb (length ids) snapshotRoom ∷ unequal ids ∷ all nonNeg ids ∷ [])
+  tests = parts (eqb (length ids) (length parents)) (leb (length ids) snapshotRoom ∷ unequal ids ∷ all nonNeg ids ∷ []) e
+
+  pub as-many : length ids ≡ length parents
+  as-many = eqb-true (length ids) (length parents) (tests .0)
+
+  few : length ids ≤ snapshotRoom
+  few = leb-true (length ids) snapshotRoom (tests .1 .0)
+
+  pub apart : unequal ids ≡ true
+  apart = tests .1 .1 .0
 
 module _ (ids parents : List ℤ) (excluded : Option ℤ) where
   abbrev pub from : ℕ → List ℤ → ℤ → Walk
   from k listed id = follow k (parentOf ids parents) (λ x. someWith (eqZ x) excluded) listed id
 
-  abbrev pub onward : ℕ → List ℤ → ℤ → Onward → Walk
-  onward k listed id End = Listed listed
-  onward k listed id (To next) = cond (isIn listed id) Twice (from k (listed ++ (id ∷ [])) next)
+  abbrev pub onward : ℕ → List ℤ → ℤ → Option ℤ → Walk
+  onward k listed id none = Listed listed
+  onward k listed id (some next) = cond (isIn listed id) Twice (from k (listed ++ (id ∷ [])) next)
 
   -- the rule goes by the step
-  pub by-step : (k : ℕ) (listed : List ℤ) (id : ℤ) → from (suc k) listed id ≡ onward k listed id (stepFrom ids parents excluded id)
+  pub by-step : (k : ℕ) (listed : List ℤ) (id : ℤ) → from (suc k) listed id ≡ onward k listed id (nextOf ids parents excluded id)
   unfolding follow
   by-step k listed id = go (someWith (eqZ id) excluded) (parentOf ids parents id)
     where
       go : (stops : Bool) (o : Option ℤ) →
           elim o [ none ↦ Listed listed | some next ↦ cond stops (Listed listed) (cond (isIn listed id) Twice (from k (listed ++ (id ∷ [])) next)) ]
-          ≡ onward k listed id (cond stops End (toParent o))
+          ≡ onward k listed id (cond stops none o)
       go true none = refl
       go true (some next) = refl
       go false none = refl
@@ -122,15 +132,15 @@ begins ids parents excluded start e =
     }
 
 -- a step from an id that is not listed leaves fewer
-pub leaves-fewer : (ids parents : List ℤ) (excluded : Option ℤ) (listed : List ℤ) (id : ℤ) {next : ℤ} → stepFrom ids parents excluded id ≡ To next → isIn listed id ≡ false → unlisted (listed ++ (id ∷ [])) ids < unlisted listed ids
+pub leaves-fewer : (ids parents : List ℤ) (excluded : Option ℤ) (listed : List ℤ) (id : ℤ) {next : ℤ} → nextOf ids parents excluded id ≡ some next → isIn listed id ≡ false → unlisted (listed ++ (id ∷ [])) ids < unlisted listed ids
 leaves-fewer ids parents excluded listed id to e =
     fewer listed id ids (held ids parents id (to-parent (someWith (eqZ id) excluded) (parentOf ids parents id) to)) e
 
 module _ {ids parents : List ℤ} {excluded : Option ℤ} {start : ℤ} {listed : List ℤ} {id : ℤ} (g : Going ids parents excluded start listed id) where
-  pub ends : stepFrom ids parents excluded id ≡ End → ancestors ids parents start excluded ≡ Listed listed
+  pub ends : nextOf ids parents excluded id ≡ none → ancestors ids parents start excluded ≡ Listed listed
   ends e = g .same ∙ by-step ids parents excluded (length ids - length listed) listed id ∙ rw e
 
-  module _ {next : ℤ} (to : stepFrom ids parents excluded id ≡ To next) where
+  module _ {next : ℤ} (to : nextOf ids parents excluded id ≡ some next) where
     pub meets : isIn listed id ≡ true → ancestors ids parents start excluded ≡ Twice
     meets e = g .same ∙ by-step ids parents excluded (length ids - length listed) listed id ∙ rw (to, e)
 

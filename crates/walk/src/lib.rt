@@ -6,13 +6,14 @@ ghost use lib.ListN.{length};
 ghost use Rattle.rules.specs.Layout.{given};
 ghost use Rattle.rules.specs.Walk.{Listed, ancestors, walkBuffer};
 ghost use Rattle.walk.specs.Answers.{refusal, walked};
+use lists::ascend;
 use lists::lists_formed;
 use records::capacities::SNAPSHOTS;
 use records::replies::ACCEPTED;
 use records::replies::BUFFER_TOO_SHORT;
 use records::replies::LISTS_NOT_FORMED;
 use records::replies::MET_TWICE;
-use step::Onward;
+use step::lesser;
 use step::step;
 
 mod lists;
@@ -61,19 +62,22 @@ pub fn ancestors(
     ensures answer { λ r. ⌜ r ≡ walked (length (now (out .entry))) (ancestors (now (ids .entry)) (now (parents .entry)) start (given «has_excluded» excluded)) ⌝ }
     ensures buffer { λ _. ⌜ now (out .exit) ≡ walkBuffer (now (out .entry)) (ancestors (now (ids .entry)) (now (parents .entry)) start (given «has_excluded» excluded)) ⌝ }
 {
-    if !lists_formed(ids, parents) {
+    let ascends = ascend(ids);
+    if !lists_formed(ids, parents, ascends) {
         return refused(LISTS_NOT_FORMED);
     }
     let mut path = [0i64; SNAPSHOTS];
     let mut n: usize = 0;
     let mut id = start;
+    let mut place: usize = 0;
+    let mut least = start;
     'walk: loop {
-        let on = step(ids, parents, id, has_excluded, excluded);
-        let Onward::To(next) = on else {
+        place = step(ids, ascends, place, id, has_excluded, excluded);
+        if place == ids.len() {
             return listed(&path[..n], out);
-        };
+        }
         let mut j = 0;
-        while j < n {
+        while (j < n) & (least <= id) {
             if path[j] == id {
                 break 'walk;
             }
@@ -81,7 +85,8 @@ pub fn ancestors(
         }
         path[n] = id;
         n += 1;
-        id = next;
+        least = lesser(least, id);
+        id = parents[place];
     }
     refused(MET_TWICE)
 }

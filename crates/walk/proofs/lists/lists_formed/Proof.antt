@@ -1,77 +1,25 @@
--- The loop keeps the form of all the ids equal to that of those from `i` on.
-use Prim.Native.Nat.{ℕ, _+_, _-_, _≤_}
+-- Where the lengths are right, the ids decide; those that ascend are well formed.
 use mathlib.Core.Path.{_≡_, sym, _∙_}
-use mathlib.Core.List.{List}
-use native.Mathlib.Omega.{arith}
-use borrow.Author.Needs.{needs, sfits-of}
+use borrow.Author.Needs.{needs}
 use borrow.Author.Tests.{eq-eqb, ne-eqb, lt-leb}
-use lib.ListN.{length, getD, drop, take, length-drop}
-use lib.Seq.{take-all}
-use lib.IntN.{ℤ, pos}
-use mir.Syntax.{w64}
-use mir.Val.{SFits}
-use mir.Facts.{toZ-ofZ}
-use Rattle.rules.specs.Words.{isIn}
 use Rattle.rules.specs.Walk.{listsFormed}
-use Rattle.walk.proofs.Bits.{sign}
-use Rattle.walk.proofs.Scans.{formed, formed-ids, formed-under, formed-twice, formed-rest, formed-end}
+use Rattle.walk.specs.Lists.{idsFormed}
+use Rattle.walk.proofs.Scans.{formed-ids}
+use Rattle.walk.proofs.Rising.{rising-formed}
 use Rattle.walk.proofs.lists.lists_formed.Statement.{statement}
 use Rattle.walk.proofs.lists.lists_formed.Tie as tie
 
-abbrev Inv-loop : tie.InvT-loop
-Inv-loop ids parents i₀ i = (i ≤ length ids) × (listsFormed ids parents ≡ formed (drop i ids))
-
-abbrev μ-loop : tie.MeasureT-loop
-μ-loop ids parents i₀ i = length ids - i
-
--- at an id
-module _ (c : tie.After-id Inv-loop μ-loop) where
-  abbrev l : tie.At-loop Inv-loop μ-loop
-  l = c .before .before
-
-  abbrev ids : List ℤ
-  ids = l .before .before .before .args .ids .now
-
-  abbrev i : ℕ
-  i = l .loop .i
-
-  abbrev id : ℤ
-  id = getD ids i (pos 0)
-
-  fits : SFits w64 id
-  fits = sfits-of (c .id .given)
-
-  after : take (length ids - (i + 1)) (drop (i + 1) ids) ≡ drop (i + 1) ids
-  after = take-all (length ids - (i + 1)) (drop (i + 1) ids) (simp length-drop (omega arith))
-
--- the call looks for it among those after it
-found : (c : tie.After-is-in Inv-loop μ-loop) → let k = c .before .before .before in c .is-in .result ≡ isIn (drop (i k + 1) (ids k)) (id k)
-found c = let k = c .before .before .before in c .is-in .ensures ∙ rw (toZ-ofZ (fits k), after k)
+-- past the two tests of the lengths
+by-ids : (c : tie.Else2) → let a = c .before .before .args in listsFormed (a .ids .now) (a .parents .now) ≡ idsFormed (a .ids .now)
+by-ids c = let a = c .before .before .args in formed-ids (a .ids .now) (a .parents .now) (c .before .if1 .left) (c .if2 .left)
 
 pub lists-formed-spec : {M : Type 1} → statement M
 lists-formed-spec =
     tie.close
     (tie.spec
-    Inv-loop
-    μ-loop
     (λ c. rw (ne-eqb _ _ (c .if1 .taken)))
     (λ c. rw (eq-eqb _ _ (c .before .if1 .left), lt-leb _ _ (c .if2 .taken)))
-    (λ c. (search needs, formed-ids (c .before .before .args .ids .now) (c .before .before .args .parents .now) (c .before .if1 .left) (c .if2 .left)))
-    (λ c. search needs)
-    (λ c. search needs)
-    (λ c. let k = c .before in
-    sym (l k .loop .inv .1 ∙ formed-under (ids k) (i k) (omega arith) (sign {z = id k} (fits k) (c .if3 .taken))))
-    (λ c. search needs)
-    (λ c. search needs)
-    (λ c. search needs)
-    (λ c. search needs)
-    (λ c. search needs)
+    (λ c. let s = c .before .before .before in
+    sym (by-ids (c .before) ∙ rising-formed (s .args .ids .now) (sym (s .pre) ∙ c .if3 .taken)))
     (λ c κs. search needs)
-    (λ c. let k = c .before .before .before .before in
-    sym (l k .loop .inv .1 ∙ formed-twice (ids k) (i k) (omega arith) (sym (found (c .before)) ∙ c .if4 .taken)))
-    (λ c. search needs)
-    (λ c. search needs)
-    (λ c. let k = c .before .before .before .before in
-    (omega arith, l k .loop .inv .1 ∙ formed-rest (ids k) (i k) (omega arith) (sign {z = id k} (fits k) (c .before .before .before .if3 .left)) (sym (found (c .before)) ∙ c .if4 .left)))
-    (λ c. let l = c .before in
-    sym (l .loop .inv .1 ∙ formed-end _ (l .loop .i) (c .loop-test .left))))
+    (λ c. c .ids-formed .ensures ∙ sym (by-ids (c .before .before))))

@@ -19,4 +19,4 @@ step-spec =
     (λ c. rw (stops (c .before) (c .if1 .taken)))
     (λ c κs. search needs)
     (λ c. let k = c .before .before in
-    rw (stops k (c .before .if1 .left)) (rw (toZ-ofZ (k .before .fits .id)) at (c .parent-of .ensures))))
+    rw (stops k (c .before .if1 .left)) (rw (toZ-ofZ (k .before .fits .id)) at (c .place-of .ensures))))
