@@ -1,6 +1,6 @@
-// Reads how often, then one case (a run or a walk over ids, in the case format), answers it that many times, and prints the number and the
-// count of the last answer: the logged updates of a run, the ids of a walk. Reading is done once; only the calls are repeated, so that two
-// counts tell the time of a call.
+// Reads how often, then one case (a run or a walk, over ids or over records, in the case format), answers it that many times, and prints the
+// number and the count of the last answer: the logged updates of a run, the ids of a walk. Reading is done once; only the calls are repeated,
+// so that two counts tell the time of a call.
 use casefile::case::put_bad_case;
 use casefile::case::read_case;
 use casefile::run::RUN;
@@ -33,6 +33,7 @@ fn answer(kind: u64, times: u64, input: &mut Input, place: &mut Place) -> Kept {
         RUN => runs::run(kind, times, input, place),
         RUN_GIVEN_MORE => runs::run(kind, times, input, place),
         2 => walks::ids(times, input, place),
+        3 => walks::records(times, input, place),
         _ => {
             spoil(place);
             Kept {

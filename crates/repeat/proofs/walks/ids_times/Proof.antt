@@ -2,19 +2,19 @@
 use mathlib.Core.Path.{_≡_}
 use borrow.Author.Needs.{needs}
 use lib.ListN.{length}
-use Rattle.repeat.proofs.walks.walk_times.Statement.{statement}
-use Rattle.repeat.proofs.walks.walk_times.Tie as tie
+use Rattle.repeat.proofs.walks.ids_times.Statement.{statement}
+use Rattle.repeat.proofs.walks.ids_times.Tie as tie
 
 abbrev Inv-loop : tie.InvT-loop
-Inv-loop times ids parents start has-excluded excluded buffer₀ number₀ count₀ left₀ buffer number count left =
+Inv-loop times ids parents terms buffer₀ number₀ count₀ left₀ buffer number count left =
     length buffer ≡ length buffer₀
 
 abbrev μ-loop : tie.MeasureT-loop
-μ-loop times ids parents start has-excluded excluded buffer₀ number₀ count₀ left₀ buffer number count left =
+μ-loop times ids parents terms buffer₀ number₀ count₀ left₀ buffer number count left =
     left
 
-pub walk-times-spec : {M : Type 1} → statement M
-walk-times-spec =
+pub ids-times-spec : {M : Type 1} → statement M
+ids-times-spec =
     tie.close
     (tie.spec
     Inv-loop
