@@ -68,12 +68,20 @@ fn case(workload: &Workload) -> Case {
         } => Case::Walk {
             ids: ids.clone(),
             parents: parents.clone(),
-            terms: WalkTerms {
-                start: *start,
-                excluded: Flagged::of(None),
-                buffer_length: capacity::WALK as u64,
-            },
+            terms: terms(*start),
         },
+        Workload::WalkRecords { snapshots, start } => Case::WalkRecords {
+            snapshots: snapshots.clone(),
+            terms: terms(*start),
+        },
+    }
+}
+
+fn terms(start: i64) -> WalkTerms {
+    WalkTerms {
+        start,
+        excluded: Flagged::of(None),
+        buffer_length: capacity::WALK as u64,
     }
 }
 

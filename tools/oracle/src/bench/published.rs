@@ -32,6 +32,10 @@ impl Engine for Published {
                 parents,
                 start,
             } => ready_walk(port::table(ids, parents), *start),
+            Workload::WalkRecords { snapshots, start } => {
+                let (ids, parents) = port::links(snapshots);
+                ready_walk(port::table(&ids, &parents), *start)
+            }
         }
     }
 }

@@ -15,9 +15,13 @@ pub enum Workload {
         parents: Vec<i64>,
         start: i64,
     },
+    WalkRecords {
+        snapshots: Vec<Snapshot>,
+        start: i64,
+    },
 }
 
-pub fn all() -> [(&'static str, Workload); 4] {
+pub fn all() -> [(&'static str, Workload); 5] {
     let ids: Vec<i64> = (0..64).collect();
     let parents: Vec<i64> = (-1..63).collect();
     [
@@ -32,6 +36,13 @@ pub fn all() -> [(&'static str, Workload); 4] {
             Workload::Walk {
                 ids,
                 parents,
+                start: 63,
+            },
+        ),
+        (
+            "walk of 64 over records",
+            Workload::WalkRecords {
+                snapshots: (0..64).map(snapshot).collect(),
                 start: 63,
             },
         ),

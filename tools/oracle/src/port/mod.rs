@@ -17,4 +17,4 @@ pub use leaves::{bare, limit, row_ids, time_window, trim};
 pub use own::{Own, Owns};
 pub use run::{Outcome, Reply, begin, close, run, step};
 pub use tolerance::is_another_tolerance;
-pub use walk::{WalkOutcome, published_walk, table, walk, walk_records};
+pub use walk::{WalkOutcome, links, published_walk, table, walk, walk_records};

@@ -19,12 +19,14 @@ pub struct WalkOutcome {
 
 /// Only ids, parents and their flags are looked at.
 pub fn walk_records(records: &[Snapshot], terms: &WalkTerms) -> WalkOutcome {
-    let ids: Vec<i64> = records.iter().map(|s| s.id).collect();
-    let parents: Vec<i64> = records
-        .iter()
-        .map(|s| s.parent.get().unwrap_or(-1))
-        .collect();
+    let (ids, parents) = links(records);
     walk(&ids, &parents, terms)
+}
+
+/// The ids, and the parents with -1 for none.
+pub fn links(records: &[Snapshot]) -> (Vec<i64>, Vec<i64>) {
+    let link = |s: &Snapshot| (s.id, s.parent.get().unwrap_or(-1));
+    records.iter().map(link).unzip()
 }
 
 pub fn walk(ids: &[i64], parents: &[i64], terms: &WalkTerms) -> WalkOutcome {
