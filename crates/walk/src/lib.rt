@@ -51,6 +51,7 @@ fn listed(path: &[i64], out: &mut [i64]) -> Walked
 }
 
 // From `start`, itself first, parent by parent, to the excluded id if one is given. Serves `ancestors_of` and `ancestors_between`.
+// No listed id is below `least`, so one that is below it is not listed, and the scan ends at once: in most tables parents have lower ids.
 pub fn ancestors(
     ids: &[i64],
     parents: &[i64],
