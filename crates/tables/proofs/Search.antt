@@ -5,7 +5,7 @@ use mathlib.Core.Path.{_≡_, refl, sym, ap₂, _∙_}
 use mathlib.Core.Bool.{Bool, true, false}
 use mathlib.Core.List.{List, [], _∷_, map}
 use lib.Dec.{ltb}
-use lib.ListN.{length, getD, drop, drop-of-length-le}
+use lib.ListN.{getD, drop, drop-of-length-le}
 use Rattle.rules.specs.Words.{any}
 use Rattle.search.specs.Places.{indexOf}
 use Rattle.search.proofs.Places.{index-le, index-below}
