@@ -15,3 +15,4 @@ pub mod sort_order;
 pub mod text;
 pub mod untrimmed;
 pub mod update;
+pub mod walk_terms;

@@ -1,16 +1,14 @@
 // Cases 2 and 3: ancestor walks, over ids and over records.
 ghost use mathlib.Core.Path.{_≡_};
-ghost use Prim.Native.Nat.{_≤_};
 ghost use lib.ListN.{length};
 use casefile::ids::BUFFER;
 use casefile::ids::IDS;
-use casefile::ids::read_buffer_length;
 use casefile::ids::read_ids;
 use casefile::snapshot::read_snapshots;
+use casefile::walk_terms::WalkTerms;
+use casefile::walk_terms::read_walk_terms;
 use casewrite::ids::put_ids;
 use catalogue::table_ancestors;
-use numbers::field::read_flag;
-use numbers::field::read_i64;
 use numbers::input::Input;
 use numbers::input::Place;
 use numbers::input::is_good;
@@ -20,29 +18,6 @@ use numbers::output::Output;
 use records::snapshot::Snapshots;
 use walk::Walked;
 use walk::ancestors;
-
-// What stands after the lists or the records.
-struct Terms {
-    start: i64,
-    has_excluded: bool,
-    excluded: i64,
-    buffer_length: usize,
-}
-
-fn read_terms(input: &mut Input, place: &mut Place) -> Terms
-    ensures { λ r. ⌜ r .«buffer_length» ≤ 80 ⌝ }
-{
-    let start = read_i64(input, place);
-    let has_excluded = read_flag(input, place);
-    let excluded = read_i64(input, place);
-    let buffer_length = read_buffer_length(input, place);
-    Terms {
-        start,
-        has_excluded,
-        excluded,
-        buffer_length,
-    }
-}
 
 // What a buffer holds before the call.
 const UNTOUCHED: i64 = -7;
@@ -62,7 +37,7 @@ fn put_walked(output: &mut Output, end: &mut usize, walked: Walked, buffer: &[i6
 fn walk_ids(
     ids: &[i64],
     parents: &[i64],
-    terms: Terms,
+    terms: WalkTerms,
     buffer: &mut [i64],
     output: &mut Output,
     end: &mut usize,
@@ -80,7 +55,7 @@ fn walk_ids(
 
 fn walk_records(
     snapshots: Snapshots,
-    terms: Terms,
+    terms: WalkTerms,
     buffer: &mut [i64],
     output: &mut Output,
     end: &mut usize,
@@ -100,7 +75,7 @@ pub fn ids(input: &mut Input, place: &mut Place, output: &mut Output, end: &mut 
     let mut parents = [0i64; IDS];
     let n = read_ids(input, place, &mut ids);
     let m = read_ids(input, place, &mut parents);
-    let terms = read_terms(input, place);
+    let terms = read_walk_terms(input, place);
     if is_good(place) {
         let mut buffer = untouched();
         let len = terms.buffer_length;
@@ -117,7 +92,7 @@ pub fn ids(input: &mut Input, place: &mut Place, output: &mut Output, end: &mut 
 
 pub fn records(input: &mut Input, place: &mut Place, output: &mut Output, end: &mut usize) {
     let snapshots = read_snapshots(input, place);
-    let terms = read_terms(input, place);
+    let terms = read_walk_terms(input, place);
     if is_good(place) {
         let mut buffer = untouched();
         let len = terms.buffer_length;

@@ -1,44 +1,25 @@
 // Walks over ids and over records, answered again and again into the same buffer.
-ghost use Prim.Native.Nat.{_≤_};
 use crate::Kept;
 use casefile::ids::BUFFER;
 use casefile::ids::IDS;
-use casefile::ids::read_buffer_length;
 use casefile::ids::read_ids;
 use casefile::snapshot::read_snapshots;
+use casefile::walk_terms::WalkTerms;
+use casefile::walk_terms::read_walk_terms;
 use catalogue::table_ancestors;
-use numbers::field::read_flag;
-use numbers::field::read_i64;
 use numbers::input::Input;
 use numbers::input::Place;
 use numbers::input::is_good;
 use records::snapshot::Snapshots;
 use walk::ancestors;
 
-// What stands after the lists or the records.
-struct Terms {
-    start: i64,
-    has_excluded: bool,
-    excluded: i64,
-    buffer_length: usize,
-}
-
-fn read_terms(input: &mut Input, place: &mut Place) -> Terms
-    ensures { λ r. ⌜ r .«buffer_length» ≤ 80 ⌝ }
-{
-    let start = read_i64(input, place);
-    let has_excluded = read_flag(input, place);
-    let excluded = read_i64(input, place);
-    let buffer_length = read_buffer_length(input, place);
-    Terms {
-        start,
-        has_excluded,
-        excluded,
-        buffer_length,
-    }
-}
-
-fn ids_times(times: u64, ids: &[i64], parents: &[i64], terms: Terms, buffer: &mut [i64]) -> Kept {
+fn ids_times(
+    times: u64,
+    ids: &[i64],
+    parents: &[i64],
+    terms: WalkTerms,
+    buffer: &mut [i64],
+) -> Kept {
     let mut number: u8 = 0;
     let mut count: usize = 0;
     let mut left = times;
@@ -58,7 +39,7 @@ fn ids_times(times: u64, ids: &[i64], parents: &[i64], terms: Terms, buffer: &mu
     Kept { number, count }
 }
 
-fn records_times(times: u64, snapshots: Snapshots, terms: Terms, buffer: &mut [i64]) -> Kept {
+fn records_times(times: u64, snapshots: Snapshots, terms: WalkTerms, buffer: &mut [i64]) -> Kept {
     let mut number: u8 = 0;
     let mut count: usize = 0;
     let mut left = times;
@@ -82,7 +63,7 @@ pub fn ids(times: u64, input: &mut Input, place: &mut Place) -> Kept {
     let mut parents = [0i64; IDS];
     let n = read_ids(input, place, &mut ids);
     let m = read_ids(input, place, &mut parents);
-    let terms = read_terms(input, place);
+    let terms = read_walk_terms(input, place);
     let len = terms.buffer_length;
     let mut buffer = [0i64; BUFFER];
     if is_good(place) {
@@ -96,7 +77,7 @@ pub fn ids(times: u64, input: &mut Input, place: &mut Place) -> Kept {
 
 pub fn records(times: u64, input: &mut Input, place: &mut Place) -> Kept {
     let snapshots = read_snapshots(input, place);
-    let terms = read_terms(input, place);
+    let terms = read_walk_terms(input, place);
     let len = terms.buffer_length;
     let mut buffer = [0i64; BUFFER];
     if is_good(place) {
