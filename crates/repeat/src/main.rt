@@ -1,8 +1,8 @@
 // Reads how often, then one case (a run or a walk, over ids or over records, in the case format), answers it that many times, and prints the
-// number and the count of the last answer: the logged updates of a run, the ids of a walk. Reading is done once; only the calls are repeated,
+// number and the count of the last answer: the logged updates of a run, the ids of a walk. Kind 0, with what follows the kind of a run, is the
+// close by itself of that run's metadata, and its count is that of the history's entries. Reading is done once; only the calls are repeated,
 // so that two counts tell the time of a call.
 use casefile::case::put_bad_case;
-use casefile::case::read_case;
 use casefile::run::RUN;
 use casefile::run::RUN_GIVEN_MORE;
 use numbers::field::read_u64;
@@ -18,6 +18,7 @@ use numbers::output::empty_output;
 use numbers::output::flush;
 use numbers::output::put_line_end;
 
+mod closes;
 mod runs;
 mod walks;
 
@@ -30,6 +31,7 @@ pub struct Kept {
 // Reads the rest of a case of this kind, and answers it so many times if it is good.
 fn answer(kind: u64, times: u64, input: &mut Input, place: &mut Place) -> Kept {
     match kind {
+        0 => closes::close(times, input, place),
         RUN => runs::run(kind, times, input, place),
         RUN_GIVEN_MORE => runs::run(kind, times, input, place),
         2 => walks::ids(times, input, place),
@@ -50,7 +52,7 @@ fn main() {
     let mut output = empty_output();
     let mut end: usize = 0;
     let times = read_u64(&mut input, &mut place);
-    let kind = read_case(&mut input, &mut place);
+    let kind = read_u64(&mut input, &mut place);
     let kept = answer(kind, times, &mut input, &mut place);
     if is_good(&place) {
         put_u8(&mut output, &mut end, kept.number);

@@ -65,22 +65,11 @@ pub fn bench(repeat: &Path, mut report: impl Write) -> io::Result<()> {
     let engine = Ours::of(repeat)?;
     writeln!(report, "microseconds: median (5% .. 95%)")?;
     line(&mut report, HEAD.map(str::to_owned))?;
-    let mut ours = None;
     for (title, workload) in workload::all() {
         let published = Spread::of_run(&Published, &workload);
-        // Our close is no entry point by itself: the whole run, which is timed before it, is a bound.
-        let bound = match workload {
-            Workload::Close(_) => "at most ",
-            _ => "",
-        };
-        let ours = match bound {
-            "" => ours.insert(Spread::of_run(&engine, &workload)),
-            _ => ours.as_mut().expect("a close comes after its run"),
-        };
-        let ratio = ours.median / published.median;
-        let times = [&published, ours].map(|time| time.text(1000.0, 2));
-        let [published, ours] = times;
-        let [ours, ratio] = [ours, format!("{ratio:.2}")].map(|text| format!("{bound}{text}"));
+        let ours = Spread::of_run(&engine, &workload);
+        let ratio = format!("{:.2}", ours.median / published.median);
+        let [published, ours] = [published, ours].map(|time| time.text(1000.0, 2));
         line(&mut report, [title.to_owned(), published, ours, ratio])?;
     }
     Ok(())

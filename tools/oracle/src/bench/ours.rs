@@ -8,7 +8,7 @@ use std::process::{Command, Stdio};
 
 use super::workload::Workload;
 use super::{Engine, Timed};
-use crate::case::{Case, Flagged, Line, WalkTerms, capacity};
+use crate::case::{Case, Flagged, Line, Run, WalkTerms, capacity};
 
 /// How long the answers of one sample take, about, in nanoseconds.
 const SAMPLE: f64 = 50e6;
@@ -46,7 +46,7 @@ impl Engine for Ours {
     }
 
     fn ready(&self, workload: &Workload) -> Timed {
-        let case = Line::of_case(&case(workload));
+        let case = line(workload);
         let program = self.program.clone();
         let answer = move |times: f64| {
             let [all, none] = [times, 0.0].map(|times| whole(&program, times, &case));
@@ -57,10 +57,27 @@ impl Engine for Ours {
     }
 }
 
-/// A close is no entry point by itself: the whole run is a bound.
+/// What the program reads. A close is no case by itself: it is written as a run of what is left to it, with a kind of its own.
+fn line(workload: &Workload) -> String {
+    let line = Line::of_case(&case(workload));
+    match workload {
+        Workload::Close { .. } => line.replacen(RUN, CLOSE, 1),
+        _ => line,
+    }
+}
+
+/// The kinds of a run and of a close.
+const RUN: &str = "1 ";
+const CLOSE: &str = "0 ";
+
 fn case(workload: &Workload) -> Case {
     match workload {
-        Workload::Run(run) | Workload::Close(run) => Case::Run(Box::new(run.clone())),
+        Workload::Run(run) => Case::Run(Box::new(run.clone())),
+        Workload::Close { run, left } => Case::Run(Box::new(Run {
+            metadata: left.clone(),
+            updates: vec![],
+            ..run.clone()
+        })),
         Workload::Walk {
             ids,
             parents,

@@ -26,7 +26,7 @@ impl Engine for Published {
     fn ready(&self, workload: &Workload) -> Timed {
         match workload {
             Workload::Run(run) => ready_run(run),
-            Workload::Close(run) => ready_close(run),
+            Workload::Close { run, .. } => ready_close(run),
             Workload::Walk {
                 ids,
                 parents,

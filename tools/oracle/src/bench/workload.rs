@@ -8,8 +8,8 @@ use crate::case::{
 pub enum Workload {
     /// A whole run, close included.
     Run(Run),
-    /// The close alone, after the updates.
-    Close(Run),
+    /// The close alone, after the updates, and the metadata that they leave to it.
+    Close { run: Run, left: Metadata },
     Walk {
         ids: Vec<i64>,
         parents: Vec<i64>,
@@ -30,7 +30,13 @@ pub fn all() -> [(&'static str, Workload); 5] {
             "run of 2, 64 snapshots, 128 entries, one removal",
             Workload::Run(removal()),
         ),
-        ("its close alone", Workload::Close(removal())),
+        (
+            "its close alone",
+            Workload::Close {
+                run: removal(),
+                left: removed(),
+            },
+        ),
         (
             "walk of 64",
             Workload::Walk {
@@ -161,4 +167,16 @@ fn removal() -> Run {
         Update::AddSnapshot(snapshot(64)),
     ];
     run(start(64, 128), updates)
+}
+
+/// What the updates of the removal leave to the close.
+fn removed() -> Metadata {
+    let last = 64;
+    Metadata {
+        last_updated_ms: time(last),
+        last_sequence_number: last + 1,
+        next_row_id: 100 * (last as u64 + 1),
+        snapshots: (1..=last).map(snapshot).collect(),
+        ..start(64, 128)
+    }
 }
