@@ -14,10 +14,10 @@ use Rattle.records.specs.declared.schema.SchemaIds.{SchemaIds}
 use Rattle.rules.specs.Words.{any, all}
 use Rattle.rules.specs.WellFormed.{updateFormed}
 use Rattle.rules.specs.Capacities.{locationRoom, removalRoom}
-use Rattle.rules.specs.Blanks.{isZero, isZeroZ, isBlankLocation, isBlankSnapshot, isBlankSnapshotId, isBlankSnapshotIds, isBlankRefName, isBlankReference, isBlankSchema, isBlankSchemaId, isBlankSchemaIds, isBlankSortOrder}
-use Rattle.rules.specs.Kinds.{usedBy, isUnusedBlank, isUsedTidy, isTidyUpdate, readKind, readUpdate, assignUuidKind, upgradeFormatVersionKind, setLocationKind, addSnapshotKind, setBranchSnapshotKind, removeSnapshotsKind, setRefKind, removeRefKind, addSchemaKind, setCurrentSchemaKind, removeSchemasKind, addSortOrderKind, setDefaultSortOrderKind}
+use Rattle.rules.specs.Blanks.{isZero, isZeroZ, isBlankLocation, isBlankSnapshot, isBlankSnapshotId, isBlankSnapshotIds, isBlankRefName, isBlankReference, isBlankSchema, isBlankSchemaId, isBlankSchemaIds, isBlankSortOrder, isBlankStatisticsFile}
+use Rattle.rules.specs.Kinds.{usedBy, isUnusedBlank, isUsedTidy, isTidyUpdate, readKind, readUpdate, assignUuidKind, upgradeFormatVersionKind, setLocationKind, addSnapshotKind, setBranchSnapshotKind, removeSnapshotsKind, setRefKind, removeRefKind, addSchemaKind, setCurrentSchemaKind, removeSchemasKind, addSortOrderKind, setDefaultSortOrderKind, setStatisticsKind, removeStatisticsKind, setPartitionStatisticsKind, removePartitionStatisticsKind}
 use Rattle.rules.proofs.Checks.{both, and-left, by-either, parts}
-use Rattle.rules.proofs.Relaid.{zero, zeroZ, unused, blank-ref-name, blank-snapshot, blank-reference, blank-schema, blank-sort-order}
+use Rattle.rules.proofs.Relaid.{zero, zeroZ, unused, blank-ref-name, blank-snapshot, blank-reference, blank-schema, blank-sort-order, blank-statistics-file}
 
 -- ---- blank records
 
@@ -70,6 +70,8 @@ byKind k u =
       «schema_ids» = used (removeSchemasKind ∷ []) k (u .«schema_ids») (noUpdate .«schema_ids»);
       «sort_order» = used (addSortOrderKind ∷ []) k (u .«sort_order») (noUpdate .«sort_order»);
       «sort_order_id» = used (setDefaultSortOrderKind ∷ []) k (u .«sort_order_id») (noUpdate .«sort_order_id»);
+      statistics = used (setStatisticsKind ∷ setPartitionStatisticsKind ∷ []) k (u .statistics) (noUpdate .statistics);
+      «statistics_id» = used (removeStatisticsKind ∷ removePartitionStatisticsKind ∷ []) k (u .«statistics_id») (noUpdate .«statistics_id»);
     }
 
 own-kind : (u : TableUpdate) → length (u .uuid) ≡ 16 → isUnusedBlank u ≡ true → u ≡ byKind (u .kind) u
@@ -89,6 +91,8 @@ own-kind u n e =
     ∷ usedBy (removeSchemasKind ∷ []) k (isBlankSchemaIds (u .«schema_ids»))
     ∷ usedBy (addSortOrderKind ∷ []) k (isBlankSortOrder (u .«sort_order»))
     ∷ usedBy (setDefaultSortOrderKind ∷ []) k (isZeroZ (u .«sort_order_id» .0))
+    ∷ usedBy (setStatisticsKind ∷ setPartitionStatisticsKind ∷ []) k (isBlankStatisticsFile (u .statistics))
+    ∷ usedBy (removeStatisticsKind ∷ removePartitionStatisticsKind ∷ []) k (isZeroZ (u .«statistics_id» .0))
     ∷ [])
     e in
     λ i. record {
@@ -105,6 +109,8 @@ own-kind u n e =
       «schema_ids» = used-is (removeSchemasKind ∷ []) k _ (u .«schema_ids») (noUpdate .«schema_ids») (no-schema-ids (u .«schema_ids»)) (h .1 .1 .1 .1 .1 .1 .1 .1 .1 .0) i;
       «sort_order» = used-is (addSortOrderKind ∷ []) k _ (u .«sort_order») (noUpdate .«sort_order») (blank-sort-order (u .«sort_order»)) (h .1 .1 .1 .1 .1 .1 .1 .1 .1 .1 .0) i;
       «sort_order_id» = used-is (setDefaultSortOrderKind ∷ []) k _ (u .«sort_order_id») (noUpdate .«sort_order_id») (λ z. λ j. record { 0 = zeroZ (u .«sort_order_id» .0) z j }) (h .1 .1 .1 .1 .1 .1 .1 .1 .1 .1 .1 .0) i;
+      statistics = used-is (setStatisticsKind ∷ setPartitionStatisticsKind ∷ []) k _ (u .statistics) (noUpdate .statistics) (blank-statistics-file (u .statistics)) (h .1 .1 .1 .1 .1 .1 .1 .1 .1 .1 .1 .1 .0) i;
+      «statistics_id» = used-is (removeStatisticsKind ∷ removePartitionStatisticsKind ∷ []) k _ (u .«statistics_id») (noUpdate .«statistics_id») (λ z. λ j. record { 0 = zeroZ (u .«statistics_id» .0) z j }) (h .1 .1 .1 .1 .1 .1 .1 .1 .1 .1 .1 .1 .1 .0) i;
     }
 
 -- a tidy update of a kind

@@ -14,20 +14,20 @@ use Rattle.records.specs.declared.update.TableUpdate.{TableUpdate}
 use Rattle.records.specs.declared.counters.SchemaId.{SchemaId}
 use Rattle.rules.specs.Words.{all, unequal}
 use Rattle.rules.specs.Capacities.{locationRoom, schemaFieldRoom, sortFieldRoom, removalRoom}
-use Rattle.rules.specs.WellFormed.{atLeastOne, fieldIds, schemaFormed, sortFieldFormed, offeredOrderFormed, removalFormed, locationFormed}
-use Rattle.rules.specs.Blanks.{isTidyLocation, isTidySnapshot, isTidySnapshotIds, isTidyRefName, isTidyReference, isTidySchema, isBlankSchemaId, isTidySchemaIds, isTidySortOrder}
-use Rattle.rules.specs.Layout.{readLocation, readSchema, readSchemaIds, laidSchemaIds, readSortOrder}
+use Rattle.rules.specs.WellFormed.{atLeastOne, fieldIds, schemaFormed, sortFieldFormed, offeredOrderFormed, statisticsFileFormed, removalFormed, locationFormed}
+use Rattle.rules.specs.Blanks.{isTidyLocation, isTidySnapshot, isTidySnapshotIds, isTidyRefName, isTidyReference, isTidySchema, isBlankSchemaId, isTidySchemaIds, isTidySortOrder, isTidyStatisticsFile}
+use Rattle.rules.specs.Layout.{readLocation, readSchema, readSchemaIds, laidSchemaIds, readSortOrder, readStatisticsFile}
 use Rattle.rules.specs.Kinds.{isUnusedBlank, isUsedTidy, isTidyUpdate}
 use Rattle.rules.proofs.Checks.{Hold, and-left, and-right, parts}
-use Rattle.rules.proofs.Relaid.{zeroZ, length-counted, fields-back, back-schema, back-sort-order}
-use Rattle.tables.specs.Laid.{LaidSchema, LaidOrder, LaidSchemaIds}
+use Rattle.rules.proofs.Relaid.{zeroZ, length-counted, fields-back, back-schema, back-sort-order, back-statistics-file}
+use Rattle.tables.specs.Laid.{LaidSchema, LaidOrder, LaidStatisticsFile, LaidSchemaIds}
 
 module _ (u : TableUpdate) (e : isTidyUpdate u ≡ true) where
   -- every record is tidy
-  pub used : Hold (isTidyLocation (u .location) ∷ isTidySnapshot (u .snapshot) ∷ isTidySnapshotIds (u .«snapshot_ids») ∷ isTidyRefName (u .«ref_name») ∷ isTidyReference (u .reference) ∷ isTidySchema (u .schema) ∷ isTidySchemaIds (u .«schema_ids») ∷ isTidySortOrder (u .«sort_order») ∷ [])
+  pub used : Hold (isTidyLocation (u .location) ∷ isTidySnapshot (u .snapshot) ∷ isTidySnapshotIds (u .«snapshot_ids») ∷ isTidyRefName (u .«ref_name») ∷ isTidyReference (u .reference) ∷ isTidySchema (u .schema) ∷ isTidySchemaIds (u .«schema_ids») ∷ isTidySortOrder (u .«sort_order») ∷ isTidyStatisticsFile (u .statistics) ∷ [])
   unfolding isUsedTidy
   used =
-      parts (isTidyLocation (u .location)) (isTidySnapshot (u .snapshot) ∷ isTidySnapshotIds (u .«snapshot_ids») ∷ isTidyRefName (u .«ref_name») ∷ isTidyReference (u .reference) ∷ isTidySchema (u .schema) ∷ isTidySchemaIds (u .«schema_ids») ∷ isTidySortOrder (u .«sort_order») ∷ [])
+      parts (isTidyLocation (u .location)) (isTidySnapshot (u .snapshot) ∷ isTidySnapshotIds (u .«snapshot_ids») ∷ isTidyRefName (u .«ref_name») ∷ isTidyReference (u .reference) ∷ isTidySchema (u .schema) ∷ isTidySchemaIds (u .«schema_ids») ∷ isTidySortOrder (u .«sort_order») ∷ isTidyStatisticsFile (u .statistics) ∷ [])
       (and-right (isUnusedBlank u) (isUsedTidy u) e)
 
   pub given-location : locationFormed (readLocation (u .location)) ≡ true → u .location .len ≤ locationRoom
@@ -52,3 +52,6 @@ module _ (u : TableUpdate) (e : isTidyUpdate u ≡ true) where
       let o = readSortOrder (u .«sort_order») in
       let k = parts (nonNeg (o .id)) (leb (length (o .fields)) sortFieldRoom ∷ all sortFieldFormed (o .fields) ∷ []) f in
       record { back = back-sort-order (u .«sort_order») (used .1 .1 .1 .1 .1 .1 .1 .0) f; fits = leb-true _ _ (k .1 .0) }
+
+  pub given-statistics-file : statisticsFileFormed (readStatisticsFile (u .statistics)) ≡ true → LaidStatisticsFile (u .statistics)
+  given-statistics-file f = record { back = back-statistics-file (u .statistics) (used .1 .1 .1 .1 .1 .1 .1 .1 .0) f }

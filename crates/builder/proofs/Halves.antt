@@ -20,7 +20,7 @@ use Rattle.builder.proofs.Entries.{of-kind}
 use Rattle.builder.proofs.Given.{used}
 
 abbrev withKind : ℕ → TableUpdate → TableUpdate
-withKind k u = record { kind = k; uuid = u .uuid; «format_version» = u .«format_version»; location = u .location; snapshot = u .snapshot; «snapshot_ids» = u .«snapshot_ids»; «ref_name» = u .«ref_name»; reference = u .reference; schema = u .schema; «schema_id» = u .«schema_id»; «schema_ids» = u .«schema_ids»; «sort_order» = u .«sort_order»; «sort_order_id» = u .«sort_order_id» }
+withKind k u = record { kind = k; uuid = u .uuid; «format_version» = u .«format_version»; location = u .location; snapshot = u .snapshot; «snapshot_ids» = u .«snapshot_ids»; «ref_name» = u .«ref_name»; reference = u .reference; schema = u .schema; «schema_id» = u .«schema_id»; «schema_ids» = u .«schema_ids»; «sort_order» = u .«sort_order»; «sort_order_id» = u .«sort_order_id»; statistics = u .statistics; «statistics_id» = u .«statistics_id» }
 
 module _ (u : TableUpdate) (l : length (u .uuid) ≡ 16) (e : isTidyUpdate u ≡ true) where
   -- what an addition logs is laid out from its snapshot

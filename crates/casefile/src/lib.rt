@@ -12,6 +12,7 @@ pub mod run;
 pub mod schema;
 pub mod snapshot;
 pub mod sort_order;
+pub mod statistics;
 pub mod text;
 pub mod untrimmed;
 pub mod update;

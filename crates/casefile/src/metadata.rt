@@ -28,6 +28,7 @@ use records::metadata::MetadataLog;
 use records::metadata::MetadataLogEntry;
 use records::metadata::SingleFields;
 use records::metadata::TableMetadata;
+use records::statistics::StatisticsFiles;
 
 fn read_log_entry(input: &mut Input, place: &mut Place) -> MetadataLogEntry {
     let metadata_file = read_file_name(input, place);
@@ -80,7 +81,7 @@ fn read_fields(format_version: u8, input: &mut Input, place: &mut Place) -> Sing
     }
 }
 
-// Metadata of this format version, which is read already.
+// Metadata of this format version, which is read already. The tables of statistics files stand elsewhere, and are empty here.
 pub fn read_metadata_of(version: u8, input: &mut Input, place: &mut Place) -> TableMetadata {
     let mut fields = read_fields(version, input, place);
     let snapshots = read_snapshots(input, place);
@@ -91,6 +92,8 @@ pub fn read_metadata_of(version: u8, input: &mut Input, place: &mut Place) -> Ta
     let current_schema_id = SchemaId(read_i32(input, place));
     let sort_orders = read_sort_orders(input, place);
     let default_sort_order_id = SortOrderId(read_i64(input, place));
+    let statistics = StatisticsFiles::blank();
+    let partition_statistics = StatisticsFiles::blank();
     fields.current_schema_id = current_schema_id;
     fields.default_sort_order_id = default_sort_order_id;
     TableMetadata {
@@ -101,6 +104,8 @@ pub fn read_metadata_of(version: u8, input: &mut Input, place: &mut Place) -> Ta
         metadata_log,
         schemas,
         sort_orders,
+        statistics,
+        partition_statistics,
     }
 }
 

@@ -1,4 +1,5 @@
 // What a run may be given more, after its updates: a count, then that many tags with their values, in ascending order of the tags.
+use crate::statistics::read_statistics;
 use numbers::field::read_count;
 use numbers::field::read_i64;
 use numbers::field::read_u64;
@@ -8,18 +9,40 @@ use numbers::input::is_good;
 use numbers::input::spoil;
 use records::counters::Age;
 use records::run::DEFAULT_TOLERANCE_MS;
+use records::statistics::StatisticsFiles;
 
 const TOLERANCE: u64 = 1;
 
+const STATISTICS: u64 = 2;
+
+const PARTITION_STATISTICS: u64 = 3;
+
+// Which tables have a tag: an answer has these too.
+pub struct Given {
+    pub statistics: bool,
+    pub partition_statistics: bool,
+}
+
 pub struct More {
     pub tolerance_ms: Age,
+    pub given: Given,
+    pub statistics: StatisticsFiles,
+    pub partition_statistics: StatisticsFiles,
 }
 
 impl More {
     // What holds where no tag is given.
     pub fn none() -> More {
+        let statistics = StatisticsFiles::blank();
+        let partition_statistics = StatisticsFiles::blank();
         More {
             tolerance_ms: Age(DEFAULT_TOLERANCE_MS),
+            given: Given {
+                statistics: false,
+                partition_statistics: false,
+            },
+            statistics,
+            partition_statistics,
         }
     }
 }
@@ -40,6 +63,14 @@ fn read_value(tag: u64, given: More, input: &mut Input, place: &mut Place) -> Mo
         TOLERANCE => {
             let tolerance_ms = Age(read_i64(input, place));
             more.tolerance_ms = tolerance_ms;
+        }
+        STATISTICS => {
+            more.given.statistics = true;
+            more.statistics = read_statistics(input, place);
+        }
+        PARTITION_STATISTICS => {
+            more.given.partition_statistics = true;
+            more.partition_statistics = read_statistics(input, place);
         }
         _ => spoil(place),
     }

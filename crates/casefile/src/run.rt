@@ -2,6 +2,7 @@
 use crate::limit_text::LimitText;
 use crate::limit_text::read_limit_text;
 use crate::metadata::read_metadata_of;
+use crate::more::Given;
 use crate::more::More;
 use crate::more::read_more;
 use crate::text::read_file_name;
@@ -18,11 +19,13 @@ use records::run::RunTerms;
 use records::text::FileName;
 use records::update::UpdateList;
 
+// The text comes first: the checker looks for its length there, and not behind all of the metadata.
 pub struct Run {
+    pub limit: LimitText,
     pub metadata: TableMetadata,
     pub terms: RunTerms,
-    pub limit: LimitText,
     pub updates: UpdateList,
+    pub given: Given,
 }
 
 // The kinds of a run case: as it is, and with more after its updates.
@@ -59,18 +62,24 @@ fn read_more_of(kind: u64, input: &mut Input, place: &mut Place) -> More {
 
 // A run of this kind whose metadata has this format version: the first of its numbers, which is read already.
 pub fn read_run_of(kind: u64, version: u8, input: &mut Input, place: &mut Place) -> Run {
-    let metadata = read_metadata_of(version, input, place);
+    let mut metadata = read_metadata_of(version, input, place);
     let mut terms = read_terms(input, place);
     let limit = read_limit_text(input, place);
     let updates = read_updates(input, place);
     let more = read_more_of(kind, input, place);
     let tolerance_ms = more.tolerance_ms;
+    let statistics = more.statistics;
+    let partition_statistics = more.partition_statistics;
+    let given = more.given;
     terms.tolerance_ms = tolerance_ms;
+    metadata.statistics = statistics;
+    metadata.partition_statistics = partition_statistics;
     Run {
         metadata,
         terms,
         limit,
         updates,
+        given,
     }
 }
 

@@ -5,6 +5,7 @@ use crate::schema::read_schema_ids;
 use crate::snapshot::read_snapshot;
 use crate::snapshot::read_snapshot_ids;
 use crate::sort_order::read_sort_order;
+use crate::statistics::read_statistics_file;
 use crate::text::read_location;
 use crate::text::read_ref_name;
 use crate::text::read_uuid;
@@ -17,19 +18,24 @@ use numbers::input::Place;
 use numbers::input::is_good;
 use records::capacities::UPDATES;
 use records::counters::SchemaId;
+use records::counters::SnapshotId;
 use records::counters::SortOrderId;
 use records::update::ADD_SCHEMA;
 use records::update::ADD_SNAPSHOT;
 use records::update::ADD_SORT_ORDER;
 use records::update::ASSIGN_UUID;
+use records::update::REMOVE_PARTITION_STATISTICS;
 use records::update::REMOVE_REF;
 use records::update::REMOVE_SCHEMAS;
 use records::update::REMOVE_SNAPSHOTS;
+use records::update::REMOVE_STATISTICS;
 use records::update::SET_BRANCH_SNAPSHOT;
 use records::update::SET_CURRENT_SCHEMA;
 use records::update::SET_DEFAULT_SORT_ORDER;
 use records::update::SET_LOCATION;
+use records::update::SET_PARTITION_STATISTICS;
 use records::update::SET_REF;
+use records::update::SET_STATISTICS;
 use records::update::TableUpdate;
 use records::update::UPGRADE_FORMAT_VERSION;
 use records::update::UpdateList;
@@ -82,12 +88,31 @@ fn read_late_kind(kind: u8, input: &mut Input, place: &mut Place) -> TableUpdate
     u
 }
 
+// Kinds 14 to 17.
+fn read_statistics_kind(kind: u8, input: &mut Input, place: &mut Place) -> TableUpdate {
+    let mut u = TableUpdate::blank();
+    u.kind = kind;
+    match kind {
+        SET_STATISTICS | SET_PARTITION_STATISTICS => {
+            u.statistics = read_statistics_file(input, place);
+        }
+        REMOVE_STATISTICS | REMOVE_PARTITION_STATISTICS => {
+            let id = SnapshotId(read_i64(input, place));
+            u.statistics_id = id;
+        }
+        _ => {}
+    }
+    u
+}
+
 fn read_update(input: &mut Input, place: &mut Place) -> TableUpdate {
     let kind = read_u8(input, place);
     if kind < SET_REF {
         read_early_kind(kind, input, place)
-    } else {
+    } else if kind < SET_STATISTICS {
         read_late_kind(kind, input, place)
+    } else {
+        read_statistics_kind(kind, input, place)
     }
 }
 

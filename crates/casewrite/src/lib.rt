@@ -8,5 +8,6 @@ pub mod run;
 mod schema;
 pub mod snapshot;
 mod sort_order;
+pub mod statistics;
 pub mod text;
 mod update;

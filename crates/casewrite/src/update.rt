@@ -5,6 +5,7 @@ use crate::schema::put_schema_ids;
 use crate::snapshot::put_snapshot;
 use crate::snapshot::put_snapshot_ids;
 use crate::sort_order::put_sort_order;
+use crate::statistics::put_statistics_file;
 use crate::text::put_location;
 use crate::text::put_ref_name;
 use crate::text::put_uuid;
@@ -19,14 +20,18 @@ use records::update::ADD_SCHEMA;
 use records::update::ADD_SNAPSHOT;
 use records::update::ADD_SORT_ORDER;
 use records::update::ASSIGN_UUID;
+use records::update::REMOVE_PARTITION_STATISTICS;
 use records::update::REMOVE_REF;
 use records::update::REMOVE_SCHEMAS;
 use records::update::REMOVE_SNAPSHOTS;
+use records::update::REMOVE_STATISTICS;
 use records::update::SET_BRANCH_SNAPSHOT;
 use records::update::SET_CURRENT_SCHEMA;
 use records::update::SET_DEFAULT_SORT_ORDER;
 use records::update::SET_LOCATION;
+use records::update::SET_PARTITION_STATISTICS;
 use records::update::SET_REF;
+use records::update::SET_STATISTICS;
 use records::update::TableUpdate;
 use records::update::UPGRADE_FORMAT_VERSION;
 use records::update::UpdateList;
@@ -67,11 +72,21 @@ fn put_late_kind(output: &mut Output, end: &mut usize, u: TableUpdate) {
     }
 }
 
-// A kind has what follows it in one of the two, or in neither.
+fn put_statistics_kind(output: &mut Output, end: &mut usize, u: TableUpdate) {
+    let kind = u.kind;
+    match kind {
+        SET_STATISTICS | SET_PARTITION_STATISTICS => put_statistics_file(output, end, u.statistics),
+        REMOVE_STATISTICS | REMOVE_PARTITION_STATISTICS => put_i64(output, end, u.statistics_id.0),
+        _ => {}
+    }
+}
+
+// A kind has what follows it in one of the three, or in none.
 fn put_update(output: &mut Output, end: &mut usize, u: TableUpdate) {
     put_u8(output, end, u.kind);
     put_early_kind(output, end, u);
     put_late_kind(output, end, u);
+    put_statistics_kind(output, end, u);
 }
 
 pub fn put_updates(output: &mut Output, end: &mut usize, list: UpdateList) {

@@ -9,7 +9,7 @@ use Rattle.records.specs.declared.metadata.SingleFields.{SingleFields}
 use Rattle.records.specs.declared.snapshot.SnapshotLog.{SnapshotLog}
 use Rattle.rules.specs.Words.{ifSome, someWith, any, keep, first, isIn, isEmpty, afterLast}
 use Rattle.rules.specs.Register.{LogEntry, Schema, SortField, SortOrder, Metadata, Update}
-use Rattle.rules.specs.Register.Update.{AssignUuid, UpgradeFormatVersion, SetLocation, AddSnapshot, SetBranchSnapshot, RemoveSnapshots, SetRef, RemoveRef, AddSchema, SetCurrentSchema, RemoveSchemas, AddSortOrder, SetDefaultSortOrder, NotFormed}
+use Rattle.rules.specs.Register.Update.{AssignUuid, UpgradeFormatVersion, SetLocation, AddSnapshot, SetBranchSnapshot, RemoveSnapshots, SetRef, RemoveRef, AddSchema, SetCurrentSchema, RemoveSchemas, AddSortOrder, SetDefaultSortOrder, SetStatistics, RemoveStatistics, NotFormed}
 use Rattle.rules.specs.WellFormed.{hasSchema, hasOrder, fieldIds}
 use Rattle.rules.specs.ChangeLog.{logsAddition, logsMain, logsRemoval}
 use Rattle.rules.specs.Layout.{readFields, readSnapshotLog, laidSnapshotLog}
@@ -39,6 +39,8 @@ adds-in (SetCurrentSchema c ∷ log) id = adds-in log id
 adds-in (RemoveSchemas ids ∷ log) id = adds-in log id
 adds-in (AddSortOrder o ∷ log) id = adds-in log id
 adds-in (SetDefaultSortOrder c ∷ log) id = adds-in log id
+adds-in (SetStatistics which f ∷ log) id = adds-in log id
+adds-in (RemoveStatistics which c ∷ log) id = adds-in log id
 adds-in (NotFormed counts ∷ log) id = adds-in log id
 
 pub intermediates-of : (log : List Update) (current : Option ℤ) → intermediatesOf (additions log) (logsMain log) current ≡ intermediates log current

@@ -8,7 +8,7 @@ use Rattle.records.specs.declared.metadata.SingleFields.{SingleFields}
 use Rattle.records.specs.declared.snapshot.SnapshotLog.{SnapshotLog}
 use Rattle.rules.specs.Words.{eqZ, someWith, keep, collect, isIn}
 use Rattle.rules.specs.Register.{Snapshot, LogEntry, Metadata, Update}
-use Rattle.rules.specs.Register.Update.{AssignUuid, UpgradeFormatVersion, SetLocation, AddSnapshot, SetBranchSnapshot, RemoveSnapshots, SetRef, RemoveRef, AddSchema, SetCurrentSchema, RemoveSchemas, AddSortOrder, SetDefaultSortOrder, NotFormed}
+use Rattle.rules.specs.Register.Update.{AssignUuid, UpgradeFormatVersion, SetLocation, AddSnapshot, SetBranchSnapshot, RemoveSnapshots, SetRef, RemoveRef, AddSchema, SetCurrentSchema, RemoveSchemas, AddSortOrder, SetDefaultSortOrder, SetStatistics, RemoveStatistics, NotFormed}
 use Rattle.rules.specs.ChangeLog.{logsMain, logsRemoval}
 use Rattle.rules.specs.Layout.{readFields, readSnapshotLog}
 
@@ -29,6 +29,8 @@ addition (SetCurrentSchema id) = none
 addition (RemoveSchemas ids) = none
 addition (AddSortOrder o) = none
 addition (SetDefaultSortOrder id) = none
+addition (SetStatistics which f) = none
+addition (RemoveStatistics which id) = none
 addition (NotFormed counts) = none
 
 -- the snapshots that the log adds, in its order

@@ -12,7 +12,7 @@ use Rattle.compare.specs.declared.difference.Difference.{Difference}
 use Rattle.compare.specs.First.{Part, place, inPart, first}
 use Rattle.compare.specs.Parts.{parts, noDifference, firstDifference}
 use Rattle.compare.proofs.Places.{FirstPlace, Compared, compared}
-use Rattle.compare.proofs.Told.{counts-told, flagged-told, locations-told, snapshots-told, refs-told, log-entries-told, file-entries-told, schemas-told, sort-orders-told}
+use Rattle.compare.proofs.Told.{counts-told, flagged-told, locations-told, snapshots-told, refs-told, log-entries-told, file-entries-told, schemas-told, sort-orders-told, statistics-files-told}
 
 -- ---- parts
 
@@ -84,6 +84,8 @@ parts-told a b =
     and numbers-told
     and sort-orders-told
     and numbers-told
+    and statistics-files-told
+    and statistics-files-told
     and tt
 
 only : {A : Type 0} {x y : A} → (x ∷ []) ≡ (y ∷ []) → x ≡ y
@@ -114,6 +116,8 @@ all-parts a b e =
       «metadata_log» = record { items = t .1 .1 .1 .0 .0 i; count = t .1 .1 .1 .0 .1 i };
       schemas = record { items = t .1 .1 .1 .1 .0 .0 i; count = t .1 .1 .1 .1 .0 .1 i };
       «sort_orders» = record { items = t .1 .1 .1 .1 .1 .1 .0 .0 i; count = t .1 .1 .1 .1 .1 .1 .0 .1 i };
+      statistics = record { items = t .1 .1 .1 .1 .1 .1 .1 .1 .0 .0 i; count = t .1 .1 .1 .1 .1 .1 .1 .1 .0 .1 i };
+      «partition_statistics» = record { items = t .1 .1 .1 .1 .1 .1 .1 .1 .1 .0 .0 i; count = t .1 .1 .1 .1 .1 .1 .1 .1 .1 .0 .1 i };
     }
 
 unchanged : {A : Type 0} {xs : List A} {n : ℕ} → (xs ≡ xs) × (n ≡ n)
@@ -123,7 +127,7 @@ itself : (a : TableMetadata) → AllEqual (parts a a)
 unfolding parts
 itself a =
     unchanged and unchanged and unchanged and unchanged and unchanged and unchanged and unchanged and unchanged
-    and unchanged and unchanged and unchanged and unchanged and unchanged and unchanged and unchanged and unchanged
+    and unchanged and unchanged and unchanged and unchanged and unchanged and unchanged and unchanged and unchanged and unchanged and unchanged
     and tt
 
 -- ---- the theorems

@@ -9,7 +9,7 @@ use lib.Dec.{eqb}
 use Rattle.rules.specs.Words.{eqZ, isSome, sameBytes}
 use Rattle.rules.proofs.Orders.{Tells, numbers-told, names-told}
 use Rattle.rules.proofs.Checks.{parts, both}
-use Rattle.compare.specs.Same.{sameRefName, sameLocation, sameFileName, sameSnapshot, sameLogEntry, sameReference, sameRef, sameFileEntry, alike, sameSchemaField, sameSchema, sameSortField, sameSortOrder}
+use Rattle.compare.specs.Same.{sameRefName, sameLocation, sameFileName, sameSnapshot, sameLogEntry, sameReference, sameRef, sameFileEntry, alike, sameSchemaField, sameSchema, sameSortField, sameSortOrder, sameStatisticsFile}
 use Rattle.compare.specs.Parts.{sameFlagged}
 use Rattle.compare.proofs.Places.{Compared, compared}
 
@@ -212,4 +212,18 @@ sort-orders-told =
           let s = alike-equal sort-fields-told (a .items) (b .items) (a .count) (b .count) (k .1 .0) in
           λ i. record { «order_id» = record { 0 = numbers-told .equal (a .«order_id» .0) (b .«order_id» .0) (k .0) i }; items = s .0 i; count = s .1 i };
       itself = λ a. both (numbers-told .itself (a .«order_id» .0)) (alike-itself sort-fields-told (a .items) (a .count));
+    }
+
+pub statistics-files-told : Tells sameStatisticsFile
+unfolding sameStatisticsFile
+statistics-files-told =
+    record {
+      equal = λ a b e.
+          let k = parts (eqZ (a .«snapshot_id» .0) (b .«snapshot_id» .0)) (sameFileName (a .«statistics_path») (b .«statistics_path») ∷ eqZ (a .«file_size_in_bytes» .0) (b .«file_size_in_bytes» .0) ∷ []) e in
+          λ i. record {
+            «snapshot_id» = record { 0 = numbers-told .equal (a .«snapshot_id» .0) (b .«snapshot_id» .0) (k .0) i };
+            «statistics_path» = file-names-told .equal (a .«statistics_path») (b .«statistics_path») (k .1 .0) i;
+            «file_size_in_bytes» = record { 0 = numbers-told .equal (a .«file_size_in_bytes» .0) (b .«file_size_in_bytes» .0) (k .1 .1 .0) i };
+          };
+      itself = λ a. simp (numbers-told .itself, file-names-told .itself);
     }

@@ -8,7 +8,7 @@ use Rattle.records.specs.declared.metadata.SingleFields.{SingleFields}
 use Rattle.records.specs.declared.metadata.TableMetadata.{TableMetadata}
 use Rattle.compare.specs.declared.difference.Difference.{Difference}
 use Rattle.compare.specs.First.{Part, field, table, first}
-use Rattle.compare.specs.Same.{sameLocation, sameSnapshot, sameRef, sameLogEntry, sameFileEntry, sameSchema, sameSortOrder}
+use Rattle.compare.specs.Same.{sameLocation, sameSnapshot, sameRef, sameLogEntry, sameFileEntry, sameSchema, sameSortOrder, sameStatisticsFile}
 
 -- a flag, and the number behind it
 abbrev pub sameFlagged : Bool × ℤ → Bool × ℤ → Bool
@@ -38,6 +38,8 @@ tableParts a b =
     ∷ field eqZ (a .fields .«current_schema_id» .0) (b .fields .«current_schema_id» .0)
     ∷ table sameSortOrder (a .«sort_orders» .items) (b .«sort_orders» .items) (a .«sort_orders» .count) (b .«sort_orders» .count)
     ∷ field eqZ (a .fields .«default_sort_order_id» .0) (b .fields .«default_sort_order_id» .0)
+    ∷ table sameStatisticsFile (a .statistics .items) (b .statistics .items) (a .statistics .count) (b .statistics .count)
+    ∷ table sameStatisticsFile (a .«partition_statistics» .items) (b .«partition_statistics» .items) (a .«partition_statistics» .count) (b .«partition_statistics» .count)
     ∷ []
 
 unfoldable pub parts : TableMetadata → TableMetadata → List Part

@@ -15,6 +15,7 @@ use Rattle.records.specs.declared.schema.SchemaField.{SchemaField}
 use Rattle.records.specs.declared.schema.Schema.{Schema}
 use Rattle.records.specs.declared.«sort_order».SortField.{SortField}
 use Rattle.records.specs.declared.«sort_order».SortOrder.{SortOrder}
+use Rattle.records.specs.declared.statistics.StatisticsFile.{StatisticsFile}
 use Rattle.records.specs.declared.metadata.MetadataLogEntry.{MetadataLogEntry}
 use Rattle.compare.specs.First.{unlike}
 
@@ -86,3 +87,11 @@ sameSortField a b =
 
 unfoldable pub sameSortOrder : SortOrder → SortOrder → Bool
 sameSortOrder a b = eqZ (a .«order_id» .0) (b .«order_id» .0) && alike sameSortField (a .items) (b .items) (a .count) (b .count)
+
+-- ---- statistics files
+
+unfoldable pub sameStatisticsFile : StatisticsFile → StatisticsFile → Bool
+sameStatisticsFile a b =
+    eqZ (a .«snapshot_id» .0) (b .«snapshot_id» .0)
+    && sameFileName (a .«statistics_path») (b .«statistics_path»)
+    && eqZ (a .«file_size_in_bytes» .0) (b .«file_size_in_bytes» .0)

@@ -12,6 +12,7 @@ use crate::table::compare_schemas;
 use crate::table::compare_snapshot_log;
 use crate::table::compare_snapshots;
 use crate::table::compare_sort_orders;
+use crate::table::compare_statistics;
 use records::metadata::TableMetadata;
 use tables::ids::same_order;
 use tables::ids::same_schema;
@@ -33,7 +34,19 @@ pub fn first_difference(a: TableMetadata, b: TableMetadata) -> Difference
     let order = same_order(f.default_sort_order_id, g.default_sort_order_id);
     let schema = same_schema(f.current_schema_id, g.current_schema_id);
     let none = Difference { part: 0, place: 0 };
-    let from_order = unless(order, part::DEFAULT_SORT_ORDER, 0, none);
+    let from_partition = compare_statistics(
+        a.partition_statistics,
+        b.partition_statistics,
+        part::PARTITION_STATISTICS,
+        none,
+    );
+    let from_statistics = compare_statistics(
+        a.statistics,
+        b.statistics,
+        part::STATISTICS,
+        from_partition,
+    );
+    let from_order = unless(order, part::DEFAULT_SORT_ORDER, 0, from_statistics);
     let from_orders = compare_sort_orders(a.sort_orders, b.sort_orders, from_order);
     let from_schema = unless(schema, part::CURRENT_SCHEMA, 0, from_orders);
     let from_schemas = compare_schemas(a.schemas, b.schemas, from_schema);

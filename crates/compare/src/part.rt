@@ -30,3 +30,7 @@ pub const CURRENT_SCHEMA: u8 = 14;
 pub const SORT_ORDERS: u8 = 15;
 
 pub const DEFAULT_SORT_ORDER: u8 = 16;
+
+pub const STATISTICS: u8 = 17;
+
+pub const PARTITION_STATISTICS: u8 = 18;

@@ -1,7 +1,8 @@
 // Records compared, field by field: also what stands behind a flag that is not set, and in slots past a count.
 ghost use mathlib.Core.Path.{_≡_};
-ghost use Rattle.compare.specs.Same.{sameSnapshot, sameLogEntry, sameReference, sameRef, sameFileEntry, sameSchema, sameSortField, sameSortOrder};
+ghost use Rattle.compare.specs.Same.{sameSnapshot, sameLogEntry, sameReference, sameRef, sameFileEntry, sameSchema, sameSortField, sameSortOrder, sameStatisticsFile};
 use crate::number::same_age;
+use crate::number::same_file_size;
 use crate::number::same_min;
 use crate::number::same_sequence;
 use crate::number::same_time;
@@ -17,6 +18,7 @@ use records::snapshot::Snapshot;
 use records::snapshot::SnapshotLogEntry;
 use records::sort_order::SortField;
 use records::sort_order::SortOrder;
+use records::statistics::StatisticsFile;
 
 pub fn same_snapshot(a: Snapshot, b: Snapshot) -> bool
     ensures { λ r. ⌜ r ≡ sameSnapshot a b ⌝ }
@@ -111,4 +113,12 @@ pub fn same_sort_order(a: SortOrder, b: SortOrder) -> bool
         i += 1;
     }
     m == n
+}
+
+pub fn same_statistics_file(a: StatisticsFile, b: StatisticsFile) -> bool
+    ensures { λ r. ⌜ r ≡ sameStatisticsFile a b ⌝ }
+{
+    tables::ids::same_snapshot(a.snapshot_id, b.snapshot_id)
+        & same_file_name(a.statistics_path, b.statistics_path)
+        & same_file_size(a.file_size_in_bytes, b.file_size_in_bytes)
 }

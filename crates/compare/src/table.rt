@@ -1,6 +1,6 @@
 // Tables compared, slot by slot and then by their counts.
 ghost use mathlib.Core.Path.{_≡_};
-ghost use Rattle.compare.specs.Same.{sameSnapshot, sameRef, sameLogEntry, sameFileEntry, sameSchema, sameSortOrder};
+ghost use Rattle.compare.specs.Same.{sameSnapshot, sameRef, sameLogEntry, sameFileEntry, sameSchema, sameSortOrder, sameStatisticsFile};
 ghost use Rattle.compare.specs.First.{unlike, inPart};
 use crate::difference::Difference;
 use crate::difference::unless;
@@ -11,6 +11,7 @@ use crate::record::same_ref;
 use crate::record::same_schema;
 use crate::record::same_snapshot;
 use crate::record::same_sort_order;
+use crate::record::same_statistics_file;
 use records::capacities;
 use records::metadata::MetadataLog;
 use records::reference::Refs;
@@ -18,6 +19,7 @@ use records::schema::Schemas;
 use records::snapshot::SnapshotLog;
 use records::snapshot::Snapshots;
 use records::sort_order::SortOrders;
+use records::statistics::StatisticsFiles;
 
 pub fn compare_snapshots(a: Snapshots, b: Snapshots, later: Difference) -> Difference
     ensures { λ r. ⌜ r ≡ inPart 9 (unlike sameSnapshot 0 (a .items) (b .items) (a .count) (b .count)) later ⌝ }
@@ -137,4 +139,27 @@ pub fn compare_sort_orders(a: SortOrders, b: SortOrders, later: Difference) -> D
         i += 1;
     }
     unless(m == n, part::SORT_ORDERS, capacities::SORT_ORDERS, later)
+}
+
+// Of either table of statistics files, whose part it is given.
+pub fn compare_statistics(
+    a: StatisticsFiles,
+    b: StatisticsFiles,
+    part: u8,
+    later: Difference,
+) -> Difference
+    ensures { λ r. ⌜ r ≡ inPart part (unlike sameStatisticsFile 0 (a .items) (b .items) (a .count) (b .count)) later ⌝ }
+{
+    let m = a.count;
+    let n = b.count;
+    let mut i = 0;
+    while i < capacities::STATISTICS {
+        let x = a.items[i];
+        let y = b.items[i];
+        if !same_statistics_file(x, y) {
+            return Difference { part, place: i };
+        }
+        i += 1;
+    }
+    unless(m == n, part, capacities::STATISTICS, later)
 }

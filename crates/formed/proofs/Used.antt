@@ -3,24 +3,28 @@ use Prim.Native.Nat.{ℕ}
 use mathlib.Core.Path.{_≡_, refl, sym, _∙_}
 use mathlib.Core.Bool.{Bool, true, false, cond, _&&_, _||_, and-true, or-false}
 use mathlib.Core.List.{List, [], _∷_}
+use mathlib.Core.Logic.{_⊎_, inl, inr}
 use borrow.Author.Tests.{eqb-true, eq-eqb, ne-eqb}
 use lib.Dec.{eqb}
+use lib.Signed.{nonNeg}
 use Rattle.records.specs.declared.snapshot.Snapshot.{Snapshot}
 use Rattle.records.specs.declared.snapshot.SnapshotIds.{SnapshotIds}
 use Rattle.records.specs.declared.reference.SnapshotReference.{SnapshotReference}
 use Rattle.records.specs.declared.schema.Schema.{Schema}
 use Rattle.records.specs.declared.schema.SchemaIds.{SchemaIds}
 use Rattle.records.specs.declared.«sort_order».SortOrder.{SortOrder}
+use Rattle.records.specs.declared.statistics.StatisticsFile.{StatisticsFile}
 use Rattle.records.specs.declared.update.TableUpdate.{TableUpdate}
 use Rattle.rules.specs.Words.{all, any}
 use Rattle.rules.specs.Register.{Update}
 use Rattle.rules.specs.Register.Update.{NotFormed}
-use Rattle.rules.specs.WellFormed.{updateFormed}
-use Rattle.rules.specs.Kinds.{assignUuidKind, upgradeFormatVersionKind, setLocationKind, addSnapshotKind, setBranchSnapshotKind, removeSnapshotsKind, setRefKind, removeRefKind, addSchemaKind, setCurrentSchemaKind, removeSchemasKind, addSortOrderKind, setDefaultSortOrderKind, usedBy, isUnusedBlank, isUsedTidy, isTidyUpdate}
-use Rattle.rules.specs.Blanks.{isZero, isZeroZ, restBlank, noneUsed, isTidyLocation, isBlankLocation, isTidyRefName, isBlankRefName, isBlankSnapshotId, isBlankSchemaField, isBlankSchemaId, isBlankSortField, isTidySnapshot, isBlankSnapshot, isTidySnapshotIds, isBlankSnapshotIds, isTidyReference, isBlankReference, isTidySchema, isBlankSchema, isTidySchemaIds, isBlankSchemaIds, isTidySortOrder, isBlankSortOrder}
+use Rattle.rules.specs.WellFormed.{statisticsFileFormed, updateFormed}
+use Rattle.rules.specs.Kinds.{assignUuidKind, upgradeFormatVersionKind, setLocationKind, addSnapshotKind, setBranchSnapshotKind, removeSnapshotsKind, setRefKind, removeRefKind, addSchemaKind, setCurrentSchemaKind, removeSchemasKind, addSortOrderKind, setDefaultSortOrderKind, setStatisticsKind, removeStatisticsKind, setPartitionStatisticsKind, removePartitionStatisticsKind, usedBy, isUnusedBlank, isUsedTidy, isTidyUpdate, readKind}
+use Rattle.rules.specs.Blanks.{isZero, isZeroZ, restBlank, noneUsed, isTidyLocation, isBlankLocation, isTidyRefName, isBlankRefName, isBlankSnapshotId, isBlankSchemaField, isBlankSchemaId, isBlankSortField, isTidySnapshot, isBlankSnapshot, isTidySnapshotIds, isBlankSnapshotIds, isTidyReference, isBlankReference, isTidySchema, isBlankSchema, isTidySchemaIds, isBlankSchemaIds, isTidySortOrder, isBlankSortOrder, isTidyStatisticsFile, isBlankStatisticsFile}
+use Rattle.rules.specs.Layout.{readStatisticsFile}
 use Rattle.rules.specs.Capacities.{removalRoom, schemaFieldRoom, sortFieldRoom}
 use Rattle.rules.proofs.Checks.{and-left, and-right}
-use Rattle.rules.proofs.Relaid.{blank-snapshot, blank-reference}
+use Rattle.rules.proofs.Relaid.{blank-snapshot, blank-reference, blank-statistics-file}
 use Rattle.formed.proofs.Bools.{apart}
 
 -- ---- used or not
@@ -78,19 +82,23 @@ pub blank-order-tidy : (o : SortOrder) → isBlankSortOrder o ≡ true → isTid
 unfolding isBlankSortOrder isTidySortOrder
 blank-order-tidy o e = none-rest sortFieldRoom isBlankSortField (o .items) (o .count) (and-right (isZeroZ (o .«order_id» .0)) _ e)
 
+pub blank-statistics-file-tidy : (f : StatisticsFile) → isBlankStatisticsFile f ≡ true → isTidyStatisticsFile f ≡ true
+unfolding isTidyStatisticsFile
+blank-statistics-file-tidy f e = rw (blank-statistics-file f e)
+
 -- ---- the records of an update
 
--- twelve tests for blanks, and eight for what is tidy beside them
-records-apart : (a b c d e f g h i j k l c′ d′ e′ f′ g′ h′ j′ k′ : Bool)
-    → (a && b && (c && c′) && (d && d′) && (e && e′) && (f && f′) && (g && g′) && (h && h′) && i && (j && j′) && (k && k′) && l)
-    ≡ (a && b && c && d && e && f && g && h && i && j && k && l && (c′ && d′ && e′ && f′ && g′ && h′ && j′ && k′))
-records-apart a b c d e f g h i j k l c′ d′ e′ f′ g′ h′ j′ k′ =
+-- fourteen tests for blanks, and nine for what is tidy beside them
+records-apart : (a b c d e f g h i j k l m n c′ d′ e′ f′ g′ h′ j′ k′ m′ : Bool)
+    → (a && b && (c && c′) && (d && d′) && (e && e′) && (f && f′) && (g && g′) && (h && h′) && i && (j && j′) && (k && k′) && l && (m && m′) && n)
+    ≡ (a && b && c && d && e && f && g && h && i && j && k && l && m && n && (c′ && d′ && e′ && f′ && g′ && h′ && j′ && k′ && m′))
+records-apart a b c d e f g h i j k l m n c′ d′ e′ f′ g′ h′ j′ k′ m′ =
     let t : Bool = c′ && d′ && e′ && f′ && g′ && h′ in
-    rw (and-true a, and-true b, and-true i, and-true l, and-true t, and-true (t && j′ && k′)) at
-    (apart a true ((b, true) ∷ (c, c′) ∷ (d, d′) ∷ (e, e′) ∷ (f, f′) ∷ (g, g′) ∷ (h, h′) ∷ (i, true) ∷ (j, j′) ∷ (k, k′) ∷ (l, true) ∷ []))
+    rw (and-true a, and-true b, and-true i, and-true l, and-true n, and-true t, and-true (t && j′ && k′), and-true (t && j′ && k′ && m′)) at
+    (apart a true ((b, true) ∷ (c, c′) ∷ (d, d′) ∷ (e, e′) ∷ (f, f′) ∷ (g, g′) ∷ (h, h′) ∷ (i, true) ∷ (j, j′) ∷ (k, k′) ∷ (l, true) ∷ (m, m′) ∷ (n, true) ∷ []))
 
 -- what is found of each record
-pub update-tidy : (u : TableUpdate) {a c d e f g h i j k l : Bool}
+pub update-tidy : (u : TableUpdate) {a c d e f g h i j k l m n : Bool}
     → a ≡ all isZero (u .uuid)
     → c ≡ (usedBy (setLocationKind ∷ []) (u .kind) (isBlankLocation (u .location)) && isTidyLocation (u .location))
     → d ≡ (usedBy (addSnapshotKind ∷ setBranchSnapshotKind ∷ []) (u .kind) (isBlankSnapshot (u .snapshot)) && isTidySnapshot (u .snapshot))
@@ -102,10 +110,12 @@ pub update-tidy : (u : TableUpdate) {a c d e f g h i j k l : Bool}
     → j ≡ (usedBy (removeSchemasKind ∷ []) (u .kind) (isBlankSchemaIds (u .«schema_ids»)) && isTidySchemaIds (u .«schema_ids»))
     → k ≡ (usedBy (addSortOrderKind ∷ []) (u .kind) (isBlankSortOrder (u .«sort_order»)) && isTidySortOrder (u .«sort_order»))
     → l ≡ isZeroZ (u .«sort_order_id» .0)
-    → ((eqb (u .kind) assignUuidKind || a) && (eqb (u .kind) upgradeFormatVersionKind || isZero (u .«format_version»)) && c && d && e && f && g && h && (eqb (u .kind) setCurrentSchemaKind || i) && j && k && (eqb (u .kind) setDefaultSortOrderKind || l)) ≡ isTidyUpdate u
+    → m ≡ (usedBy (setStatisticsKind ∷ setPartitionStatisticsKind ∷ []) (u .kind) (isBlankStatisticsFile (u .statistics)) && isTidyStatisticsFile (u .statistics))
+    → n ≡ isZeroZ (u .«statistics_id» .0)
+    → ((eqb (u .kind) assignUuidKind || a) && (eqb (u .kind) upgradeFormatVersionKind || isZero (u .«format_version»)) && c && d && e && f && g && h && (eqb (u .kind) setCurrentSchemaKind || i) && j && k && (eqb (u .kind) setDefaultSortOrderKind || l) && m && (eqb (u .kind) removeStatisticsKind || eqb (u .kind) removePartitionStatisticsKind || n)) ≡ isTidyUpdate u
 unfolding isUnusedBlank isUsedTidy
-update-tidy u pa pc pd pe pf pg ph pi pj pk pl =
-    (λ x. (sym (or-false (eqb (u .kind) assignUuidKind)) x || pa x) && (sym (or-false (eqb (u .kind) upgradeFormatVersionKind)) x || isZero (u .«format_version»)) && pc x && pd x && pe x && pf x && pg x && ph x && (sym (or-false (eqb (u .kind) setCurrentSchemaKind)) x || pi x) && pj x && pk x && (sym (or-false (eqb (u .kind) setDefaultSortOrderKind)) x || pl x))
+update-tidy u pa pc pd pe pf pg ph pi pj pk pl pm pn =
+    (λ x. (sym (or-false (eqb (u .kind) assignUuidKind)) x || pa x) && (sym (or-false (eqb (u .kind) upgradeFormatVersionKind)) x || isZero (u .«format_version»)) && pc x && pd x && pe x && pf x && pg x && ph x && (sym (or-false (eqb (u .kind) setCurrentSchemaKind)) x || pi x) && pj x && pk x && (sym (or-false (eqb (u .kind) setDefaultSortOrderKind)) x || pl x) && pm x && (sym (two-kinds (u .kind) removeStatisticsKind removePartitionStatisticsKind) x || pn x))
     ∙ records-apart
     (usedBy (assignUuidKind ∷ []) (u .kind) (all isZero (u .uuid)))
     (usedBy (upgradeFormatVersionKind ∷ []) (u .kind) (isZero (u .«format_version»)))
@@ -119,6 +129,8 @@ update-tidy u pa pc pd pe pf pg ph pi pj pk pl =
     (usedBy (removeSchemasKind ∷ []) (u .kind) (isBlankSchemaIds (u .«schema_ids»)))
     (usedBy (addSortOrderKind ∷ []) (u .kind) (isBlankSortOrder (u .«sort_order»)))
     (usedBy (setDefaultSortOrderKind ∷ []) (u .kind) (isZeroZ (u .«sort_order_id» .0)))
+    (usedBy (setStatisticsKind ∷ setPartitionStatisticsKind ∷ []) (u .kind) (isBlankStatisticsFile (u .statistics)))
+    (usedBy (removeStatisticsKind ∷ removePartitionStatisticsKind ∷ []) (u .kind) (isZeroZ (u .«statistics_id» .0)))
     (isTidyLocation (u .location))
     (isTidySnapshot (u .snapshot))
     (isTidySnapshotIds (u .«snapshot_ids»))
@@ -127,9 +139,22 @@ update-tidy u pa pc pd pe pf pg ph pi pj pk pl =
     (isTidySchema (u .schema))
     (isTidySchemaIds (u .«schema_ids»))
     (isTidySortOrder (u .«sort_order»))
+    (isTidyStatisticsFile (u .statistics))
 
 -- an update is read by its kind where it is tidy
 pub tidy-first : (b : Bool) (u : Update) (n : ℕ) → (b && updateFormed u) ≡ updateFormed (cond b u (NotFormed n))
 unfolding updateFormed
 tidy-first true u n = refl
 tidy-first false u n = refl
+
+-- what is asked of the kinds that set a statistics file, and of those that remove one
+
+pub sets-statistics : (u : TableUpdate) → (u .kind ≡ setStatisticsKind) ⊎ (u .kind ≡ setPartitionStatisticsKind) → updateFormed (readKind u) ≡ statisticsFileFormed (readStatisticsFile (u .statistics))
+unfolding updateFormed
+sets-statistics u (inl e) = rw e
+sets-statistics u (inr e) = rw e
+
+pub removes-statistics : (u : TableUpdate) → (u .kind ≡ removeStatisticsKind) ⊎ (u .kind ≡ removePartitionStatisticsKind) → updateFormed (readKind u) ≡ nonNeg (u .«statistics_id» .0)
+unfolding updateFormed
+removes-statistics u (inl e) = rw e
+removes-statistics u (inr e) = rw e

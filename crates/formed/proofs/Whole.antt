@@ -1,13 +1,13 @@
 -- Metadata by its parts: each table by itself is tidy and well formed, and then what they say of each other is asked.
 use mathlib.Core.Path.{_≡_, refl, sym, _∙_}
 use mathlib.Core.Bool.{Bool, true, false, _&&_, false≢true, true≢false}
-use mathlib.Core.List.{[], _∷_}
+use mathlib.Core.List.{List, [], _∷_, map}
 use Rattle.records.specs.declared.metadata.TableMetadata.{TableMetadata}
 use Rattle.rules.specs.Words.{eqZ, sameOption, all, any}
-use Rattle.rules.specs.WellFormed.{snapshotsFormed, refsFormed, snapshotLogFormed, metadataLogFormed, schemasFormed, ordersFormed, fieldsFormed, pointsIn, mainSnapshot, hasSchema, hasOrder, refsHeld, mainAgrees, currentSchemaHeld, defaultOrderHeld, metadataFormed}
-use Rattle.rules.specs.Blanks.{isTidySnapshots, isTidyRefs, isTidySnapshotLog, isTidyMetadataLog, isTidySchemas, isTidySortOrders, isTidyFields, isTidyMetadata}
-use Rattle.rules.specs.Layout.{readSnapshots, readRefs, readSnapshotLog, readMetadataLog, readSchemas, readSortOrders, readFields, readMetadata}
-use Rattle.rules.proofs.Checks.{Hold, parts, and-left, and-right}
+use Rattle.rules.specs.WellFormed.{snapshotsFormed, refsFormed, snapshotLogFormed, metadataLogFormed, schemasFormed, ordersFormed, statisticsFormed, fieldsFormed, pointsIn, mainSnapshot, hasSchema, hasOrder, refsHeld, mainAgrees, currentSchemaHeld, defaultOrderHeld, metadataFormed}
+use Rattle.rules.specs.Blanks.{isTidySnapshots, isTidyRefs, isTidySnapshotLog, isTidyMetadataLog, isTidySchemas, isTidySortOrders, isTidyStatistics, isTidyFields, isTidyMetadata}
+use Rattle.rules.specs.Layout.{readSnapshots, readRefs, readSnapshotLog, readMetadataLog, readSchemas, readSortOrders, readStatistics, readFields, readMetadata}
+use Rattle.rules.proofs.Checks.{andAll, Hold, parts, and-left, and-right}
 use Rattle.tables.specs.Laid.{LaidSnapshots, LaidRefs, LaidSchemas, LaidOrders}
 use Rattle.formed.proofs.Bools.{apart}
 use Rattle.formed.proofs.Laid.{laid-snapshots, laid-formed-refs, laid-schemas, laid-orders}
@@ -25,18 +25,29 @@ four-not-asked true false a b c d e = refl
 four-not-asked false f a b c d e = refl
 
 module _ (m : TableMetadata) where
+  -- of each part after the snapshots, whether it is tidy and whether it is well formed
+  abbrev after : List (Bool × Bool)
+  after =
+      (isTidyRefs (m .refs), refsFormed (readRefs (m .refs)))
+      ∷ (isTidySnapshotLog (m .«snapshot_log»), snapshotLogFormed (readSnapshotLog (m .«snapshot_log»)))
+      ∷ (isTidyMetadataLog (m .«metadata_log»), metadataLogFormed (readMetadataLog (m .«metadata_log»)))
+      ∷ (isTidySchemas (m .schemas), schemasFormed (readSchemas (m .schemas)))
+      ∷ (isTidySortOrders (m .«sort_orders»), ordersFormed (readSortOrders (m .«sort_orders»)))
+      ∷ (isTidyStatistics (m .statistics), statisticsFormed (readStatistics (m .statistics)))
+      ∷ (isTidyStatistics (m .«partition_statistics»), statisticsFormed (readStatistics (m .«partition_statistics»)))
+      ∷ (isTidyFields (m .fields), fieldsFormed (readFields (m .fields)))
+      ∷ []
+
   -- each part by itself
   abbrev pub eachFormed : Bool
-  eachFormed = (isTidySnapshots (m .snapshots) && snapshotsFormed (readSnapshots (m .snapshots))) && (isTidyRefs (m .refs) && refsFormed (readRefs (m .refs))) && (isTidySnapshotLog (m .«snapshot_log») && snapshotLogFormed (readSnapshotLog (m .«snapshot_log»))) && (isTidyMetadataLog (m .«metadata_log») && metadataLogFormed (readMetadataLog (m .«metadata_log»))) && (isTidySchemas (m .schemas) && schemasFormed (readSchemas (m .schemas))) && (isTidySortOrders (m .«sort_orders») && ordersFormed (readSortOrders (m .«sort_orders»))) && (isTidyFields (m .fields) && fieldsFormed (readFields (m .fields)))
+  eachFormed = andAll (isTidySnapshots (m .snapshots) && snapshotsFormed (readSnapshots (m .snapshots))) (map (λ (x : Bool × Bool). x .0 && x .1) after)
 
   abbrev allFormed : Bool
-  allFormed = snapshotsFormed (readSnapshots (m .snapshots)) && refsFormed (readRefs (m .refs)) && snapshotLogFormed (readSnapshotLog (m .«snapshot_log»)) && metadataLogFormed (readMetadataLog (m .«metadata_log»)) && schemasFormed (readSchemas (m .schemas)) && ordersFormed (readSortOrders (m .«sort_orders»)) && fieldsFormed (readFields (m .fields))
+  allFormed = andAll (snapshotsFormed (readSnapshots (m .snapshots))) (map (λ (x : Bool × Bool). x .1) after)
 
   each-apart : eachFormed ≡ (isTidyMetadata m && allFormed)
   unfolding isTidyMetadata
-  each-apart =
-      apart (isTidySnapshots (m .snapshots)) (snapshotsFormed (readSnapshots (m .snapshots)))
-      ((isTidyRefs (m .refs), refsFormed (readRefs (m .refs))) ∷ (isTidySnapshotLog (m .«snapshot_log»), snapshotLogFormed (readSnapshotLog (m .«snapshot_log»))) ∷ (isTidyMetadataLog (m .«metadata_log»), metadataLogFormed (readMetadataLog (m .«metadata_log»))) ∷ (isTidySchemas (m .schemas), schemasFormed (readSchemas (m .schemas))) ∷ (isTidySortOrders (m .«sort_orders»), ordersFormed (readSortOrders (m .«sort_orders»))) ∷ (isTidyFields (m .fields), fieldsFormed (readFields (m .fields))) ∷ [])
+  each-apart = apart (isTidySnapshots (m .snapshots)) (snapshotsFormed (readSnapshots (m .snapshots))) after
 
   -- what the parts say of each other
   abbrev pub agreeing : Bool
@@ -56,8 +67,8 @@ module _ (m : TableMetadata) where
 
   -- the tables as the functions on tables ask them
   module _ (e : eachFormed ≡ true) where
-    holds : Hold ((isTidySnapshots (m .snapshots) && snapshotsFormed (readSnapshots (m .snapshots))) ∷ (isTidyRefs (m .refs) && refsFormed (readRefs (m .refs))) ∷ (isTidySnapshotLog (m .«snapshot_log») && snapshotLogFormed (readSnapshotLog (m .«snapshot_log»))) ∷ (isTidyMetadataLog (m .«metadata_log») && metadataLogFormed (readMetadataLog (m .«metadata_log»))) ∷ (isTidySchemas (m .schemas) && schemasFormed (readSchemas (m .schemas))) ∷ (isTidySortOrders (m .«sort_orders») && ordersFormed (readSortOrders (m .«sort_orders»))) ∷ (isTidyFields (m .fields) && fieldsFormed (readFields (m .fields))) ∷ [])
-    holds = parts ((isTidySnapshots (m .snapshots) && snapshotsFormed (readSnapshots (m .snapshots)))) ((isTidyRefs (m .refs) && refsFormed (readRefs (m .refs))) ∷ (isTidySnapshotLog (m .«snapshot_log») && snapshotLogFormed (readSnapshotLog (m .«snapshot_log»))) ∷ (isTidyMetadataLog (m .«metadata_log») && metadataLogFormed (readMetadataLog (m .«metadata_log»))) ∷ (isTidySchemas (m .schemas) && schemasFormed (readSchemas (m .schemas))) ∷ (isTidySortOrders (m .«sort_orders») && ordersFormed (readSortOrders (m .«sort_orders»))) ∷ (isTidyFields (m .fields) && fieldsFormed (readFields (m .fields))) ∷ []) e
+    holds : Hold ((isTidySnapshots (m .snapshots) && snapshotsFormed (readSnapshots (m .snapshots))) ∷ map (λ (x : Bool × Bool). x .0 && x .1) after)
+    holds = parts (isTidySnapshots (m .snapshots) && snapshotsFormed (readSnapshots (m .snapshots))) (map (λ (x : Bool × Bool). x .0 && x .1) after) e
 
     pub snapshots-laid : LaidSnapshots (m .snapshots)
     snapshots-laid = laid-snapshots (m .snapshots) (and-left (isTidySnapshots (m .snapshots)) _ (holds .0)) (and-right (isTidySnapshots (m .snapshots)) _ (holds .0))

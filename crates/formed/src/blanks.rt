@@ -3,9 +3,10 @@ ghost use mathlib.Core.Path.{_≡_};
 ghost use lib.ListN.{drop};
 ghost use Rattle.rules.specs.Words.{all};
 ghost use Rattle.rules.specs.Capacities.{schemaFieldRoom, sortFieldRoom, removalRoom};
-ghost use Rattle.rules.specs.Blanks.{isZero, restBlank, isTidyRefName, isBlankRefName, isTidyLocation, isBlankLocation, isTidyFileName, isBlankFileName, isTidySnapshot, isBlankSnapshot, isBlankSnapshotId, isTidySnapshotIds, isBlankSnapshotIds, isBlankLogEntry, isTidyReference, isBlankReference, isTidyRef, isBlankRef, isBlankSchemaField, isTidySchema, isBlankSchema, isBlankSchemaId, isTidySchemaIds, isBlankSchemaIds, isBlankSortField, isTidySortOrder, isBlankSortOrder, isTidyMetadataLogEntry, isBlankMetadataLogEntry};
+ghost use Rattle.rules.specs.Blanks.{isZero, restBlank, isTidyRefName, isBlankRefName, isTidyLocation, isBlankLocation, isTidyFileName, isBlankFileName, isTidySnapshot, isBlankSnapshot, isBlankSnapshotId, isTidySnapshotIds, isBlankSnapshotIds, isBlankLogEntry, isTidyReference, isBlankReference, isTidyRef, isBlankRef, isBlankSchemaField, isTidySchema, isBlankSchema, isBlankSchemaId, isTidySchemaIds, isBlankSchemaIds, isBlankSortField, isTidySortOrder, isBlankSortOrder, isTidyStatisticsFile, isBlankStatisticsFile, isTidyMetadataLogEntry, isBlankMetadataLogEntry};
 use crate::bounds::age_zero;
 use crate::bounds::field_id_zero;
+use crate::bounds::file_size_zero;
 use crate::bounds::min_zero;
 use crate::bounds::order_id_zero;
 use crate::bounds::schema_id_zero;
@@ -25,6 +26,7 @@ use records::snapshot::SnapshotIds;
 use records::snapshot::SnapshotLogEntry;
 use records::sort_order::SortField;
 use records::sort_order::SortOrder;
+use records::statistics::StatisticsFile;
 use records::text::FileName;
 use records::text::Location;
 use records::text::RefName;
@@ -292,6 +294,22 @@ pub fn order_blank(o: SortOrder) -> bool
     let id = o.order_id;
     let n = o.count;
     order_id_zero(id) & ((n == 0) & sort_fields_blank_from(o, 0))
+}
+
+pub fn statistics_file_tidy(f: StatisticsFile) -> bool
+    ensures { λ r. ⌜ r ≡ isTidyStatisticsFile f ⌝ }
+{
+    let p = f.statistics_path;
+    file_name_tidy(p)
+}
+
+pub fn statistics_file_blank(f: StatisticsFile) -> bool
+    ensures { λ r. ⌜ r ≡ isBlankStatisticsFile f ⌝ }
+{
+    let id = f.snapshot_id;
+    let p = f.statistics_path;
+    let s = f.file_size_in_bytes;
+    snapshot_id_zero(id) & file_name_blank(p) & file_size_zero(s)
 }
 
 pub fn file_entry_tidy(e: MetadataLogEntry) -> bool

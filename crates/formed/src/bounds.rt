@@ -7,6 +7,7 @@ ghost use Rattle.rules.specs.Blanks.{isZeroZ};
 ghost use Rattle.rules.specs.Layout.{given};
 use records::counters::Age;
 use records::counters::FieldId;
+use records::counters::FileSize;
 use records::counters::MinSnapshots;
 use records::counters::SchemaId;
 use records::counters::SequenceNumber;
@@ -36,6 +37,13 @@ pub fn order_id_formed(x: SortOrderId) -> bool
 }
 
 pub fn sequence_formed(x: SequenceNumber) -> bool
+    ensures { λ r. ⌜ r ≡ nonNeg (x .0) ⌝ }
+{
+    let v = x.0;
+    v >= 0
+}
+
+pub fn file_size_formed(x: FileSize) -> bool
     ensures { λ r. ⌜ r ≡ nonNeg (x .0) ⌝ }
 {
     let v = x.0;
@@ -108,6 +116,13 @@ pub fn field_id_zero(x: FieldId) -> bool
 }
 
 pub fn sequence_zero(x: SequenceNumber) -> bool
+    ensures { λ r. ⌜ r ≡ isZeroZ (x .0) ⌝ }
+{
+    let v = x.0;
+    v == 0
+}
+
+pub fn file_size_zero(x: FileSize) -> bool
     ensures { λ r. ⌜ r ≡ isZeroZ (x .0) ⌝ }
 {
     let v = x.0;

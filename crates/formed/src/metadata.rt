@@ -2,9 +2,9 @@
 ghost use mathlib.Core.Path.{_≡_};
 ghost use mathlib.Core.Bool.{_&&_};
 ghost use Rattle.rules.specs.Words.{eqZ, sameOption, all};
-ghost use Rattle.rules.specs.WellFormed.{snapshotsFormed, refsFormed, schemasFormed, ordersFormed, fieldsFormed, pointsIn, mainSnapshot, metadataFormed};
-ghost use Rattle.rules.specs.Blanks.{isTidySnapshots, isTidyRefs, isTidySchemas, isTidySortOrders, isTidyFields, isTidyMetadata};
-ghost use Rattle.rules.specs.Layout.{readSnapshots, readRefs, readSchemas, readSortOrders, readFields, readMetadata};
+ghost use Rattle.rules.specs.WellFormed.{snapshotsFormed, refsFormed, schemasFormed, ordersFormed, statisticsFormed, fieldsFormed, pointsIn, mainSnapshot, metadataFormed};
+ghost use Rattle.rules.specs.Blanks.{isTidySnapshots, isTidyRefs, isTidySchemas, isTidySortOrders, isTidyStatistics, isTidyFields, isTidyMetadata};
+ghost use Rattle.rules.specs.Layout.{readSnapshots, readRefs, readSchemas, readSortOrders, readStatistics, readFields, readMetadata};
 ghost use Rattle.tables.specs.Laid.{LaidSnapshots, LaidRefs};
 use crate::blanks::location_tidy;
 use crate::bounds::sequence_formed;
@@ -13,12 +13,14 @@ use crate::order::orders_ascend;
 use crate::order::refs_ascend;
 use crate::order::schemas_ascend;
 use crate::order::snapshots_ascend;
+use crate::order::statistics_ascend;
 use crate::slots::metadata_log_formed;
 use crate::slots::orders_filled;
 use crate::slots::refs_filled;
 use crate::slots::schemas_filled;
 use crate::slots::snapshot_log_formed;
 use crate::slots::snapshots_filled;
+use crate::slots::statistics_filled;
 use records::capacities::LOCATION;
 use records::metadata::SingleFields;
 use records::metadata::TableMetadata;
@@ -26,6 +28,7 @@ use records::reference::Refs;
 use records::schema::Schemas;
 use records::snapshot::Snapshots;
 use records::sort_order::SortOrders;
+use records::statistics::StatisticsFiles;
 use tables::ids::same_snapshot;
 use tables::names::is_main_name;
 use tables::snapshots::holds;
@@ -62,6 +65,15 @@ fn orders_formed(t: SortOrders) -> bool
 {
     if orders_filled(t) {
         return orders_ascend(t);
+    }
+    false
+}
+
+fn statistics_formed(t: StatisticsFiles) -> bool
+    ensures { λ r. ⌜ r ≡ (isTidyStatistics t && statisticsFormed (readStatistics t)) ⌝ }
+{
+    if statistics_filled(t) {
+        return statistics_ascend(t);
     }
     false
 }
@@ -129,6 +141,8 @@ pub fn is_formed(m: TableMetadata) -> bool
     let g = m.metadata_log;
     let c = m.schemas;
     let o = m.sort_orders;
+    let p = m.statistics;
+    let q = m.partition_statistics;
     let x = f.current_schema_id;
     let y = f.default_sort_order_id;
     let ok = snapshots_formed(s)
@@ -137,6 +151,8 @@ pub fn is_formed(m: TableMetadata) -> bool
         & metadata_log_formed(g)
         & schemas_formed(c)
         & orders_formed(o)
+        & statistics_formed(p)
+        & statistics_formed(q)
         & fields_formed(f);
     if ok {
         return refs_held(r, s)

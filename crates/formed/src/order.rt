@@ -2,14 +2,15 @@
 ghost use mathlib.Core.Path.{_≡_};
 ghost use Prim.Native.Nat.{_≤_};
 ghost use Rattle.rules.specs.Words.{ascending};
-ghost use Rattle.rules.specs.Capacities.{snapshotRoom, schemaRoom, sortOrderRoom};
-ghost use Rattle.rules.specs.WellFormed.{snapshotBelow, refBelow, schemaBelow, orderBelow};
-ghost use Rattle.rules.specs.Layout.{readSnapshots, readRefs, readSchemas, readSortOrders};
+ghost use Rattle.rules.specs.Capacities.{snapshotRoom, schemaRoom, sortOrderRoom, statisticsRoom};
+ghost use Rattle.rules.specs.WellFormed.{snapshotBelow, refBelow, schemaBelow, orderBelow, statisticsBelow};
+ghost use Rattle.rules.specs.Layout.{readSnapshots, readRefs, readSchemas, readSortOrders, readStatistics};
 ghost use Rattle.tables.specs.Laid.{LaidRefs};
 use records::reference::Refs;
 use records::schema::Schemas;
 use records::snapshot::Snapshots;
 use records::sort_order::SortOrders;
+use records::statistics::StatisticsFiles;
 use tables::ids::order_below;
 use tables::ids::schema_below;
 use tables::ids::snapshot_below;
@@ -82,6 +83,24 @@ pub fn orders_ascend(t: SortOrders) -> bool
         let x = a.order_id;
         let y = b.order_id;
         ok = ok & order_below(x, y);
+        i += 1;
+    }
+    ok
+}
+
+pub fn statistics_ascend(t: StatisticsFiles) -> bool
+    requires { ⌜ t .count ≤ statisticsRoom ⌝ }
+    ensures { λ r. ⌜ r ≡ ascending statisticsBelow (readStatistics t) ⌝ }
+{
+    let n = t.count;
+    let mut ok = true;
+    let mut i = 1;
+    while i < n {
+        let f = t.items[i - 1];
+        let g = t.items[i];
+        let p = f.snapshot_id;
+        let q = g.snapshot_id;
+        ok = ok & snapshot_below(p, q);
         i += 1;
     }
     ok

@@ -5,16 +5,18 @@ ghost use mathlib.Core.Bool.{not, _&&_};
 ghost use lib.ListN.{drop, take};
 ghost use Rattle.rules.specs.Words.{eqZ, all, unequal};
 ghost use Rattle.rules.specs.Capacities.{schemaFieldRoom};
-ghost use Rattle.rules.specs.WellFormed.{atLeastOne, snapshotFormed, referenceFormed, refFormed, fieldIds, schemaFormed, sortFieldFormed, offeredOrderFormed, orderFormed, removalFormed};
-ghost use Rattle.rules.specs.Layout.{readSnapshot, readSnapshotIds, readReference, readRef, readSchema, readSchemaIds, readSortField, readSortOrder};
+ghost use Rattle.rules.specs.WellFormed.{atLeastOne, snapshotFormed, referenceFormed, refFormed, fieldIds, schemaFormed, sortFieldFormed, offeredOrderFormed, orderFormed, statisticsFileFormed, removalFormed};
+ghost use Rattle.rules.specs.Layout.{readSnapshot, readSnapshotIds, readReference, readRef, readSchema, readSchemaIds, readSortField, readSortOrder, readStatisticsFile};
 use crate::bounds::age_formed;
 use crate::bounds::field_id_formed;
+use crate::bounds::file_size_formed;
 use crate::bounds::min_formed;
 use crate::bounds::order_id_formed;
 use crate::bounds::order_id_zero;
 use crate::bounds::schema_id_formed;
 use crate::bounds::sequence_formed;
 use crate::bounds::snapshot_id_formed;
+use records::capacities::FILE_NAME;
 use records::capacities::REF_NAME;
 use records::capacities::REMOVALS;
 use records::capacities::SCHEMA_FIELDS;
@@ -28,6 +30,7 @@ use records::snapshot::Snapshot;
 use records::snapshot::SnapshotIds;
 use records::sort_order::SortField;
 use records::sort_order::SortOrder;
+use records::statistics::StatisticsFile;
 use tables::ids::same_field;
 
 pub fn snapshot_formed(s: Snapshot) -> bool
@@ -180,4 +183,14 @@ pub fn order_formed(o: SortOrder) -> bool
     let zero = order_id_zero(id);
     let none = n == 0;
     offered_order_formed(o) & (none == zero)
+}
+
+pub fn statistics_file_formed(f: StatisticsFile) -> bool
+    ensures { λ r. ⌜ r ≡ statisticsFileFormed (readStatisticsFile f) ⌝ }
+{
+    let id = f.snapshot_id;
+    let p = f.statistics_path;
+    let n = p.len;
+    let s = f.file_size_in_bytes;
+    snapshot_id_formed(id) & (n <= FILE_NAME) & file_size_formed(s)
 }

@@ -5,10 +5,10 @@ ghost use lib.Dec.{leb};
 ghost use lib.ListN.{length};
 ghost use lib.Signed.{nonNeg};
 ghost use Rattle.rules.specs.Words.{all};
-ghost use Rattle.rules.specs.Capacities.{snapshotRoom, refRoom, schemaRoom, sortOrderRoom};
-ghost use Rattle.rules.specs.WellFormed.{fileNameFormed, snapshotFormed, refFormed, schemaFormed, orderFormed, snapshotLogFormed, metadataLogFormed};
-ghost use Rattle.rules.specs.Blanks.{isTidySnapshot, isBlankSnapshot, isTidySnapshots, isBlankLogEntry, isTidySnapshotLog, isTidyRef, isBlankRef, isTidyRefs, isTidySchema, isBlankSchema, isTidySchemas, isTidySortOrder, isBlankSortOrder, isTidySortOrders, isTidyMetadataLogEntry, isBlankMetadataLogEntry, isTidyMetadataLog};
-ghost use Rattle.rules.specs.Layout.{readFileName, readSnapshot, readSnapshots, readSnapshotLog, readRef, readRefs, readSchema, readSchemas, readSortOrder, readSortOrders, readMetadataLog};
+ghost use Rattle.rules.specs.Capacities.{snapshotRoom, refRoom, schemaRoom, sortOrderRoom, statisticsRoom};
+ghost use Rattle.rules.specs.WellFormed.{fileNameFormed, snapshotFormed, refFormed, schemaFormed, orderFormed, statisticsFileFormed, snapshotLogFormed, metadataLogFormed};
+ghost use Rattle.rules.specs.Blanks.{isTidySnapshot, isBlankSnapshot, isTidySnapshots, isBlankLogEntry, isTidySnapshotLog, isTidyRef, isBlankRef, isTidyRefs, isTidySchema, isBlankSchema, isTidySchemas, isTidySortOrder, isBlankSortOrder, isTidySortOrders, isTidyStatisticsFile, isBlankStatisticsFile, isTidyStatistics, isTidyMetadataLogEntry, isBlankMetadataLogEntry, isTidyMetadataLog};
+ghost use Rattle.rules.specs.Layout.{readFileName, readSnapshot, readSnapshots, readSnapshotLog, readRef, readRefs, readSchema, readSchemas, readSortOrder, readSortOrders, readStatisticsFile, readStatistics, readMetadataLog};
 use crate::blanks::file_entry_blank;
 use crate::blanks::file_entry_tidy;
 use crate::blanks::log_entry_blank;
@@ -20,11 +20,14 @@ use crate::blanks::schema_blank;
 use crate::blanks::schema_tidy;
 use crate::blanks::snapshot_blank;
 use crate::blanks::snapshot_tidy;
+use crate::blanks::statistics_file_blank;
+use crate::blanks::statistics_file_tidy;
 use crate::bounds::snapshot_id_formed;
 use crate::record::order_formed;
 use crate::record::ref_formed;
 use crate::record::schema_formed;
 use crate::record::snapshot_formed;
+use crate::record::statistics_file_formed;
 use records::capacities::FILE_NAME;
 use records::capacities::METADATA_LOG;
 use records::capacities::REFS;
@@ -32,6 +35,7 @@ use records::capacities::SCHEMAS;
 use records::capacities::SNAPSHOT_LOG;
 use records::capacities::SNAPSHOTS;
 use records::capacities::SORT_ORDERS;
+use records::capacities::STATISTICS;
 use records::metadata::MetadataLog;
 use records::metadata::MetadataLogEntry;
 use records::reference::NamedRef;
@@ -44,6 +48,8 @@ use records::snapshot::SnapshotLogEntry;
 use records::snapshot::Snapshots;
 use records::sort_order::SortOrder;
 use records::sort_order::SortOrders;
+use records::statistics::StatisticsFile;
+use records::statistics::StatisticsFiles;
 
 fn snapshot_slot(used: bool, s: Snapshot) -> bool
     ensures { λ r. ⌜ r ≡ cond used (isTidySnapshot s && snapshotFormed (readSnapshot s)) (isBlankSnapshot s) ⌝ }
@@ -181,6 +187,29 @@ pub fn orders_filled(t: SortOrders) -> bool
     while i < SORT_ORDERS {
         let x = t.items[i];
         ok = ok & order_slot(i < n, x);
+        i += 1;
+    }
+    ok
+}
+
+fn statistics_slot(used: bool, f: StatisticsFile) -> bool
+    ensures { λ r. ⌜ r ≡ cond used (isTidyStatisticsFile f && statisticsFileFormed (readStatisticsFile f)) (isBlankStatisticsFile f) ⌝ }
+{
+    if used {
+        return statistics_file_tidy(f) & statistics_file_formed(f);
+    }
+    statistics_file_blank(f)
+}
+
+pub fn statistics_filled(t: StatisticsFiles) -> bool
+    ensures { λ r. ⌜ r ≡ (isTidyStatistics t && (leb (length (readStatistics t)) statisticsRoom && all statisticsFileFormed (readStatistics t))) ⌝ }
+{
+    let n = t.count;
+    let mut ok = n <= STATISTICS;
+    let mut i = 0;
+    while i < STATISTICS {
+        let x = t.items[i];
+        ok = ok & statistics_slot(i < n, x);
         i += 1;
     }
     ok

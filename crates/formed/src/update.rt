@@ -3,8 +3,8 @@ ghost use mathlib.Core.Path.{_≡_};
 ghost use mathlib.Core.Bool.{_&&_};
 ghost use mathlib.Core.List.{[], _∷_};
 ghost use Rattle.rules.specs.WellFormed.{updateFormed};
-ghost use Rattle.rules.specs.Blanks.{isTidyLocation, isBlankLocation, isTidySnapshot, isBlankSnapshot, isTidySnapshotIds, isBlankSnapshotIds, isTidyRefName, isBlankRefName, isTidyReference, isBlankReference, isTidySchema, isBlankSchema, isTidySchemaIds, isBlankSchemaIds, isTidySortOrder, isBlankSortOrder};
-ghost use Rattle.rules.specs.Kinds.{setLocationKind, addSnapshotKind, setBranchSnapshotKind, removeSnapshotsKind, setRefKind, removeRefKind, addSchemaKind, removeSchemasKind, addSortOrderKind, usedBy, isTidyUpdate, readKind, readUpdate};
+ghost use Rattle.rules.specs.Blanks.{isTidyLocation, isBlankLocation, isTidySnapshot, isBlankSnapshot, isTidySnapshotIds, isBlankSnapshotIds, isTidyRefName, isBlankRefName, isTidyReference, isBlankReference, isTidySchema, isBlankSchema, isTidySchemaIds, isBlankSchemaIds, isTidySortOrder, isBlankSortOrder, isTidyStatisticsFile, isBlankStatisticsFile};
+ghost use Rattle.rules.specs.Kinds.{setLocationKind, addSnapshotKind, setBranchSnapshotKind, removeSnapshotsKind, setRefKind, removeRefKind, addSchemaKind, removeSchemasKind, addSortOrderKind, setStatisticsKind, setPartitionStatisticsKind, usedBy, isTidyUpdate, readKind, readUpdate};
 use crate::blanks::location_blank;
 use crate::blanks::location_tidy;
 use crate::blanks::order_blank;
@@ -21,17 +21,22 @@ use crate::blanks::snapshot_blank;
 use crate::blanks::snapshot_ids_blank;
 use crate::blanks::snapshot_ids_tidy;
 use crate::blanks::snapshot_tidy;
+use crate::blanks::statistics_file_blank;
+use crate::blanks::statistics_file_tidy;
 use crate::blanks::zeros_from;
 use crate::bounds::order_choice_formed;
 use crate::bounds::order_id_zero;
 use crate::bounds::schema_choice_formed;
 use crate::bounds::schema_id_zero;
+use crate::bounds::snapshot_id_formed;
+use crate::bounds::snapshot_id_zero;
 use crate::record::offered_order_formed;
 use crate::record::reference_formed;
 use crate::record::schema_formed;
 use crate::record::schema_ids_formed;
 use crate::record::snapshot_formed;
 use crate::record::snapshot_ids_formed;
+use crate::record::statistics_file_formed;
 use records::capacities::LOCATION;
 use records::capacities::REF_NAME;
 use records::reference::SnapshotReference;
@@ -40,20 +45,25 @@ use records::schema::SchemaIds;
 use records::snapshot::Snapshot;
 use records::snapshot::SnapshotIds;
 use records::sort_order::SortOrder;
+use records::statistics::StatisticsFile;
 use records::text::Location;
 use records::text::RefName;
 use records::update::ADD_SCHEMA;
 use records::update::ADD_SNAPSHOT;
 use records::update::ADD_SORT_ORDER;
 use records::update::ASSIGN_UUID;
+use records::update::REMOVE_PARTITION_STATISTICS;
 use records::update::REMOVE_REF;
 use records::update::REMOVE_SCHEMAS;
 use records::update::REMOVE_SNAPSHOTS;
+use records::update::REMOVE_STATISTICS;
 use records::update::SET_BRANCH_SNAPSHOT;
 use records::update::SET_CURRENT_SCHEMA;
 use records::update::SET_DEFAULT_SORT_ORDER;
 use records::update::SET_LOCATION;
+use records::update::SET_PARTITION_STATISTICS;
 use records::update::SET_REF;
+use records::update::SET_STATISTICS;
 use records::update::TableUpdate;
 use records::update::UPGRADE_FORMAT_VERSION;
 
@@ -129,6 +139,15 @@ fn order_fits(k: u8, x: SortOrder) -> bool
     order_blank(x)
 }
 
+fn statistics_file_fits(k: u8, x: StatisticsFile) -> bool
+    ensures { λ r. ⌜ r ≡ (usedBy (setStatisticsKind ∷ setPartitionStatisticsKind ∷ []) k (isBlankStatisticsFile x) && isTidyStatisticsFile x) ⌝ }
+{
+    if (k == SET_STATISTICS) | (k == SET_PARTITION_STATISTICS) {
+        return statistics_file_tidy(x);
+    }
+    statistics_file_blank(x)
+}
+
 fn is_tidy(u: TableUpdate) -> bool
     ensures { λ r. ⌜ r ≡ isTidyUpdate u ⌝ }
 {
@@ -145,6 +164,8 @@ fn is_tidy(u: TableUpdate) -> bool
     let schema_ids = u.schema_ids;
     let order = u.sort_order;
     let order_id = u.sort_order_id;
+    let statistics = u.statistics;
+    let statistics_id = u.statistics_id;
     ((k == ASSIGN_UUID) | zeros_from(&uuid, 0))
         & ((k == UPGRADE_FORMAT_VERSION) | (version == 0))
         & location_fits(k, location)
@@ -157,6 +178,10 @@ fn is_tidy(u: TableUpdate) -> bool
         & schema_ids_fit(k, schema_ids)
         & order_fits(k, order)
         & ((k == SET_DEFAULT_SORT_ORDER) | order_id_zero(order_id))
+        & statistics_file_fits(k, statistics)
+        & ((k == REMOVE_STATISTICS)
+            | (k == REMOVE_PARTITION_STATISTICS)
+            | snapshot_id_zero(statistics_id))
 }
 
 // The numbers and lengths that the kind uses keep their bounds.
@@ -175,6 +200,8 @@ fn used_formed(u: TableUpdate) -> bool
     let schema_ids = u.schema_ids;
     let order = u.sort_order;
     let order_id = u.sort_order_id;
+    let statistics = u.statistics;
+    let statistics_id = u.statistics_id;
     let a = location.len;
     let b = name.len;
     match k {
@@ -191,6 +218,8 @@ fn used_formed(u: TableUpdate) -> bool
         REMOVE_SCHEMAS => schema_ids_formed(schema_ids),
         ADD_SORT_ORDER => offered_order_formed(order),
         SET_DEFAULT_SORT_ORDER => order_choice_formed(order_id),
+        SET_STATISTICS | SET_PARTITION_STATISTICS => statistics_file_formed(statistics),
+        REMOVE_STATISTICS | REMOVE_PARTITION_STATISTICS => snapshot_id_formed(statistics_id),
         _ => false,
     }
 }

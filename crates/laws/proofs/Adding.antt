@@ -86,7 +86,7 @@ module _ {g : Given} {st : State} {p : Pieces} (E : Represents g st p) (x : Snap
 abbrev pub grown : Snapshots → List ℤ → ℤ → Pieces → Pieces
 grown t is id p =
     record {
-      held = record { builder = p .held .builder; snapshots = t; ids = is; refs = p .held .refs; log = p .held .log; last = p .held .last; schemas = p .held .schemas; orders = p .held .orders };
+      held = record { builder = p .held .builder; snapshots = t; ids = is; refs = p .held .refs; log = p .held .log; last = p .held .last; shelf = p .held .shelf };
       changes = withAddition id (p .changes);
     }
 
@@ -100,7 +100,7 @@ module _ {g : Given} {i : ℕ} {p : Pieces} (S : Standing g i p) (v : Update) (a
   tables : {b : _} {t : Snapshots} {is : List ℤ} → b ≡ laidBuilder (addSnapshot x (S .state)) → t ≡ laidSnapshots (put snapshotBelow x (S .state .metadata .snapshots)) → is ≡ pad 64 (pos 0) (idsOf (put snapshotBelow x (S .state .metadata .snapshots)))
       → (id : ℤ) → Tables (addSnapshot x (S .state)) (withBuilder b (grown t is id p .held))
   unfolding addSnapshot
-  tables a b c id = let T = S .stands .tables in record { builder = a; snapshots = b; ids = c; refs = T .refs; log = T .log; last = T .last; schemas = T .schemas; orders = T .orders }
+  tables a b c id = let T = S .stands .tables in record { builder = a; snapshots = b; ids = c; refs = T .refs; log = T .log; last = T .last; shelf = T .shelf }
 
   -- a check that fails
   refused-decided : (half : Bool) {d : Decision} → d .number ≡ firstOf (checks (termsOf g) v (S .state)) → (d .number ≡ 0 → ⊥) → Decided g i half p d

@@ -13,26 +13,27 @@ use Rattle.records.specs.declared.counters.Time.{Time}
 use Rattle.records.specs.declared.metadata.TableMetadata.{TableMetadata}
 use Rattle.records.specs.declared.update.TableUpdate.{TableUpdate}
 use Rattle.rules.specs.Words.{any, ascending}
-use Rattle.rules.specs.Capacities.{snapshotRoom, refRoom, snapshotLogRoom, schemaRoom, sortOrderRoom, refNameRoom, schemaFieldRoom, sortFieldRoom, locationRoom}
+use Rattle.rules.specs.Capacities.{snapshotRoom, refRoom, snapshotLogRoom, schemaRoom, sortOrderRoom, statisticsRoom, refNameRoom, schemaFieldRoom, sortFieldRoom, locationRoom}
 use Rattle.rules.specs.Register as plain
-use Rattle.rules.specs.Register.{State}
-use Rattle.rules.specs.WellFormed.{snapshotFormed, refFormed, schemaFormed, orderFormed, refNameFormed, snapshotBelow, refBelow, schemaBelow, orderBelow, snapshotsFormed, refsFormed, snapshotLogFormed, schemasFormed, ordersFormed, fieldsFormed, offeredOrderFormed, versionFormed, locationFormed, hasSchema, hasOrder, currentSchemaHeld, defaultOrderHeld}
+use Rattle.rules.specs.Register.{StatisticsTable, State, statisticsOf}
+use Rattle.rules.specs.Register.StatisticsTable.{Statistics, PartitionStatistics}
+use Rattle.rules.specs.WellFormed.{snapshotFormed, refFormed, schemaFormed, orderFormed, statisticsFileFormed, refNameFormed, snapshotBelow, refBelow, schemaBelow, orderBelow, statisticsBelow, snapshotsFormed, refsFormed, snapshotLogFormed, schemasFormed, ordersFormed, statisticsFormed, fieldsFormed, offeredOrderFormed, versionFormed, locationFormed, hasSchema, hasOrder, currentSchemaHeld, defaultOrderHeld}
 use lib.Signed.{nonNeg}
 use Rattle.rules.specs.ChangeLog.{logsMain, logsRemoval}
 use Rattle.rules.specs.Run.{started, listSum}
-use Rattle.rules.specs.Layout.{given, pad, readMetadata, readSnapshots, readRefs, readSnapshotLog, readSchemas, readSortOrders, laidFields, readFields, laidLocation, laidMetadata}
-use Rattle.rules.proofs.Sound.{formed-sound}
+use Rattle.rules.specs.Layout.{given, pad, readMetadata, readSnapshots, readRefs, readSnapshotLog, readSchemas, readSortOrders, readStatistics, laidStatistics, laidFields, readFields, laidLocation, laidMetadata}
+use Rattle.rules.proofs.Sound.{formed-sound, statistics-formed}
 use Rattle.rules.proofs.Relaid.{relaid}
-use Rattle.rules.proofs.Reread.{reread-snapshots, reread-refs, reread-snapshot-log, reread-schemas, reread-sort-orders, reread-fields}
+use Rattle.rules.proofs.Reread.{reread-snapshots, reread-refs, reread-snapshot-log, reread-schemas, reread-sort-orders, reread-statistics, reread-fields}
 use Rattle.rules.proofs.Tables.{table-parts, log-fits, all-then}
 use Rattle.rules.proofs.Checks.{and-left, parts}
-use Rattle.tables.specs.Laid.{LaidSnapshots, LaidRefs, LaidSnapshotLog, LaidSchemas, LaidOrders}
+use Rattle.tables.specs.Laid.{LaidSnapshots, LaidRefs, LaidSnapshotLog, LaidSchemas, LaidOrders, LaidStatistics}
 use Rattle.builder.specs.declared.builder.TableMetadataBuilder.{TableMetadataBuilder}
 use Rattle.builder.specs.Pieces.{fresh, laidBuilder, idsOf, lastTime}
 use Rattle.close.specs.Facts.{additions}
 use Rattle.start.specs.Start.{startNumber}
 use Rattle.start.proofs.Started.{Starts, starts, file-short, sum-counts}
-use Rattle.laws.specs.Standing.{Given, Pieces, Represents, Standing}
+use Rattle.laws.specs.Standing.{Given, Pieces, filesOf, Represents, Standing}
 
 module _ (g : Given) (z : startNumber (g .metadata) (g .updates) (g .terms) ≡ 0) where
   start : Starts (g .metadata) (g .updates) (g .terms)
@@ -54,7 +55,7 @@ module _ (g : Given) (z : startNumber (g .metadata) (g .updates) (g .terms) ≡ 
 
   pub standing-start : {b : TableMetadataBuilder} {is : List ℤ} {last : Time} {e : TableUpdate} → b ≡ fresh (g .metadata .fields) → is ≡ pad 64 (pos 0) (idsOf (readSnapshots (g .metadata .snapshots))) → given (ltb 0 (g .metadata .«snapshot_log» .count)) (last .0) ≡ lastTime (readSnapshotLog (g .metadata .«snapshot_log»)) → e ≡ noUpdate
       → Standing g 0 (record {
-        held = record { builder = b; snapshots = g .metadata .snapshots; ids = is; refs = g .metadata .refs; log = g .metadata .«snapshot_log»; last = last; schemas = g .metadata .schemas; orders = g .metadata .«sort_orders» };
+        held = record { builder = b; snapshots = g .metadata .snapshots; ids = is; refs = g .metadata .refs; log = g .metadata .«snapshot_log»; last = last; shelf = record { schemas = g .metadata .schemas; orders = g .metadata .«sort_orders»; statistics = g .metadata .statistics; partitionStatistics = g .metadata .«partition_statistics» } };
         changes = record { entries = replicate 64 e; count = 0; added = replicate 64 (pos 0); adds = 0; mained = replicate 64 (pos 0); mains = 0; removal = false };
       })
   unfolding fresh laidBuilder laidMetadata additions logsMain logsRemoval listSum
@@ -74,8 +75,12 @@ module _ (g : Given) (z : startNumber (g .metadata) (g .updates) (g .terms) ≡ 
             refs = sym (ap (λ (x : TableMetadata). x .refs) back);
             log = sym (ap (λ (x : TableMetadata). x .«snapshot_log») back);
             last = l;
-            schemas = sym (ap (λ (x : TableMetadata). x .schemas) back);
-            orders = sym (ap (λ (x : TableMetadata). x .«sort_orders») back);
+            shelf = record {
+              schemas = sym (ap (λ (x : TableMetadata). x .schemas) back);
+              orders = sym (ap (λ (x : TableMetadata). x .«sort_orders») back);
+              statistics = sym (ap (λ (x : TableMetadata). x .statistics) back);
+              partitionStatistics = sym (ap (λ (x : TableMetadata). x .«partition_statistics») back);
+            };
           };
           logs = record { entries = ap (λ (x : TableUpdate). replicate 64 x) r; count = refl; added = refl; adds = refl; mained = refl; mains = refl; removal = refl };
           room = omega arith;
@@ -94,11 +99,18 @@ module _ {g : Given} {st : State} {p : Pieces} (E : Represents g st p) where
   pub read-log : readSnapshotLog (p .held .log) ≡ st .metadata .snapshotLog
   read-log = rw (E .tables .log) (reread-snapshot-log (st .metadata .snapshotLog))
 
-  pub read-schemas : readSchemas (p .held .schemas) ≡ st .metadata .schemas
-  read-schemas = rw (E .tables .schemas) (reread-schemas (st .metadata .schemas))
+  pub read-schemas : readSchemas (p .held .shelf .schemas) ≡ st .metadata .schemas
+  read-schemas = rw (E .tables .shelf .schemas) (reread-schemas (st .metadata .schemas))
 
-  pub read-orders : readSortOrders (p .held .orders) ≡ st .metadata .orders
-  read-orders = rw (E .tables .orders) (reread-sort-orders (st .metadata .orders))
+  pub read-orders : readSortOrders (p .held .shelf .orders) ≡ st .metadata .orders
+  read-orders = rw (E .tables .shelf .orders) (reread-sort-orders (st .metadata .orders))
+
+  pub statistics-laid : (which : StatisticsTable) → filesOf which (p .held .shelf) ≡ laidStatistics (statisticsOf which (st .metadata))
+  statistics-laid Statistics = E .tables .shelf .statistics
+  statistics-laid PartitionStatistics = E .tables .shelf .partitionStatistics
+
+  pub read-statistics : (which : StatisticsTable) → readStatistics (filesOf which (p .held .shelf)) ≡ statisticsOf which (st .metadata)
+  read-statistics which = rw (statistics-laid which) (reread-statistics (statisticsOf which (st .metadata)))
 
   pub snapshots-fit : length (st .metadata .snapshots) ≤ 64
   unfolding snapshotsFormed
@@ -131,23 +143,35 @@ module _ {g : Given} {st : State} {p : Pieces} (E : Represents g st p) where
   pub laid-log : LaidSnapshotLog (p .held .log)
   laid-log = record { back = rw read-log (sym (E .tables .log)); fits = rw read-log log-fit }
 
-  pub laid-schemas : LaidSchemas (p .held .schemas)
+  pub laid-schemas : LaidSchemas (p .held .shelf .schemas)
   unfolding schemasFormed
   laid-schemas =
       record {
-        back = rw read-schemas (sym (E .tables .schemas));
+        back = rw read-schemas (sym (E .tables .shelf .schemas));
         fits = rw read-schemas (table-parts schemaRoom schemaFormed schemaBelow (st .metadata .schemas) (E .sound .schemas) .0);
         fields = rw read-schemas (all-then schemaFormed (λ (x : plain.Schema). leb (length (x .fields)) schemaFieldRoom) (λ x e. parts (nonNeg (x .id)) (leb (length (x .fields)) schemaFieldRoom ∷ _ ∷ _ ∷ []) e .1 .0) (st .metadata .schemas) (table-parts schemaRoom schemaFormed schemaBelow (st .metadata .schemas) (E .sound .schemas) .1));
       }
 
-  pub laid-orders : LaidOrders (p .held .orders)
+  pub laid-orders : LaidOrders (p .held .shelf .orders)
   unfolding ordersFormed
   laid-orders =
       record {
-        back = rw read-orders (sym (E .tables .orders));
+        back = rw read-orders (sym (E .tables .shelf .orders));
         fits = rw read-orders (table-parts sortOrderRoom orderFormed orderBelow (st .metadata .orders) (E .sound .orders) .0);
         fields = rw read-orders (all-then orderFormed (λ (x : plain.SortOrder). leb (length (x .fields)) sortFieldRoom) (λ x e. parts (nonNeg (x .id)) (leb (length (x .fields)) sortFieldRoom ∷ _ ∷ []) (and-left (offeredOrderFormed x) _ e) .1 .0) (st .metadata .orders) (table-parts sortOrderRoom orderFormed orderBelow (st .metadata .orders) (E .sound .orders) .1));
       }
+
+  pub laid-statistics : (which : StatisticsTable) → LaidStatistics (filesOf which (p .held .shelf))
+  unfolding statisticsFormed
+  laid-statistics which =
+      record {
+        back = rw (read-statistics which) (sym (statistics-laid which));
+        fits = rw (read-statistics which) (table-parts statisticsRoom statisticsFileFormed statisticsBelow (statisticsOf which (st .metadata)) (statistics-formed (st .metadata) (E .sound) which) .0);
+      }
+
+  pub statistics-ascend : (which : StatisticsTable) → ascending statisticsBelow (readStatistics (filesOf which (p .held .shelf))) ≡ true
+  unfolding statisticsFormed
+  statistics-ascend which = rw (read-statistics which) (table-parts statisticsRoom statisticsFileFormed statisticsBelow (statisticsOf which (st .metadata)) (statistics-formed (st .metadata) (E .sound) which) .2)
 
   -- the location of the builder
   pub location-fits : p .held .builder .fields .location .len ≤ locationRoom
@@ -161,21 +185,21 @@ module _ {g : Given} {st : State} {p : Pieces} (E : Represents g st p) where
   unfolding laidBuilder
   read-fields = rw (ap (λ (x : TableMetadataBuilder). x .fields) (E .tables .builder)) (reread-fields (st .metadata .fields))
 
-  pub schemas-ascend : ascending schemaBelow (readSchemas (p .held .schemas)) ≡ true
+  pub schemas-ascend : ascending schemaBelow (readSchemas (p .held .shelf .schemas)) ≡ true
   unfolding schemasFormed
   schemas-ascend = rw read-schemas (table-parts schemaRoom schemaFormed schemaBelow (st .metadata .schemas) (E .sound .schemas) .2)
 
-  pub orders-formed : ordersFormed (readSortOrders (p .held .orders)) ≡ true
+  pub orders-formed : ordersFormed (readSortOrders (p .held .shelf .orders)) ≡ true
   orders-formed = rw read-orders (E .sound .orders)
 
   pub refs-ascend : ascending refBelow (readRefs (p .held .refs)) ≡ true
   unfolding refsFormed
   refs-ascend = rw read-refs (table-parts refRoom refFormed refBelow (st .metadata .refs) (E .sound .refs) .2)
 
-  pub schema-held : any (hasSchema (p .held .builder .fields .«current_schema_id» .0)) (readSchemas (p .held .schemas)) ≡ true
+  pub schema-held : any (hasSchema (p .held .builder .fields .«current_schema_id» .0)) (readSchemas (p .held .shelf .schemas)) ≡ true
   unfolding currentSchemaHeld
   schema-held = rw (read-schemas, ap (λ (x : plain.SingleFields). x .currentSchema) read-fields) (E .sound .schemaHeld)
 
-  pub order-held : any (hasOrder (p .held .builder .fields .«default_sort_order_id» .0)) (readSortOrders (p .held .orders)) ≡ true
+  pub order-held : any (hasOrder (p .held .builder .fields .«default_sort_order_id» .0)) (readSortOrders (p .held .shelf .orders)) ≡ true
   unfolding defaultOrderHeld
   order-held = rw (read-orders, ap (λ (x : plain.SingleFields). x .defaultOrder) read-fields) (E .sound .orderHeld)

@@ -115,7 +115,7 @@ module _ {g : Given} {st : State} {p : Pieces} (E : Represents g st p) where
         removes = E .logs .removal;
       }
 
-  pub handed : Handed (st .metadata) (p .held .builder .fields) (p .held .refs) (p .held .schemas) (p .held .orders)
+  pub handed : Handed (st .metadata) (p .held .builder .fields) (p .held .refs) (p .held .shelf .schemas) (p .held .shelf .orders)
   handed = record { single = read-fields E; named = read-refs E; columns = read-schemas E; sorts = read-orders E }
 
   pub files-laid : LaidMetadataLog (g .metadata .«metadata_log»)
@@ -170,13 +170,13 @@ module _ {g : Given} {st : State} {p : Pieces} (E : Represents g st p) where
   pub close-accepted : (place : ℕ) → firstOf checks ≡ 0 → {y : History} → HistoryOf (st .log) (st .metadata) y
       → {stay gone : MetadataLog} → stay ≡ laidMetadataLog (staying (termsOf g) (st .metadata)) → gone ≡ laidMetadataLog (expired (termsOf g) (st .metadata))
       → {x : Time} → x .0 ≡ orElse (st .own) (g .terms .«clock_ms» .0)
-      → _≡_ {A = Answer} (record { number = 0; place = 0; metadata = record { fields = updated x (p .held .builder .fields); snapshots = p .held .snapshots; refs = p .held .refs; «snapshot_log» = y .log; «metadata_log» = stay; schemas = p .held .schemas; «sort_orders» = p .held .orders }; changes = record { items = p .changes .entries; count = p .changes .count }; expired = gone })
+      → _≡_ {A = Answer} (record { number = 0; place = 0; metadata = record { fields = updated x (p .held .builder .fields); snapshots = p .held .snapshots; refs = p .held .refs; «snapshot_log» = y .log; «metadata_log» = stay; schemas = p .held .shelf .schemas; «sort_orders» = p .held .shelf .orders; statistics = p .held .shelf .statistics; «partition_statistics» = p .held .shelf .partitionStatistics }; changes = record { items = p .changes .entries; count = p .changes .count }; expired = gone })
       (laidOutcome (g .metadata) (close (termsOf g) place (st .log) st))
   unfolding laidOutcome closed laidMetadata laidFields laidUpdates
   close-accepted place e {y} Y S G {x} u =
       let T = E .tables in
       let F : updated x (p .held .builder .fields) ≡ updated (record { 0 = orElse (st .own) (g .terms .«clock_ms» .0) }) (laidFields (st .metadata .fields)) = λ i. updated (record { 0 = u i }) (fields-laid i) in
-      (λ i. record { number = 0; place = 0; metadata = record { fields = F i; snapshots = T .snapshots i; refs = T .refs i; «snapshot_log» = Y .log i; «metadata_log» = S i; schemas = T .schemas i; «sort_orders» = T .orders i }; changes = record { items = E .logs .entries i; count = E .logs .count i }; expired = G i })
+      (λ i. record { number = 0; place = 0; metadata = record { fields = F i; snapshots = T .snapshots i; refs = T .refs i; «snapshot_log» = Y .log i; «metadata_log» = S i; schemas = T .shelf .schemas i; «sort_orders» = T .shelf .orders i; statistics = T .shelf .statistics i; «partition_statistics» = T .shelf .partitionStatistics i }; changes = record { items = E .logs .entries i; count = E .logs .count i }; expired = G i })
       ∙ ap (laidOutcome (g .metadata)) (sym (accepts e place))
 
   -- the parts that are lent

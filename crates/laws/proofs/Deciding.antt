@@ -11,25 +11,27 @@ use borrow.Table.Steps.{cases}
 use Rattle.records.specs.declared.reference.Refs.{Refs}
 use Rattle.records.specs.declared.schema.Schemas.{Schemas}
 use Rattle.records.specs.declared.«sort_order».SortOrders.{SortOrders}
+use Rattle.records.specs.declared.statistics.StatisticsFiles.{StatisticsFiles}
 use Rattle.rules.specs.Words.{isIn, isEmpty, isSome, keep, first, put}
 use Rattle.rules.specs.Names.{isMain}
 use Rattle.rules.specs.Register as plain
-use Rattle.rules.specs.Register.{Update, State}
+use Rattle.rules.specs.Register.{StatisticsTable, Update, State, statisticsOf}
+use Rattle.rules.specs.Register.StatisticsTable.{Statistics, PartitionStatistics}
 use Rattle.rules.specs.Register.Update.{RemoveRef, RemoveSchemas}
 use Rattle.rules.specs.WellFormed.{updateFormed, schemaBelow, orderBelow}
 use Rattle.rules.specs.RefUpdates.{hasName, refNamed, removeRef}
 use Rattle.rules.specs.SchemaUpdates.{removeSchemas}
 use Rattle.rules.specs.Updates.{effect}
 use Rattle.rules.specs.Run.{weight}
-use Rattle.rules.specs.Layout.{readRefs, laidRefs, readSchema, readSchemas, laidSchemas, readSortOrder, readSortOrders, laidSortOrders}
+use Rattle.rules.specs.Layout.{readRefs, laidRefs, readSchema, readSchemas, laidSchemas, readSortOrder, readSortOrders, laidSortOrders, laidStatistics}
 use Rattle.rules.specs.Kinds.{readUpdates}
 use Rattle.rules.proofs.Checks.{by-test}
 use Rattle.builder.specs.declared.decision.Decision.{Decision}
 use Rattle.builder.specs.Pieces.{laidBuilder}
 use Rattle.builder.specs.Answers.{AnswersUpdate}
-use Rattle.laws.specs.Standing.{Given, termsOf, Pieces, Represents, Standing}
+use Rattle.laws.specs.Standing.{Given, termsOf, Shelf, onShelf, Shelved, Pieces, Represents, Standing}
 use Rattle.laws.specs.Turns.{Stands, Decided}
-use Rattle.laws.proofs.Effects.{group, Aside, aside}
+use Rattle.laws.proofs.Effects.{group, statisticsGroup, Aside, aside}
 use Rattle.laws.proofs.Logged.{push-quiet}
 use Rattle.laws.proofs.Moving.{fits, next, not-formed-refused, check-refused, accepted}
 use Rattle.laws.proofs.Beginning.{read-refs, read-schemas, read-orders}
@@ -38,13 +40,24 @@ use Rattle.laws.proofs.Beginning.{read-refs, read-schemas, read-orders}
 pub whole : {g : Given} {i : ℕ} {p : Pieces} → Standing g i p → Stands g i false p
 whole S = record { whole = λ e. S; midway = λ e. absurd (false≢true e); commit = λ e. absurd (false≢true e) }
 
--- the pieces with other refs, schemas and orders
-abbrev pub tabled : Refs → Schemas → SortOrders → Pieces → Pieces
-tabled r s o p =
+-- the pieces with other refs and another shelf
+abbrev pub tabled : Refs → Shelf → Pieces → Pieces
+tabled r s p =
     record {
-      held = record { builder = p .held .builder; snapshots = p .held .snapshots; ids = p .held .ids; refs = r; log = p .held .log; last = p .held .last; schemas = s; orders = o };
+      held = record { builder = p .held .builder; snapshots = p .held .snapshots; ids = p .held .ids; refs = r; log = p .held .log; last = p .held .last; shelf = s };
       changes = p .changes;
     }
+
+-- the shelf with one other table
+abbrev pub withSchemas : Schemas → Shelf → Shelf
+withSchemas t s = record { schemas = t; orders = s .orders; statistics = s .statistics; partitionStatistics = s .partitionStatistics }
+
+abbrev pub withOrders : SortOrders → Shelf → Shelf
+withOrders t s = record { schemas = s .schemas; orders = t; statistics = s .statistics; partitionStatistics = s .partitionStatistics }
+
+abbrev pub withFiles : StatisticsTable → StatisticsFiles → Shelf → Shelf
+withFiles Statistics t s = record { schemas = s .schemas; orders = s .orders; statistics = t; partitionStatistics = s .partitionStatistics }
+withFiles PartitionStatistics t s = record { schemas = s .schemas; orders = s .orders; statistics = s .statistics; partitionStatistics = t }
 
 module _ {g : Given} {i : ℕ} {p : Pieces} (S : Standing g i p) (v : Update) (at : drop i (readUpdates (g .updates)) ≡ v ∷ drop (i + 1) (readUpdates (g .updates))) (one : 1 ≤ weight v) where
   -- an entry has room
@@ -69,8 +82,8 @@ module _ {g : Given} {i : ℕ} {p : Pieces} (S : Standing g i p) (v : Update) (a
     Q : Aside (group v) (S .state) after
     Q = aside (termsOf g) v (S .state) n
 
-    quiet : (r : Refs) (s : Schemas) (o : SortOrders) → (d .number ≡ 0 → r ≡ laidRefs (after .metadata .refs)) → (d .number ≡ 0 → s ≡ laidSchemas (after .metadata .schemas)) → (d .number ≡ 0 → o ≡ laidSortOrders (after .metadata .orders)) → Decided g i false (tabled r s o p) d
-    quiet r s o x y w =
+    quiet : (r : Refs) (h : Shelf) → (d .number ≡ 0 → r ≡ laidRefs (after .metadata .refs)) → (d .number ≡ 0 → Shelved (onShelf (after .metadata)) h) → Decided g i false (tabled r h p) d
+    quiet r h x y =
         let T = S .stands .tables in
         record {
           refuses = λ z. check-refused S v at e (A .0) z;
@@ -78,35 +91,45 @@ module _ {g : Given} {i : ℕ} {p : Pieces} (S : Standing g i p) (v : Update) (a
           logs = λ z t.
               let k = A .1 z .took t in
               whole (next S v at (accepted S v at e (A .0) z)
-              (record { builder = k .builder; snapshots = rw (Q .snapshots) (T .snapshots); ids = rw (Q .snapshots) (T .ids); refs = x z; log = rw (Q .log) (T .log); last = rw (Q .log) (T .last); schemas = y z; orders = w z })
+              (record { builder = k .builder; snapshots = rw (Q .same .snapshots) (T .snapshots); ids = rw (Q .same .snapshots) (T .ids); refs = x z; log = rw (Q .same .log) (T .log); last = rw (Q .same .log) (T .last); shelf = y z })
               (rw (k .log) (push-quiet (S .stands .logs) (omega (arith, fits S v at)) (k .update) (k .laid) (Q .quiet (k .update) (k .log)))));
           stays = λ z t.
               let k : after ≡ S .state = A .1 z .left t in
               whole (next S v at (accepted S v at e (A .0) z)
-              (record { builder = T .builder ∙ ap laidBuilder (sym k); snapshots = rw (Q .snapshots) (T .snapshots); ids = rw (Q .snapshots) (T .ids); refs = x z; log = rw (Q .log) (T .log); last = rw (Q .log) (T .last); schemas = y z; orders = w z })
+              (record { builder = T .builder ∙ ap laidBuilder (sym k); snapshots = rw (Q .same .snapshots) (T .snapshots); ids = rw (Q .same .snapshots) (T .ids); refs = x z; log = rw (Q .same .log) (T .log); last = rw (Q .same .log) (T .last); shelf = y z })
               (rw k (S .stands .logs)));
         }
 
     same-refs : eqb (group v) 4 ≡ false → p .held .refs ≡ laidRefs (after .metadata .refs)
-    same-refs f = S .stands .tables .refs ∙ ap laidRefs (sym (Q .refs f))
+    same-refs f = S .stands .tables .refs ∙ ap laidRefs (sym (Q .same .refs f))
 
-    same-schemas : eqb (group v) 2 ≡ false → p .held .schemas ≡ laidSchemas (after .metadata .schemas)
-    same-schemas f = S .stands .tables .schemas ∙ ap laidSchemas (sym (Q .schemas f))
+    same-schemas : eqb (group v) 2 ≡ false → p .held .shelf .schemas ≡ laidSchemas (after .metadata .schemas)
+    same-schemas f = S .stands .tables .shelf .schemas ∙ ap laidSchemas (sym (Q .same .schemas f))
 
-    same-orders : eqb (group v) 3 ≡ false → p .held .orders ≡ laidSortOrders (after .metadata .orders)
-    same-orders f = S .stands .tables .orders ∙ ap laidSortOrders (sym (Q .orders f))
+    same-orders : eqb (group v) 3 ≡ false → p .held .shelf .orders ≡ laidSortOrders (after .metadata .orders)
+    same-orders f = S .stands .tables .shelf .orders ∙ ap laidSortOrders (sym (Q .same .orders f))
 
-    pub fields-decided : group v ≡ 1 → Decided g i false (tabled (p .held .refs) (p .held .schemas) (p .held .orders) p) d
-    fields-decided k = quiet (p .held .refs) (p .held .schemas) (p .held .orders) (λ z. same-refs (rw k)) (λ z. same-schemas (rw k)) (λ z. same-orders (rw k))
+    same-statistics : eqb (group v) 5 ≡ false → p .held .shelf .statistics ≡ laidStatistics (after .metadata .statistics)
+    same-statistics f = S .stands .tables .shelf .statistics ∙ ap laidStatistics (sym (Q .same .statistics f))
 
-    pub refs-decided : group v ≡ 4 → {r : Refs} → (d .number ≡ 0 → r ≡ laidRefs (effect (termsOf g) v (S .state) .metadata .refs)) → Decided g i false (tabled r (p .held .schemas) (p .held .orders) p) d
-    refs-decided k {r} x = quiet r (p .held .schemas) (p .held .orders) x (λ z. same-schemas (rw k)) (λ z. same-orders (rw k))
+    same-partition-statistics : eqb (group v) 6 ≡ false → p .held .shelf .partitionStatistics ≡ laidStatistics (after .metadata .partitionStatistics)
+    same-partition-statistics f = S .stands .tables .shelf .partitionStatistics ∙ ap laidStatistics (sym (Q .same .partitionStatistics f))
 
-    pub schemas-decided : group v ≡ 2 → {s : Schemas} → (d .number ≡ 0 → s ≡ laidSchemas (effect (termsOf g) v (S .state) .metadata .schemas)) → Decided g i false (tabled (p .held .refs) s (p .held .orders) p) d
-    schemas-decided k {s} x = quiet (p .held .refs) s (p .held .orders) (λ z. same-refs (rw k)) x (λ z. same-orders (rw k))
+    pub fields-decided : group v ≡ 1 → Decided g i false (tabled (p .held .refs) (p .held .shelf) p) d
+    fields-decided k = quiet (p .held .refs) (p .held .shelf) (λ z. same-refs (rw k)) (λ z. record { schemas = same-schemas (rw k); orders = same-orders (rw k); statistics = same-statistics (rw k); partitionStatistics = same-partition-statistics (rw k) })
 
-    pub orders-decided : group v ≡ 3 → {o : SortOrders} → (d .number ≡ 0 → o ≡ laidSortOrders (effect (termsOf g) v (S .state) .metadata .orders)) → Decided g i false (tabled (p .held .refs) (p .held .schemas) o p) d
-    orders-decided k {o} x = quiet (p .held .refs) (p .held .schemas) o (λ z. same-refs (rw k)) (λ z. same-schemas (rw k)) x
+    pub refs-decided : group v ≡ 4 → {r : Refs} → (d .number ≡ 0 → r ≡ laidRefs (effect (termsOf g) v (S .state) .metadata .refs)) → Decided g i false (tabled r (p .held .shelf) p) d
+    refs-decided k {r} x = quiet r (p .held .shelf) x (λ z. record { schemas = same-schemas (rw k); orders = same-orders (rw k); statistics = same-statistics (rw k); partitionStatistics = same-partition-statistics (rw k) })
+
+    pub schemas-decided : group v ≡ 2 → {s : Schemas} → (d .number ≡ 0 → s ≡ laidSchemas (effect (termsOf g) v (S .state) .metadata .schemas)) → Decided g i false (tabled (p .held .refs) (withSchemas s (p .held .shelf)) p) d
+    schemas-decided k {s} x = quiet (p .held .refs) (withSchemas s (p .held .shelf)) (λ z. same-refs (rw k)) (λ z. record { schemas = x z; orders = same-orders (rw k); statistics = same-statistics (rw k); partitionStatistics = same-partition-statistics (rw k) })
+
+    pub orders-decided : group v ≡ 3 → {o : SortOrders} → (d .number ≡ 0 → o ≡ laidSortOrders (effect (termsOf g) v (S .state) .metadata .orders)) → Decided g i false (tabled (p .held .refs) (withOrders o (p .held .shelf)) p) d
+    orders-decided k {o} x = quiet (p .held .refs) (withOrders o (p .held .shelf)) (λ z. same-refs (rw k)) (λ z. record { schemas = same-schemas (rw k); orders = x z; statistics = same-statistics (rw k); partitionStatistics = same-partition-statistics (rw k) })
+
+    pub statistics-decided : (which : StatisticsTable) → group v ≡ statisticsGroup which → {t : StatisticsFiles} → (d .number ≡ 0 → t ≡ laidStatistics (statisticsOf which (effect (termsOf g) v (S .state) .metadata))) → Decided g i false (tabled (p .held .refs) (withFiles which t (p .held .shelf)) p) d
+    statistics-decided Statistics k {t} x = quiet (p .held .refs) (withFiles Statistics t (p .held .shelf)) (λ z. same-refs (rw k)) (λ z. record { schemas = same-schemas (rw k); orders = same-orders (rw k); statistics = x z; partitionStatistics = same-partition-statistics (rw k) })
+    statistics-decided PartitionStatistics k {t} x = quiet (p .held .refs) (withFiles PartitionStatistics t (p .held .shelf)) (λ z. same-refs (rw k)) (λ z. record { schemas = same-schemas (rw k); orders = same-orders (rw k); statistics = same-statistics (rw k); partitionStatistics = x z })
 
 -- ---- the tables after a removal and after an addition
 
@@ -126,7 +149,7 @@ module _ {g : Given} {st : State} {p : Pieces} (E : Represents g st p) where
       (by-test (λ (s : State). keep (λ x. not (hasName name x)) (st .metadata .refs) ≡ s .metadata .refs) (isMain name) (λ t. refl)
       (λ f. by-test (λ (s : State). keep (λ x. not (hasName name x)) (st .metadata .refs) ≡ s .metadata .refs) (isSome (refNamed name (st .metadata .refs))) (λ t. refl) (λ u. none-passes (hasName name) (st .metadata .refs) u))))
 
-  pub schemas-left : (v : Update) (ids : List ℤ) → v ≡ RemoveSchemas ids → {s : Schemas} → s ≡ laidSchemas (keep (λ (x : plain.Schema). not (isIn ids (x .id))) (readSchemas (p .held .schemas))) → s ≡ laidSchemas (effect (termsOf g) v st .metadata .schemas)
+  pub schemas-left : (v : Update) (ids : List ℤ) → v ≡ RemoveSchemas ids → {s : Schemas} → s ≡ laidSchemas (keep (λ (x : plain.Schema). not (isIn ids (x .id))) (readSchemas (p .held .shelf .schemas))) → s ≡ laidSchemas (effect (termsOf g) v st .metadata .schemas)
   unfolding effect removeSchemas
   schemas-left v ids w q =
       q ∙ rw (read-schemas E, w) (ap laidSchemas
@@ -136,10 +159,10 @@ module _ {g : Given} {st : State} {p : Pieces} (E : Represents g st p) where
       none-in [] x e = refl
       none-in (y ∷ l) x e = absurd (false≢true e)
 
-  pub schemas-grown : (d : Decision) {s : Schemas} {l : List plain.Schema} → s ≡ cond (d .grows) (laidSchemas (put schemaBelow (readSchema (d .entry .schema)) (readSchemas (p .held .schemas)))) (p .held .schemas)
+  pub schemas-grown : (d : Decision) {s : Schemas} {l : List plain.Schema} → s ≡ cond (d .grows) (laidSchemas (put schemaBelow (readSchema (d .entry .schema)) (readSchemas (p .held .shelf .schemas)))) (p .held .shelf .schemas)
       → l ≡ cond (d .grows) (put schemaBelow (readSchema (d .entry .schema)) (st .metadata .schemas)) (st .metadata .schemas) → s ≡ laidSchemas l
-  schemas-grown d q e = q ∙ rw e (cases (d .grows) (λ t. rw (t, read-schemas E)) (λ f. rw f (E .tables .schemas)))
+  schemas-grown d q e = q ∙ rw e (cases (d .grows) (λ t. rw (t, read-schemas E)) (λ f. rw f (E .tables .shelf .schemas)))
 
-  pub orders-grown : (d : Decision) {o : SortOrders} {l : List plain.SortOrder} → o ≡ cond (d .grows) (laidSortOrders (put orderBelow (readSortOrder (d .entry .«sort_order»)) (readSortOrders (p .held .orders)))) (p .held .orders)
+  pub orders-grown : (d : Decision) {o : SortOrders} {l : List plain.SortOrder} → o ≡ cond (d .grows) (laidSortOrders (put orderBelow (readSortOrder (d .entry .«sort_order»)) (readSortOrders (p .held .shelf .orders)))) (p .held .shelf .orders)
       → l ≡ cond (d .grows) (put orderBelow (readSortOrder (d .entry .«sort_order»)) (st .metadata .orders)) (st .metadata .orders) → o ≡ laidSortOrders l
-  orders-grown d q e = q ∙ rw e (cases (d .grows) (λ t. rw (t, read-orders E)) (λ f. rw f (E .tables .orders)))
+  orders-grown d q e = q ∙ rw e (cases (d .grows) (λ t. rw (t, read-orders E)) (λ f. rw f (E .tables .shelf .orders)))

@@ -12,7 +12,7 @@ use Rattle.records.specs.declared.update.TableUpdate.{TableUpdate}
 use Rattle.rules.specs.Words.{any, collect, eqZ}
 use Rattle.rules.specs.Names.{isMain}
 use Rattle.rules.specs.Register.{Snapshot, Reference, Update}
-use Rattle.rules.specs.Register.Update.{AssignUuid, UpgradeFormatVersion, SetLocation, AddSnapshot, SetBranchSnapshot, RemoveSnapshots, SetRef, RemoveRef, AddSchema, SetCurrentSchema, RemoveSchemas, AddSortOrder, SetDefaultSortOrder, NotFormed}
+use Rattle.rules.specs.Register.Update.{AssignUuid, UpgradeFormatVersion, SetLocation, AddSnapshot, SetBranchSnapshot, RemoveSnapshots, SetRef, RemoveRef, AddSchema, SetCurrentSchema, RemoveSchemas, AddSortOrder, SetDefaultSortOrder, SetStatistics, RemoveStatistics, NotFormed}
 use Rattle.rules.specs.ChangeLog.{isAddition, logsAddition, mainTarget, logsMain, isSnapshotRemoval, logsRemoval}
 use Rattle.rules.specs.Layout.{pad}
 use Rattle.rules.specs.Kinds.{laidUpdate}
@@ -119,6 +119,8 @@ adds-it id (SetCurrentSchema c) = refl
 adds-it id (RemoveSchemas ids) = refl
 adds-it id (AddSortOrder o) = refl
 adds-it id (SetDefaultSortOrder c) = refl
+adds-it id (SetStatistics which f) = refl
+adds-it id (RemoveStatistics which c) = refl
 adds-it id (NotFormed counts) = refl
 
 any-collected : (id : ℤ) (l : List Update) → any (λ x. eqZ x id) (collect addition l) ≡ any (isAddition id) l

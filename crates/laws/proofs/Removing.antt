@@ -50,7 +50,7 @@ or-nothing false = refl
 abbrev pub removed : Snapshots → List ℤ → Refs → Bool → Pieces → Pieces
 removed t is r b p =
     record {
-      held = record { builder = p .held .builder; snapshots = t; ids = is; refs = r; log = p .held .log; last = p .held .last; schemas = p .held .schemas; orders = p .held .orders };
+      held = record { builder = p .held .builder; snapshots = t; ids = is; refs = r; log = p .held .log; last = p .held .last; shelf = p .held .shelf };
       changes = withRemoval b (p .changes);
     }
 
@@ -93,8 +93,8 @@ module _ {g : Given} {i : ℕ} {p : Pieces} (S : Standing g i p) (v : Update) (a
       z ∙ rw (lent left kt ki, read-refs E) (ap (λ (q : plain.NamedRef → Bool). laidRefs (keep q (S .state .metadata .refs))) (λ i y. in-held left (y .reference .snapshot) i)) in
       rw w
       (by-test (λ (s : State). Tables s (removed t is r b p .held)) (isEmpty (heldSnapshots xs (S .state .metadata .snapshots)))
-      (λ k. record { builder = T .builder; snapshots = kt; ids = ki; refs = kr; log = T .log; last = T .last; schemas = T .schemas; orders = T .orders })
-      (λ k. record { builder = T .builder; snapshots = kt; ids = ki; refs = kr; log = T .log; last = T .last; schemas = T .schemas; orders = T .orders }))
+      (λ k. record { builder = T .builder; snapshots = kt; ids = ki; refs = kr; log = T .log; last = T .last; shelf = T .shelf })
+      (λ k. record { builder = T .builder; snapshots = kt; ids = ki; refs = kr; log = T .log; last = T .last; shelf = T .shelf }))
 
   pub removed-decided : {d : Decision} → SnapshotsGone xs (S .state) d → {t : Snapshots} {is : List ℤ} {r : Refs} → t ≡ laidSnapshots (otherSnapshots xs (readSnapshots (p .held .snapshots))) → is ≡ pad 64 (pos 0) (idsOf (readSnapshots t)) → r ≡ laidRefs (keep (λ y. isIn (take (t .count) is) (y .reference .snapshot)) (readRefs (p .held .refs)))
       → Decided g i false (removed t is r (d .logs) p) d
@@ -108,7 +108,7 @@ module _ {g : Given} {i : ℕ} {p : Pieces} (S : Standing g i p) (v : Update) (a
         logs = λ _ q.
             let k : isEmpty (heldSnapshots xs (S .state .metadata .snapshots)) ≡ false = not-true (isEmpty (heldSnapshots xs (S .state .metadata .snapshots))) (sym (D .logs) ∙ q) in
             whole (next S v at a
-            (record { builder = D .builder ∙ rw (w, k); snapshots = T .snapshots; ids = T .ids; refs = T .refs; log = T .log; last = T .last; schemas = T .schemas; orders = T .orders })
+            (record { builder = D .builder ∙ rw (w, k); snapshots = T .snapshots; ids = T .ids; refs = T .refs; log = T .log; last = T .last; shelf = T .shelf })
             (rw (w, k, q) (push-removal (S .stands .logs) (omega (arith, fits S v at)) (heldSnapshots xs (S .state .metadata .snapshots)) (D .entry))));
         stays = λ _ q.
             let k : isEmpty (heldSnapshots xs (S .state .metadata .snapshots)) ≡ true = not-false (isEmpty (heldSnapshots xs (S .state .metadata .snapshots))) (sym (D .logs) ∙ q) in

@@ -117,7 +117,7 @@ set-decides {g} {i} W {b} {t} {held} {isAdded} {time} {entries} {clock} {d} R F 
 abbrev pub mained : Refs → SnapshotLog → Time → ℤ → Pieces → Pieces
 mained r h last id p =
     record {
-      held = record { builder = p .held .builder; snapshots = p .held .snapshots; ids = p .held .ids; refs = r; log = h; last = last; schemas = p .held .schemas; orders = p .held .orders };
+      held = record { builder = p .held .builder; snapshots = p .held .snapshots; ids = p .held .ids; refs = r; log = h; last = last; shelf = p .held .shelf };
       changes = withMain id (p .changes);
     }
 
@@ -159,7 +159,7 @@ module _ {g : Given} {i : ℕ} {p : Pieces} (W : Midway g i p) {d : Decision} (D
         let m : readReference (d .entry .reference) ≡ w = ap (λ (e : TableUpdate). readReference (e .reference)) (D .entry) ∙ reread-reference w in
         q ∙ rw (t, n, m, read-refs (W .stands))
 
-    pub other-decided : (d .grows && isMain name) ≡ false → Decided g i false (tabled r (p .held .schemas) (p .held .orders) p) d
+    pub other-decided : (d .grows && isMain name) ≡ false → Decided g i false (tabled r (p .held .shelf) p) d
     unfolding setRefChecks setRef
     other-decided m =
         let T = W .stands .tables in
@@ -170,12 +170,12 @@ module _ {g : Given} {i : ℕ} {p : Pieces} (W : Midway g i p) {d : Decision} (D
               let y = other t in
               let f : isMain name ≡ false = rw (grows z t) at m in
               whole (W .goes (fine z)
-              (record { builder = D .builder z t; snapshots = rw (y, f) (T .snapshots); ids = rw (y, f) (T .ids); refs = rw (y, f) (refs-after (grows z t)); log = rw (y, f) (T .log); last = rw (y, f) (T .last); schemas = rw (y, f) (T .schemas); orders = rw (y, f) (T .orders) })
+              (record { builder = D .builder z t; snapshots = rw (y, f) (T .snapshots); ids = rw (y, f) (T .ids); refs = rw (y, f) (refs-after (grows z t)); log = rw (y, f) (T .log); last = rw (y, f) (T .last); shelf = rw (y, f) (T .shelf) })
               (rw (y, f) (push-quiet (W .stands .logs) (W .more) (SetRef name w) (D .entry) (record { adds = refl; sets = rw f; removes = refl }))));
           stays = λ z f.
               let y : isHeldRef name w (W .state .metadata .refs) ≡ true = not-false (isHeldRef name w (W .state .metadata .refs)) (sym (D .logs) ∙ f) in
               let k : d .grows ≡ false = D .grows ∙ rw f in
-              whole (W .goes (fine z) (rw y (record { builder = T .builder; snapshots = T .snapshots; ids = T .ids; refs = q ∙ rw k (T .refs); log = T .log; last = T .last; schemas = T .schemas; orders = T .orders })) (rw y (W .stands .logs)));
+              whole (W .goes (fine z) (rw y (record { builder = T .builder; snapshots = T .snapshots; ids = T .ids; refs = q ∙ rw k (T .refs); log = T .log; last = T .last; shelf = T .shelf })) (rw y (W .stands .logs)));
         }
 
     module _ (t : d .grows ≡ true) (m : isMain name ≡ true) where
@@ -211,7 +211,7 @@ module _ {g : Given} {i : ℕ} {p : Pieces} (W : Midway g i p) {d : Decision} (D
             room = λ z. room;
             logs = λ z f.
                 whole (W .goes (fine z)
-                (record { builder = D .builder z f; snapshots = rw (y, m) (T .snapshots); ids = rw (y, m) (T .ids); refs = rw (y, m) (refs-after t); log = rw (y, m) longer; last = rw (y, m) last; schemas = rw (y, m) (T .schemas); orders = rw (y, m) (T .orders) })
+                (record { builder = D .builder z f; snapshots = rw (y, m) (T .snapshots); ids = rw (y, m) (T .ids); refs = rw (y, m) (refs-after t); log = rw (y, m) longer; last = rw (y, m) last; shelf = rw (y, m) (T .shelf) })
                 (rw (y, m, v) (push-main (W .stands .logs) (W .more) name w (D .entry) m)));
             stays = λ z f. absurd (true≢false (sym (accepts .0) ∙ f));
           }

@@ -14,7 +14,7 @@ use Rattle.records.specs.declared.update.TableUpdate.{TableUpdate}
 use Rattle.rules.specs.Capacities.{removalRoom, refNameRoom}
 use Rattle.rules.specs.Register as plain
 use Rattle.rules.specs.WellFormed.{updateFormed, removalFormed, refNameFormed}
-use Rattle.rules.specs.Blanks.{isTidyLocation, isTidySnapshot, isTidySnapshotIds, isBlankSnapshotId, isTidyRefName, isTidyReference, isTidySchema, isTidySchemaIds, isTidySortOrder}
+use Rattle.rules.specs.Blanks.{isTidyLocation, isTidySnapshot, isTidySnapshotIds, isBlankSnapshotId, isTidyRefName, isTidyReference, isTidySchema, isTidySchemaIds, isTidySortOrder, isTidyStatisticsFile}
 use Rattle.rules.specs.Layout.{readRefName, readSnapshot, laidSnapshot, readReference, laidReference, readSnapshotIds, laidSnapshotIds}
 use Rattle.rules.specs.Kinds.{readUpdate, isUnusedBlank, isUsedTidy, setBranchSnapshotKind, removeSnapshotsKind, setRefKind, removeRefKind, removeSchemasKind}
 use Rattle.rules.proofs.Checks.{Hold, parts, and-left, and-right}
@@ -38,7 +38,7 @@ name-laid t e f = let n = leb-true (length (readRefName t)) refNameRoom f in rec
 
 module _ (u : TableUpdate) (f : updateFormed (readUpdate u) ≡ true) where
   abbrev uses : List Bool
-  uses = isTidySnapshot (u .snapshot) ∷ isTidySnapshotIds (u .«snapshot_ids») ∷ isTidyRefName (u .«ref_name») ∷ isTidyReference (u .reference) ∷ isTidySchema (u .schema) ∷ isTidySchemaIds (u .«schema_ids») ∷ isTidySortOrder (u .«sort_order») ∷ []
+  uses = isTidySnapshot (u .snapshot) ∷ isTidySnapshotIds (u .«snapshot_ids») ∷ isTidyRefName (u .«ref_name») ∷ isTidyReference (u .reference) ∷ isTidySchema (u .schema) ∷ isTidySchemaIds (u .«schema_ids») ∷ isTidySortOrder (u .«sort_order») ∷ isTidyStatisticsFile (u .statistics) ∷ []
 
   used : Hold (isTidyLocation (u .location) ∷ uses)
   unfolding isUsedTidy

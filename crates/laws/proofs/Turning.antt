@@ -5,13 +5,14 @@ use mathlib.Core.Path.{_≡_, sym, ap, _∙_}
 use mathlib.Core.Bool.{Bool, true, false, cond, true≢false, false≢true}
 use borrow.Table.Steps.{cases}
 use Rattle.records.specs.declared.update.TableUpdate.{TableUpdate}
+use Rattle.rules.specs.Register.{StatisticsTable}
 use Rattle.rules.specs.WellFormed.{updateFormed}
-use Rattle.rules.specs.Kinds.{readKind, readUpdate, assignUuidKind, upgradeFormatVersionKind, setLocationKind, setBranchSnapshotKind, removeRefKind, addSchemaKind, setCurrentSchemaKind, removeSchemasKind, addSortOrderKind, setDefaultSortOrderKind}
+use Rattle.rules.specs.Kinds.{readKind, readUpdate, assignUuidKind, upgradeFormatVersionKind, setLocationKind, setBranchSnapshotKind, removeRefKind, addSchemaKind, setCurrentSchemaKind, removeSchemasKind, addSortOrderKind, setDefaultSortOrderKind, settingKind, removingKind}
 use Rattle.builder.specs.declared.decision.Decision.{Decision}
-use Rattle.start.proofs.Reading.{formed-tidy, read-tidy}
+use Rattle.start.proofs.Reading.{formed-tidy, read-tidy, read-set-statistics, read-remove-statistics}
 use Rattle.laws.specs.Standing.{Given, Pieces, Standing}
 use Rattle.laws.specs.Turns.{updateAt, Stands, Decided, Turn}
-use Rattle.laws.proofs.Effects.{group}
+use Rattle.laws.proofs.Effects.{group, statisticsGroup}
 
 module _ {g : Given} {place : ℕ} {half : Bool} {p : Pieces} where
   -- only a branch commit can be half done
@@ -75,3 +76,9 @@ module _ (u : TableUpdate) (f : updateFormed (readUpdate u) ≡ true) where
 
   pub is-order-choice : u .kind ≡ setDefaultSortOrderKind → group (readUpdate u) ≡ 1
   is-order-choice e = ap group read ∙ rw e
+
+  pub is-statistics-setting : (which : StatisticsTable) → u .kind ≡ settingKind which → group (readUpdate u) ≡ statisticsGroup which
+  is-statistics-setting which e = ap group (read-set-statistics u f which e)
+
+  pub is-statistics-removal : (which : StatisticsTable) → u .kind ≡ removingKind which → group (readUpdate u) ≡ statisticsGroup which
+  is-statistics-removal which e = ap group (read-remove-statistics u f which e)

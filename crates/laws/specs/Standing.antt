@@ -14,15 +14,18 @@ use Rattle.records.specs.declared.snapshot.SnapshotLog.{SnapshotLog}
 use Rattle.records.specs.declared.reference.Refs.{Refs}
 use Rattle.records.specs.declared.schema.Schemas.{Schemas}
 use Rattle.records.specs.declared.«sort_order».SortOrders.{SortOrders}
+use Rattle.records.specs.declared.statistics.StatisticsFiles.{StatisticsFiles}
 use Rattle.records.specs.declared.update.TableUpdate.{TableUpdate}
 use Rattle.records.specs.declared.update.UpdateList.{UpdateList}
 use Rattle.records.specs.declared.run.RunTerms.{RunTerms}
 use Rattle.records.specs.declared.run.Answer.{Answer}
 use Rattle.rules.specs.Words.{total}
-use Rattle.rules.specs.Register.{Update, Terms, State}
+use Rattle.rules.specs.Register as plain
+use Rattle.rules.specs.Register.{StatisticsTable, Metadata, Update, Terms, State}
+use Rattle.rules.specs.Register.StatisticsTable.{Statistics, PartitionStatistics}
 use Rattle.rules.specs.ChangeLog.{logsMain, logsRemoval}
 use Rattle.rules.specs.Run.{weight, runFrom, started}
-use Rattle.rules.specs.Layout.{given, pad, laidSnapshots, laidRefs, laidSnapshotLog, laidSchemas, laidSortOrders, readMetadata, readMetadataLog, laidMetadataLog}
+use Rattle.rules.specs.Layout.{given, pad, laidSnapshots, laidRefs, laidSnapshotLog, laidSchemas, laidSortOrders, laidStatistics, readMetadata, readMetadataLog, laidMetadataLog}
 use Rattle.rules.specs.Kinds.{readUpdates, laidUpdate}
 use Rattle.rules.specs.Answer.{readTerms, answer}
 use Rattle.rules.proofs.Sound.{Sound}
@@ -47,6 +50,17 @@ termsOf g = readTerms (g .terms) (g .text)
 abbrev pub answerOf : Given → Answer
 answerOf g = answer (g .metadata) (g .updates) (g .terms) (g .text)
 
+-- the tables that nothing but their own updates changes
+pub record Shelf : Type 0 where
+  pub schemas : Schemas
+  pub orders : SortOrders
+  pub statistics : StatisticsFiles
+  pub partitionStatistics : StatisticsFiles
+
+abbrev pub filesOf : StatisticsTable → Shelf → StatisticsFiles
+filesOf Statistics s = s .statistics
+filesOf PartitionStatistics s = s .partitionStatistics
+
 -- the builder and the tables; the ids of the snapshots and the time of the last log entry stand beside them, as they are read often
 pub record Held : Type 0 where
   pub builder : TableMetadataBuilder
@@ -55,8 +69,7 @@ pub record Held : Type 0 where
   pub refs : Refs
   pub log : SnapshotLog
   pub last : Time
-  pub schemas : Schemas
-  pub orders : SortOrders
+  pub shelf : Shelf
 
 -- the change log as slots and a count, and the three facts that are read of it: the ids that it adds, the snapshots to which it sets `main`,
 -- and whether it removes snapshots
@@ -89,13 +102,30 @@ withRemoval b c = record { entries = c .entries; count = c .count; added = c .ad
 
 -- the tables with another builder
 abbrev pub withBuilder : TableMetadataBuilder → Held → Held
-withBuilder b h = record { builder = b; snapshots = h .snapshots; ids = h .ids; refs = h .refs; log = h .log; last = h .last; schemas = h .schemas; orders = h .orders }
+withBuilder b h = record { builder = b; snapshots = h .snapshots; ids = h .ids; refs = h .refs; log = h .log; last = h .last; shelf = h .shelf }
 
 -- the builder and the entry of a decision are stored
 abbrev pub stored : Decision → Pieces → Pieces
 stored d p = record { held = withBuilder (d .builder) (p .held); changes = entered (d .entry) (p .changes) }
 
 -- ---- the pieces of a state
+
+-- what of metadata stands on the shelf
+pub record OnShelf : Type 0 where
+  pub schemas : List plain.Schema
+  pub orders : List plain.SortOrder
+  pub statistics : List plain.StatisticsFile
+  pub partitionStatistics : List plain.StatisticsFile
+
+abbrev pub onShelf : Metadata → OnShelf
+onShelf m = record { schemas = m .schemas; orders = m .orders; statistics = m .statistics; partitionStatistics = m .partitionStatistics }
+
+-- the tables of the shelf are these, laid out
+pub record Shelved (m : OnShelf) (s : Shelf) : Type 0 where
+  pub schemas : s .schemas ≡ laidSchemas (m .schemas)
+  pub orders : s .orders ≡ laidSortOrders (m .orders)
+  pub statistics : s .statistics ≡ laidStatistics (m .statistics)
+  pub partitionStatistics : s .partitionStatistics ≡ laidStatistics (m .partitionStatistics)
 
 -- the builder and the tables are those of the state, laid out
 pub record Tables (st : State) (h : Held) : Type 0 where
@@ -105,8 +135,7 @@ pub record Tables (st : State) (h : Held) : Type 0 where
   pub refs : h .refs ≡ laidRefs (st .metadata .refs)
   pub log : h .log ≡ laidSnapshotLog (st .metadata .snapshotLog)
   pub last : given (ltb 0 (h .log .count)) (h .last .0) ≡ lastTime (st .metadata .snapshotLog)
-  pub schemas : h .schemas ≡ laidSchemas (st .metadata .schemas)
-  pub orders : h .orders ≡ laidSortOrders (st .metadata .orders)
+  pub shelf : Shelved (onShelf (st .metadata)) (h .shelf)
 
 -- the entries are those of the log, laid out, and the three facts are read of it
 pub record Logs (l : List Update) (c : Changes) : Type 0 where

@@ -21,7 +21,7 @@ use Rattle.laws.specs.Standing.{Given, answerOf, termsOf, Pieces, stored
 
 -- what the logic reads past the end of an array
 abbrev pub nothing : TableUpdate
-nothing = record { kind = 0; uuid = []; «format_version» = 0; location = record { bytes = []; len = 0 }; snapshot = noSnapshot; «snapshot_ids» = record { items = []; count = 0 }; «ref_name» = record { bytes = []; len = 0 }; reference = noReference; schema = record { «schema_id» = record { 0 = pos 0 }; items = []; count = 0 }; «schema_id» = record { 0 = pos 0 }; «schema_ids» = record { items = []; count = 0 }; «sort_order» = record { «order_id» = record { 0 = pos 0 }; items = []; count = 0 }; «sort_order_id» = record { 0 = pos 0 } }
+nothing = record { kind = 0; uuid = []; «format_version» = 0; location = record { bytes = []; len = 0 }; snapshot = noSnapshot; «snapshot_ids» = record { items = []; count = 0 }; «ref_name» = record { bytes = []; len = 0 }; reference = noReference; schema = record { «schema_id» = record { 0 = pos 0 }; items = []; count = 0 }; «schema_id» = record { 0 = pos 0 }; «schema_ids» = record { items = []; count = 0 }; «sort_order» = record { «order_id» = record { 0 = pos 0 }; items = []; count = 0 }; «sort_order_id» = record { 0 = pos 0 }; statistics = record { «snapshot_id» = record { 0 = pos 0 }; «statistics_path» = record { bytes = []; len = 0 }; «file_size_in_bytes» = record { 0 = pos 0 } }; «statistics_id» = record { 0 = pos 0 } }
 
 -- the update at a place
 abbrev pub updateAt : Given → ℕ → TableUpdate

@@ -9,6 +9,7 @@ pub mod reply;
 pub mod schema;
 pub mod snapshot;
 pub mod sort_order;
+pub mod statistics;
 pub mod table;
 pub mod text;
 pub mod time;

@@ -11,6 +11,7 @@ use crate::schema::say_schemas;
 use crate::snapshot::say_snapshot_log;
 use crate::snapshot::say_snapshots;
 use crate::sort_order::say_sort_orders;
+use crate::statistics::say_statistics;
 use crate::table::say_heading;
 use crate::table::say_left_out_line;
 use crate::text::say;
@@ -94,4 +95,11 @@ pub fn say_metadata(output: &mut Output, end: &mut usize, metadata: TableMetadat
     say_files(output, end, b"metadata log", metadata.metadata_log);
     say_schemas(output, end, metadata.schemas);
     say_sort_orders(output, end, metadata.sort_orders);
+    say_statistics(output, end, b"statistics", metadata.statistics);
+    say_statistics(
+        output,
+        end,
+        b"partition statistics",
+        metadata.partition_statistics,
+    );
 }

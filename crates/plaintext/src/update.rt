@@ -12,6 +12,7 @@ use crate::schema::say_schema_ids;
 use crate::snapshot::say_snapshot;
 use crate::snapshot::say_snapshot_ids;
 use crate::sort_order::say_sort_order;
+use crate::statistics::say_statistics_file;
 use crate::table::say_heading;
 use crate::table::say_left_out_line;
 use crate::text::say;
@@ -25,14 +26,18 @@ use records::update::ADD_SCHEMA;
 use records::update::ADD_SNAPSHOT;
 use records::update::ADD_SORT_ORDER;
 use records::update::ASSIGN_UUID;
+use records::update::REMOVE_PARTITION_STATISTICS;
 use records::update::REMOVE_REF;
 use records::update::REMOVE_SCHEMAS;
 use records::update::REMOVE_SNAPSHOTS;
+use records::update::REMOVE_STATISTICS;
 use records::update::SET_BRANCH_SNAPSHOT;
 use records::update::SET_CURRENT_SCHEMA;
 use records::update::SET_DEFAULT_SORT_ORDER;
 use records::update::SET_LOCATION;
+use records::update::SET_PARTITION_STATISTICS;
 use records::update::SET_REF;
+use records::update::SET_STATISTICS;
 use records::update::TableUpdate;
 use records::update::UPGRADE_FORMAT_VERSION;
 use records::update::UpdateList;
@@ -52,8 +57,12 @@ fn say_kind(output: &mut Output, end: &mut usize, kind: u8) {
         set current schema to \n\
         remove schemas \n\
         add sort order \n\
-        set default sort order to \n";
-    let line = if kind > SET_DEFAULT_SORT_ORDER {
+        set default sort order to \n\
+        set statistics of \n\
+        remove statistics of snapshot \n\
+        set partition statistics of \n\
+        remove partition statistics of snapshot \n";
+    let line = if kind > REMOVE_PARTITION_STATISTICS {
         0
     } else {
         kind
@@ -116,12 +125,24 @@ fn say_late_kind(output: &mut Output, end: &mut usize, u: TableUpdate) {
     }
 }
 
+// Kinds 14 to 17.
+fn say_statistics_kind(output: &mut Output, end: &mut usize, u: TableUpdate) {
+    let kind = u.kind;
+    match kind {
+        SET_STATISTICS | SET_PARTITION_STATISTICS => say_statistics_file(output, end, u.statistics),
+        REMOVE_STATISTICS | REMOVE_PARTITION_STATISTICS => say_i64(output, end, u.statistics_id.0),
+        _ => say_u8(output, end, kind),
+    }
+}
+
 pub fn say_update(output: &mut Output, end: &mut usize, u: TableUpdate) {
     say_kind(output, end, u.kind);
     if u.kind < SET_REF {
         say_early_kind(output, end, u);
-    } else {
+    } else if u.kind < SET_STATISTICS {
         say_late_kind(output, end, u);
+    } else {
+        say_statistics_kind(output, end, u);
     }
 }
 

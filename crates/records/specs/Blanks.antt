@@ -22,6 +22,8 @@ use Rattle.records.specs.declared.schema.SchemaIds.{SchemaIds}
 use Rattle.records.specs.declared.«sort_order».SortField.{SortField}
 use Rattle.records.specs.declared.«sort_order».SortOrder.{SortOrder}
 use Rattle.records.specs.declared.«sort_order».SortOrders.{SortOrders}
+use Rattle.records.specs.declared.statistics.StatisticsFile.{StatisticsFile}
+use Rattle.records.specs.declared.statistics.StatisticsFiles.{StatisticsFiles}
 use Rattle.records.specs.declared.metadata.MetadataLogEntry.{MetadataLogEntry}
 use Rattle.records.specs.declared.metadata.MetadataLog.{MetadataLog}
 use Rattle.records.specs.declared.metadata.SingleFields.{SingleFields}
@@ -117,6 +119,14 @@ noSortOrder = record { «order_id» = record { 0 = pos 0 }; items = replicate 8 
 unfoldable pub noSortOrders : SortOrders
 noSortOrders = record { items = replicate 16 noSortOrder; count = 0 }
 
+-- ---- statistics files
+
+abbrev pub noStatisticsFile : StatisticsFile
+noStatisticsFile = record { «snapshot_id» = noSnapshotId; «statistics_path» = noFileName; «file_size_in_bytes» = record { 0 = pos 0 } }
+
+unfoldable pub noStatisticsFiles : StatisticsFiles
+noStatisticsFiles = record { items = replicate 32 noStatisticsFile; count = 0 }
+
 -- ---- metadata
 
 abbrev pub noMetadataLogEntry : MetadataLogEntry
@@ -150,6 +160,8 @@ noMetadata = record {
   «metadata_log» = noMetadataLog;
   schemas = noSchemas;
   «sort_orders» = noSortOrders;
+  statistics = noStatisticsFiles;
+  «partition_statistics» = noStatisticsFiles;
 }
 
 -- ---- updates
@@ -169,6 +181,8 @@ noUpdate = record {
   «schema_ids» = noSchemaIds;
   «sort_order» = noSortOrder;
   «sort_order_id» = record { 0 = pos 0 };
+  statistics = noStatisticsFile;
+  «statistics_id» = noSnapshotId;
 }
 
 unfoldable pub noUpdates : UpdateList

@@ -15,6 +15,8 @@ pub const SORT_ORDERS: usize = 16;
 
 pub const SORT_FIELDS: usize = 8;
 
+pub const STATISTICS: usize = 32;
+
 pub const REMOVALS: usize = 16;
 
 pub const REF_NAME: usize = 32;

@@ -20,5 +20,8 @@ pub struct Time(pub i64);
 // A span in milliseconds.
 pub struct Age(pub i64);
 
+// The size of a file, in bytes.
+pub struct FileSize(pub i64);
+
 // How many snapshots a branch keeps at least.
 pub struct MinSnapshots(pub i32);

@@ -10,5 +10,6 @@ pub mod run;
 pub mod schema;
 pub mod snapshot;
 pub mod sort_order;
+pub mod statistics;
 pub mod text;
 pub mod update;

@@ -1,4 +1,4 @@
-// The table's metadata: its single fields, and six tables.
+// The table's metadata: its single fields, and eight tables.
 ghost use mathlib.Core.Path.{_≡_};
 ghost use Rattle.records.specs.Blanks.{noMetadataLogEntry, noMetadataLog, noFields, noMetadata};
 use crate::capacities::METADATA_LOG;
@@ -14,6 +14,7 @@ use crate::schema::Schemas;
 use crate::snapshot::SnapshotLog;
 use crate::snapshot::Snapshots;
 use crate::sort_order::SortOrders;
+use crate::statistics::StatisticsFiles;
 use crate::text::FileName;
 use crate::text::Location;
 
@@ -51,6 +52,8 @@ pub struct TableMetadata {
     pub metadata_log: MetadataLog,
     pub schemas: Schemas,
     pub sort_orders: SortOrders,
+    pub statistics: StatisticsFiles,
+    pub partition_statistics: StatisticsFiles,
 }
 
 impl MetadataLogEntry {
@@ -107,6 +110,8 @@ impl TableMetadata {
         let metadata_log = MetadataLog::blank();
         let schemas = Schemas::blank();
         let sort_orders = SortOrders::blank();
+        let statistics = StatisticsFiles::blank();
+        let partition_statistics = StatisticsFiles::blank();
         TableMetadata {
             fields,
             snapshots,
@@ -115,6 +120,8 @@ impl TableMetadata {
             metadata_log,
             schemas,
             sort_orders,
+            statistics,
+            partition_statistics,
         }
     }
 }

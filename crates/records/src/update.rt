@@ -3,6 +3,7 @@ ghost use mathlib.Core.Path.{_≡_};
 ghost use Rattle.records.specs.Blanks.{noUpdate, noUpdates};
 use crate::capacities::UPDATES;
 use crate::counters::SchemaId;
+use crate::counters::SnapshotId;
 use crate::counters::SortOrderId;
 use crate::reference::SnapshotReference;
 use crate::schema::Schema;
@@ -10,6 +11,7 @@ use crate::schema::SchemaIds;
 use crate::snapshot::Snapshot;
 use crate::snapshot::SnapshotIds;
 use crate::sort_order::SortOrder;
+use crate::statistics::StatisticsFile;
 use crate::text::Location;
 use crate::text::RefName;
 
@@ -40,6 +42,14 @@ pub const ADD_SORT_ORDER: u8 = 12;
 
 pub const SET_DEFAULT_SORT_ORDER: u8 = 13;
 
+pub const SET_STATISTICS: u8 = 14;
+
+pub const REMOVE_STATISTICS: u8 = 15;
+
+pub const SET_PARTITION_STATISTICS: u8 = 16;
+
+pub const REMOVE_PARTITION_STATISTICS: u8 = 17;
+
 pub struct TableUpdate {
     pub kind: u8,
     pub uuid: [u8; 16],
@@ -54,6 +64,8 @@ pub struct TableUpdate {
     pub schema_ids: SchemaIds,
     pub sort_order: SortOrder,
     pub sort_order_id: SortOrderId,
+    pub statistics: StatisticsFile,
+    pub statistics_id: SnapshotId,
 }
 
 // A list of updates, and the log of those that took effect.
@@ -74,6 +86,7 @@ impl TableUpdate {
         let schema = Schema::blank();
         let schema_ids = SchemaIds::blank();
         let sort_order = SortOrder::blank();
+        let statistics = StatisticsFile::blank();
         TableUpdate {
             kind: 0,
             uuid: [0; 16],
@@ -88,6 +101,8 @@ impl TableUpdate {
             schema_ids,
             sort_order,
             sort_order_id: SortOrderId(0),
+            statistics,
+            statistics_id: SnapshotId(0),
         }
     }
 }

@@ -36,10 +36,14 @@ use records::update::ASSIGN_UUID;
 use records::update::REMOVE_REF;
 use records::update::REMOVE_SCHEMAS;
 use records::update::REMOVE_SNAPSHOTS;
+use records::update::REMOVE_STATISTICS;
 use records::update::SET_BRANCH_SNAPSHOT;
 use records::update::SET_CURRENT_SCHEMA;
+use records::update::SET_DEFAULT_SORT_ORDER;
 use records::update::SET_LOCATION;
+use records::update::SET_PARTITION_STATISTICS;
 use records::update::SET_REF;
+use records::update::SET_STATISTICS;
 use records::update::TableUpdate;
 use records::update::UPGRADE_FORMAT_VERSION;
 use records::update::UpdateList;
@@ -60,6 +64,9 @@ use snapshot_updates::remove_snapshots;
 use start::refused;
 use start::start_number;
 use start::weight;
+use statistics_updates::remove_statistics;
+use statistics_updates::set_statistics;
+use statistics_updates::statistics_after;
 use tables::names::is_main_name;
 
 // The place after a decision is stored: the same one, if a branch commit has its second half to come.
@@ -102,6 +109,8 @@ pub fn run(metadata: TableMetadata, updates: UpdateList, terms: RunTerms, text: 
     let mut last = last_time(log, clock);
     let mut schemas = metadata.schemas;
     let mut orders = metadata.sort_orders;
+    let mut statistics = metadata.statistics;
+    let mut partition_statistics = metadata.partition_statistics;
     let mut count: usize = 0;
     let mut place: usize = 0;
     // A decision waits to be stored; a branch commit has added its snapshot; it had when this turn began.
@@ -250,7 +259,30 @@ pub fn run(metadata: TableMetadata, updates: UpdateList, terms: RunTerms, text: 
             orders = orders_after(orders, decision);
             continue;
         }
-        decision = set_default_sort_order(builder, orders, update);
+        if kind == SET_DEFAULT_SORT_ORDER {
+            decision = set_default_sort_order(builder, orders, update);
+            continue;
+        }
+        if kind == SET_STATISTICS {
+            decision = set_statistics(builder, statistics, update);
+            statistics = statistics_after(statistics, decision);
+            continue;
+        }
+        if kind == REMOVE_STATISTICS {
+            decision = remove_statistics(builder, statistics, update);
+            statistics = tables::statistics::without(statistics, update.statistics_id);
+            continue;
+        }
+        if kind == SET_PARTITION_STATISTICS {
+            decision = set_statistics(builder, partition_statistics, update);
+            partition_statistics = statistics_after(partition_statistics, decision);
+            continue;
+        }
+        decision = remove_statistics(builder, partition_statistics, update);
+        partition_statistics = tables::statistics::without(
+            partition_statistics,
+            update.statistics_id,
+        );
     }
     if number != ACCEPTED {
         return refused(metadata, number, place);
@@ -287,6 +319,8 @@ pub fn run(metadata: TableMetadata, updates: UpdateList, terms: RunTerms, text: 
         metadata_log,
         schemas,
         sort_orders: orders,
+        statistics,
+        partition_statistics,
     };
     let changes = UpdateList {
         items: entries,

@@ -51,7 +51,7 @@ module _ (m : TableMetadata) (terms : RunTerms) (text : List ℕ) where
   abbrev pub pieces : Pieces
   pieces =
       record {
-        held = record { builder = builder; snapshots = m .snapshots; ids = ids; refs = m .refs; log = m .«snapshot_log»; last = last; schemas = m .schemas; orders = m .«sort_orders» };
+        held = record { builder = builder; snapshots = m .snapshots; ids = ids; refs = m .refs; log = m .«snapshot_log»; last = last; shelf = record { schemas = m .schemas; orders = m .«sort_orders»; statistics = m .statistics; partitionStatistics = m .«partition_statistics» } };
         changes = record { entries = pad 64 noUpdate (map laidUpdate removal); count = 1; added = pad 64 (pos 0) []; adds = 0; mained = pad 64 (pos 0) []; mains = 0; removal = true };
       }
 
@@ -78,7 +78,7 @@ module _ (m : TableMetadata) (terms : RunTerms) (text : List ℕ) where
         record {
           sound = E .sound;
           kept = record { files = E .kept .files; old = E .kept .old; back = E .kept .back; short = E .kept .short };
-          tables = record { builder = T .builder; snapshots = T .snapshots; ids = T .ids; refs = T .refs; log = T .log; last = T .last; schemas = T .schemas; orders = T .orders };
+          tables = record { builder = T .builder; snapshots = T .snapshots; ids = T .ids; refs = T .refs; log = T .log; last = T .last; shelf = T .shelf };
           logs = record { entries = refl; count = refl; added = refl; adds = refl; mained = refl; mains = refl; removal = refl };
           room = omega arith;
         }

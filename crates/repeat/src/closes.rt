@@ -60,6 +60,8 @@ fn ended(
     let refs = m.refs;
     let schemas = m.schemas;
     let sort_orders = m.sort_orders;
+    let statistics = m.statistics;
+    let partition_statistics = m.partition_statistics;
     TableMetadata {
         fields,
         snapshots,
@@ -68,6 +70,8 @@ fn ended(
         metadata_log,
         schemas,
         sort_orders,
+        statistics,
+        partition_statistics,
     }
 }
 

@@ -1,15 +1,17 @@
 // Runs stored logs, each from its starting metadata, and says of each in one line whether it leads to its ending metadata.
 // A question has, in the case format, what a run is given (a case of kind 1 without its kind, or one of kind 9 with it), and after it the
-// ending metadata.
+// ending metadata, with the tables that the run was given by a tag.
 use casefile::case::end_answer;
 use casefile::case::read_first;
 use casefile::limit_text::LimitText;
 use casefile::metadata::read_metadata;
+use casefile::more::Given;
 use casefile::run::RUN;
 use casefile::run::RUN_GIVEN_MORE;
 use casefile::run::Run;
 use casefile::run::read_run;
 use casefile::run::read_run_of;
+use casefile::statistics::read_statistics;
 use fitting::lent;
 use numbers::input::Input;
 use numbers::input::Place;
@@ -41,10 +43,22 @@ fn read_run_from(number: u8, input: &mut Input, place: &mut Place) -> Run {
     read_run_of(RUN, number, input, place)
 }
 
+// As an answer has it: the metadata, then each table that the run was given.
+fn read_ending(given: Given, input: &mut Input, place: &mut Place) -> TableMetadata {
+    let mut ending = read_metadata(input, place);
+    if given.statistics {
+        ending.statistics = read_statistics(input, place);
+    }
+    if given.partition_statistics {
+        ending.partition_statistics = read_statistics(input, place);
+    }
+    ending
+}
+
 // The question that starts with this number. What was read of a bad one is judged too, and its verdict is not said.
 fn read_judged(number: u8, input: &mut Input, place: &mut Place) -> Judged {
     let run = read_run_from(number, input, place);
-    let ending = read_metadata(input, place);
+    let ending = read_ending(run.given, input, place);
     let tolerance_ms = run.terms.tolerance_ms;
     let verdict = judge(run.limit, run, ending);
     Judged {

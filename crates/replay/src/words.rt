@@ -22,6 +22,7 @@ fn slots_of(part: u8) -> usize {
         part::METADATA_LOG => capacities::METADATA_LOG,
         part::SCHEMAS => capacities::SCHEMAS,
         part::SORT_ORDERS => capacities::SORT_ORDERS,
+        part::STATISTICS | part::PARTITION_STATISTICS => capacities::STATISTICS,
         _ => 0,
     }
 }
@@ -44,7 +45,9 @@ fn say_part(output: &mut Output, end: &mut usize, part: u8) {
         schemas\n\
         current schema id\n\
         sort orders\n\
-        default sort order id\n";
+        default sort order id\n\
+        statistics\n\
+        partition statistics\n";
     say_line(output, end, parts, part as usize);
 }
 

@@ -11,7 +11,7 @@ use borrow.Author.Tests.{not-false}
 use Rattle.rules.specs.Words.{eqZ, isSome, someWith, all, any, isEmpty, isIn, put, collect, sameBytes, firstOf}
 use Rattle.rules.specs.Names.{isMain, trimmed}
 use Rattle.rules.specs.Register.{Snapshot, Reference, LogEntry, Metadata, Update, Terms, State}
-use Rattle.rules.specs.Register.Update.{AssignUuid, UpgradeFormatVersion, SetLocation, AddSnapshot, SetBranchSnapshot, RemoveSnapshots, SetRef, RemoveRef, AddSchema, SetCurrentSchema, RemoveSchemas, AddSortOrder, SetDefaultSortOrder, NotFormed}
+use Rattle.rules.specs.Register.Update.{AssignUuid, UpgradeFormatVersion, SetLocation, AddSnapshot, SetBranchSnapshot, RemoveSnapshots, SetRef, RemoveRef, AddSchema, SetCurrentSchema, RemoveSchemas, AddSortOrder, SetDefaultSortOrder, SetStatistics, RemoveStatistics, NotFormed}
 use Rattle.rules.specs.WellFormed.{snapshotBelow, holdsSnapshot}
 use Rattle.rules.specs.ChangeLog.{isAddition, logsAddition, mainTarget, logsMain, isSnapshotRemoval, logsRemoval}
 use Rattle.rules.specs.Moment.{removedIds, logsRemoved}
@@ -20,6 +20,8 @@ use Rattle.rules.specs.SnapshotUpdates.{addSnapshotChecks, addSnapshot, 
 use Rattle.rules.specs.RefUpdates.{refNamed, isHeldRef, setRefChecks, setRef, committed, setBranchSnapshot, removeRef}
 use Rattle.rules.specs.SchemaUpdates.{reusedSchema, addSchema, chosen, setCurrentSchema, removeSchemas}
 use Rattle.rules.specs.OrderUpdates.{reusedOrder, addSortOrder, setDefaultSortOrder}
+use Rattle.rules.specs.Register.StatisticsTable.{Statistics, PartitionStatistics}
+use Rattle.rules.specs.StatisticsUpdates.{hasFileOf, setStatistics, removeStatistics}
 use Rattle.rules.specs.Updates.{checks, updateNumber, effect}
 use Rattle.rules.specs.Run.{runFrom, started}
 use Rattle.rules.specs.Run.Ran.{Reached}
@@ -84,6 +86,8 @@ removes-none (SetCurrentSchema id) e = refl
 removes-none (RemoveSchemas ids) e = refl
 removes-none (AddSortOrder o) e = refl
 removes-none (SetDefaultSortOrder id) e = refl
+removes-none (SetStatistics which f) e = refl
+removes-none (RemoveStatistics which id) e = refl
 removes-none (NotFormed counts) e = refl
 
 -- a log with no removal removes none
@@ -216,7 +220,7 @@ module _ (m : Metadata) where
 
   -- 5 and 12 aside, nothing is asked: the other updates change neither snapshots nor history, and add no snapshot
   effect-accounted : (terms : Terms) (u : Update) (st : State) → updateNumber terms u st ≡ 0 → AccountedState st → AccountedState (effect terms u st)
-  unfolding checks effect assignUuid upgradeFormatVersion setLocation setBranchSnapshot removeRef addSchema setCurrentSchema removeSchemas addSortOrder setDefaultSortOrder
+  unfolding checks effect assignUuid upgradeFormatVersion setLocation setBranchSnapshot removeRef addSchema setCurrentSchema removeSchemas addSortOrder setDefaultSortOrder setStatistics removeStatistics
   effect-accounted terms (AssignUuid uuid) st e a = by-test AccountedState (sameBytes uuid (st .metadata .fields .uuid)) (λ q. a) (λ q. logs-quiet (AssignUuid uuid) (λ id. refl) a)
   effect-accounted terms (UpgradeFormatVersion v) st e a = by-test AccountedState (eqb v (st .metadata .fields .version)) (λ q. a) (λ q. logs-quiet (UpgradeFormatVersion v) (λ id. refl) a)
   effect-accounted terms (SetLocation location) st e a = by-test AccountedState (sameBytes (trimmed location) (st .metadata .fields .location)) (λ q. a) (λ q. logs-quiet (SetLocation (trimmed location)) (λ id. refl) a)
@@ -243,6 +247,10 @@ module _ (m : Metadata) where
       (λ q. logs-quiet (AddSortOrder _) (λ id. refl) a)
       (λ id q. by-test AccountedState (someWith (eqZ id) (st .added .order)) (λ p. a) (λ p. logs-quiet (AddSortOrder _) (λ id. refl) a))
   effect-accounted terms (SetDefaultSortOrder id) st e a = by-test AccountedState (eqZ (chosen id (st .added .order)) (st .metadata .fields .defaultOrder)) (λ q. a) (λ q. logs-quiet (SetDefaultSortOrder _) (λ id. refl) a)
+  effect-accounted terms (SetStatistics Statistics f) st e a = logs-quiet (SetStatistics Statistics f) (λ id. refl) a
+  effect-accounted terms (SetStatistics PartitionStatistics f) st e a = logs-quiet (SetStatistics PartitionStatistics f) (λ id. refl) a
+  effect-accounted terms (RemoveStatistics Statistics id) st e a = by-test AccountedState (hasFileOf (st .metadata .statistics) id) (λ q. logs-quiet (RemoveStatistics Statistics id) (λ id. refl) a) (λ q. a)
+  effect-accounted terms (RemoveStatistics PartitionStatistics id) st e a = by-test AccountedState (hasFileOf (st .metadata .partitionStatistics) id) (λ q. logs-quiet (RemoveStatistics PartitionStatistics id) (λ id. refl) a) (λ q. a)
   effect-accounted terms (NotFormed counts) st e a = a
 
   -- ---- a run

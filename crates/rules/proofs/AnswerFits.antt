@@ -16,7 +16,7 @@ use Rattle.rules.specs.Replies.{startNotFormed}
 use Rattle.rules.specs.Capacities.{listRoom, metadataLogRoom}
 use Rattle.rules.specs.Register.{FileEntry, Metadata, Update, Terms, Outcome}
 use Rattle.rules.specs.Register.Outcome.{Refused, Accepted}
-use Rattle.rules.specs.Register.Update.{AssignUuid, UpgradeFormatVersion, SetLocation, AddSnapshot, SetBranchSnapshot, RemoveSnapshots, SetRef, RemoveRef, AddSchema, SetCurrentSchema, RemoveSchemas, AddSortOrder, SetDefaultSortOrder, NotFormed}
+use Rattle.rules.specs.Register.Update.{AssignUuid, UpgradeFormatVersion, SetLocation, AddSnapshot, SetBranchSnapshot, RemoveSnapshots, SetRef, RemoveRef, AddSchema, SetCurrentSchema, RemoveSchemas, AddSortOrder, SetDefaultSortOrder, SetStatistics, RemoveStatistics, NotFormed}
 use Rattle.rules.specs.Limit.{limitOf, limitGiven, isNumber, afterPlus}
 use Rattle.rules.specs.WellFormed.{fileNameFormed, metadataLogFormed, metadataFormed, updateFormed}
 use Rattle.rules.specs.Close.{joined, surplus, expired}
@@ -96,6 +96,8 @@ weight-positive (SetCurrentSchema id) f = omega arith
 weight-positive (RemoveSchemas ids) f = omega arith
 weight-positive (AddSortOrder o) f = omega arith
 weight-positive (SetDefaultSortOrder id) f = omega arith
+weight-positive (SetStatistics which x) f = omega arith
+weight-positive (RemoveStatistics which id) f = omega arith
 weight-positive (NotFormed counts) f = absurd (false≢true f)
 
 -- every update counts

@@ -6,13 +6,14 @@ use Rattle.rules.specs.Limit.{limitOf}
 use Rattle.rules.specs.Names.{trimmed}
 use Rattle.rules.specs.Window.{isBefore}
 use Rattle.rules.specs.Walk.{follow, ancestors}
-use Rattle.rules.specs.WellFormed.{snapshotsFormed, refsFormed, snapshotLogFormed, metadataLogFormed, schemasFormed, ordersFormed, refsHeld, mainAgrees, currentSchemaHeld, defaultOrderHeld, fieldsFormed, metadataFormed, updateFormed}
+use Rattle.rules.specs.WellFormed.{snapshotsFormed, refsFormed, snapshotLogFormed, metadataLogFormed, schemasFormed, ordersFormed, statisticsFormed, refsHeld, mainAgrees, currentSchemaHeld, defaultOrderHeld, fieldsFormed, metadataFormed, updateFormed}
 use Rattle.rules.specs.ChangeLog.{logsAddition, logsMain, logsRemoval}
 use Rattle.rules.specs.SingleUpdates.{assignUuid, upgradeFormatVersionChecks, upgradeFormatVersion, setLocation}
 use Rattle.rules.specs.SnapshotUpdates.{addSnapshotChecks, addSnapshot, removeSnapshots}
 use Rattle.rules.specs.RefUpdates.{setRefChecks, setRef, setBranchSnapshotChecks, setBranchSnapshot, removeRef}
 use Rattle.rules.specs.SchemaUpdates.{addSchemaChecks, addSchema, setCurrentSchemaChecks, setCurrentSchema, removeSchemasChecks, removeSchemas}
 use Rattle.rules.specs.OrderUpdates.{addSortOrderChecks, addSortOrder, setDefaultSortOrderChecks, setDefaultSortOrder}
+use Rattle.rules.specs.StatisticsUpdates.{setStatisticsChecks, setStatistics, removeStatistics}
 use Rattle.rules.specs.Updates.{checks, updateNumber, effect}
 use Rattle.rules.specs.Close.{isDefaultUnfit, intermediates, rebuilt, endsElsewhere, expired, staying, closeChecks, closed}
 use Rattle.rules.specs.Moment.{currentAt, entriesRead, isWhole, removesAndAdds}
@@ -21,7 +22,7 @@ use Rattle.rules.specs.Examples.{Example, replyTo, examples}
 
 -- a run, such that whoever opens this opens every definition that a run comes to
 unfoldable pub computed : Terms → Metadata → List Update → Outcome
-unfolding limitOf trimmed isBefore snapshotsFormed refsFormed snapshotLogFormed metadataLogFormed schemasFormed ordersFormed refsHeld mainAgrees currentSchemaHeld defaultOrderHeld fieldsFormed metadataFormed updateFormed logsAddition logsMain logsRemoval assignUuid upgradeFormatVersionChecks upgradeFormatVersion setLocation addSnapshotChecks addSnapshot removeSnapshots setRefChecks setRef setBranchSnapshotChecks setBranchSnapshot removeRef addSchemaChecks addSchema setCurrentSchemaChecks setCurrentSchema removeSchemasChecks removeSchemas addSortOrderChecks addSortOrder setDefaultSortOrderChecks setDefaultSortOrder checks updateNumber effect isDefaultUnfit intermediates rebuilt endsElsewhere expired staying closeChecks closed listSum runFrom close startChecks run
+unfolding limitOf trimmed isBefore snapshotsFormed refsFormed snapshotLogFormed metadataLogFormed schemasFormed ordersFormed statisticsFormed refsHeld mainAgrees currentSchemaHeld defaultOrderHeld fieldsFormed metadataFormed updateFormed logsAddition logsMain logsRemoval assignUuid upgradeFormatVersionChecks upgradeFormatVersion setLocation addSnapshotChecks addSnapshot removeSnapshots setRefChecks setRef setBranchSnapshotChecks setBranchSnapshot removeRef addSchemaChecks addSchema setCurrentSchemaChecks setCurrentSchema removeSchemasChecks removeSchemas addSortOrderChecks addSortOrder setDefaultSortOrderChecks setDefaultSortOrder setStatisticsChecks setStatistics removeStatistics checks updateNumber effect isDefaultUnfit intermediates rebuilt endsElsewhere expired staying closeChecks closed listSum runFrom close startChecks run
 computed terms m us = run terms m us
 
 pub examples-hold : map (λ (e : Example). replyTo (e .asked)) examples ≡ map (λ (e : Example). e .reply) examples

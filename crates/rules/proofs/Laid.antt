@@ -11,15 +11,16 @@ use lib.Signed.{nonNeg}
 use lib.ListN.{length, take, replicate, length-append, length-replicate, length-map}
 use lib.Seq.{take-at, drop-at}
 use borrow.Author.Tests.{leb-true, eq-eqb}
-use Rattle.records.specs.Blanks.{noSnapshotId, noSnapshot, noLogEntry, noRef, noSchemaField, noSchema, noSchemaId, noSortField, noSortOrder, noMetadataLogEntry, noUpdate}
+use Rattle.records.specs.Blanks.{noSnapshotId, noSnapshot, noLogEntry, noRef, noSchemaField, noSchema, noSchemaId, noSortField, noSortOrder, noStatisticsFile, noMetadataLogEntry, noUpdate}
 use Rattle.rules.specs.Words.{isSome, orElse, all, unequal, ascending}
-use Rattle.rules.specs.Capacities.{snapshotRoom, refRoom, snapshotLogRoom, metadataLogRoom, schemaRoom, schemaFieldRoom, sortOrderRoom, sortFieldRoom, removalRoom, refNameRoom, locationRoom, fileNameRoom}
+use Rattle.rules.specs.Capacities.{snapshotRoom, refRoom, snapshotLogRoom, metadataLogRoom, schemaRoom, schemaFieldRoom, sortOrderRoom, sortFieldRoom, statisticsRoom, removalRoom, refNameRoom, locationRoom, fileNameRoom}
 use Rattle.rules.specs.Register as plain
 use Rattle.rules.specs.Register.{Update}
-use Rattle.rules.specs.Register.Update.{AssignUuid, UpgradeFormatVersion, SetLocation, AddSnapshot, SetBranchSnapshot, RemoveSnapshots, SetRef, RemoveRef, AddSchema, SetCurrentSchema, RemoveSchemas, AddSortOrder, SetDefaultSortOrder, NotFormed}
-use Rattle.rules.specs.WellFormed.{snapshotFormed, refFormed, refNameFormed, fileNameFormed, schemaFormed, orderFormed, offeredOrderFormed, sortFieldFormed, removalFormed, atLeastOne, versionFormed, locationFormed, fieldIds, snapshotBelow, refBelow, schemaBelow, orderBelow, snapshotsFormed, refsFormed, snapshotLogFormed, metadataLogFormed, schemasFormed, ordersFormed, fieldsFormed, refsHeld, mainAgrees, currentSchemaHeld, defaultOrderHeld, metadataFormed, updateFormed}
-use Rattle.rules.specs.Blanks.{isZero, isZeroZ, restBlank, tidySlots, isTidyRefName, isTidyLocation, isTidyFileName, isTidySnapshot, isBlankSnapshot, isTidySnapshots, isBlankSnapshotId, isTidySnapshotIds, isBlankSnapshotIds, isBlankLogEntry, isTidySnapshotLog, isTidyReference, isBlankReference, isTidyRef, isBlankRef, isTidyRefs, isBlankSchemaField, isTidySchema, isBlankSchema, isTidySchemas, isBlankSchemaId, isTidySchemaIds, isBlankSchemaIds, isBlankSortField, isTidySortOrder, isBlankSortOrder, isTidySortOrders, isTidyMetadataLogEntry, isBlankMetadataLogEntry, isTidyMetadataLog, isTidyFields, isTidyMetadata}
-use Rattle.rules.specs.Layout.{pad, firstRow, addedRows, laidRefName, laidLocation, laidFileName, laidSnapshot, laidSnapshots, laidSnapshotIds, laidLogEntry, laidSnapshotLog, laidReference, laidRef, laidRefs, laidSchemaField, laidSchema, laidSchemas, laidSchemaIds, laidSortField, laidSortOrder, laidSortOrders, laidMetadataLogEntry, laidMetadataLog, laidFields, laidMetadata}
+use Rattle.rules.specs.Register.Update.{AssignUuid, UpgradeFormatVersion, SetLocation, AddSnapshot, SetBranchSnapshot, RemoveSnapshots, SetRef, RemoveRef, AddSchema, SetCurrentSchema, RemoveSchemas, AddSortOrder, SetDefaultSortOrder, SetStatistics, RemoveStatistics, NotFormed}
+use Rattle.rules.specs.Register.StatisticsTable.{Statistics, PartitionStatistics}
+use Rattle.rules.specs.WellFormed.{snapshotFormed, refFormed, refNameFormed, fileNameFormed, schemaFormed, orderFormed, offeredOrderFormed, sortFieldFormed, statisticsFileFormed, removalFormed, atLeastOne, versionFormed, locationFormed, fieldIds, snapshotBelow, refBelow, schemaBelow, orderBelow, statisticsBelow, snapshotsFormed, refsFormed, snapshotLogFormed, metadataLogFormed, schemasFormed, ordersFormed, statisticsFormed, fieldsFormed, refsHeld, mainAgrees, currentSchemaHeld, defaultOrderHeld, metadataFormed, updateFormed}
+use Rattle.rules.specs.Blanks.{isZero, isZeroZ, restBlank, tidySlots, isTidyRefName, isTidyLocation, isTidyFileName, isTidySnapshot, isBlankSnapshot, isTidySnapshots, isBlankSnapshotId, isTidySnapshotIds, isBlankSnapshotIds, isBlankLogEntry, isTidySnapshotLog, isTidyReference, isBlankReference, isTidyRef, isBlankRef, isTidyRefs, isBlankSchemaField, isTidySchema, isBlankSchema, isTidySchemas, isBlankSchemaId, isTidySchemaIds, isBlankSchemaIds, isBlankSortField, isTidySortOrder, isBlankSortOrder, isTidySortOrders, isTidyStatisticsFile, isBlankStatisticsFile, isTidyStatistics, isTidyMetadataLogEntry, isBlankMetadataLogEntry, isTidyMetadataLog, isTidyFields, isTidyMetadata}
+use Rattle.rules.specs.Layout.{pad, firstRow, addedRows, laidRefName, laidLocation, laidFileName, laidSnapshot, laidSnapshots, laidSnapshotIds, laidLogEntry, laidSnapshotLog, laidReference, laidRef, laidRefs, laidSchemaField, laidSchema, laidSchemas, laidSchemaIds, laidSortField, laidSortOrder, laidSortOrders, laidStatisticsFile, laidStatistics, laidMetadataLogEntry, laidMetadataLog, laidFields, laidMetadata}
 use Rattle.rules.specs.Kinds.{isUnusedBlank, isUsedTidy, isTidyUpdate, laidUpdate}
 use Rattle.rules.proofs.Checks.{both, and-left, and-right, parts, whole}
 
@@ -174,6 +175,22 @@ tidy-sort-orders l f =
     let k = parts (leb (length l) sortOrderRoom) (all orderFormed l ∷ ascending orderBelow l ∷ []) f in
     table-tidy noSortOrder isBlankSortOrder no-sort-order laidSortOrder isTidySortOrder orderFormed (λ o e. tidy-sort-order o (and-left (offeredOrderFormed o) _ e)) sortOrderRoom l (k .0) (k .1 .0)
 
+-- ---- statistics files
+
+pub tidy-statistics-file : (f : plain.StatisticsFile) → statisticsFileFormed f ≡ true → isTidyStatisticsFile (laidStatisticsFile f) ≡ true
+unfolding isTidyStatisticsFile laidStatisticsFile
+tidy-statistics-file f e = tidy-file-name (f .path) (parts (nonNeg (f .snapshot)) (fileNameFormed (f .path) ∷ nonNeg (f .size) ∷ []) e .1 .0)
+
+no-statistics-file : isBlankStatisticsFile noStatisticsFile ≡ true
+unfolding isBlankStatisticsFile
+no-statistics-file = refl
+
+pub tidy-statistics : (l : List plain.StatisticsFile) → statisticsFormed l ≡ true → isTidyStatistics (laidStatistics l) ≡ true
+unfolding isTidyStatistics laidStatistics statisticsFormed
+tidy-statistics l f =
+    let k = parts (leb (length l) statisticsRoom) (all statisticsFileFormed l ∷ ascending statisticsBelow l ∷ []) f in
+    table-tidy noStatisticsFile isBlankStatisticsFile no-statistics-file laidStatisticsFile isTidyStatisticsFile statisticsFileFormed tidy-statistics-file statisticsRoom l (k .0) (k .1 .0)
+
 -- ---- metadata
 
 pub tidy-metadata-log-entry : (e : plain.FileEntry) → fileNameFormed (e .file) ≡ true → isTidyMetadataLogEntry (laidMetadataLogEntry e) ≡ true
@@ -201,8 +218,8 @@ tidy-fields f e =
 pub tidy-metadata : (p : plain.Metadata) → metadataFormed p ≡ true → isTidyMetadata (laidMetadata p) ≡ true
 unfolding isTidyMetadata laidMetadata metadataFormed
 tidy-metadata p f =
-    let k = parts (snapshotsFormed (p .snapshots)) (refsFormed (p .refs) ∷ snapshotLogFormed (p .snapshotLog) ∷ metadataLogFormed (p .metadataLog) ∷ schemasFormed (p .schemas) ∷ ordersFormed (p .orders) ∷ fieldsFormed (p .fields) ∷ refsHeld p ∷ mainAgrees p ∷ currentSchemaHeld p ∷ defaultOrderHeld p ∷ []) f in
-    whole (isTidySnapshots (laidSnapshots (p .snapshots))) (isTidyRefs (laidRefs (p .refs)) ∷ isTidySnapshotLog (laidSnapshotLog (p .snapshotLog)) ∷ isTidyMetadataLog (laidMetadataLog (p .metadataLog)) ∷ isTidySchemas (laidSchemas (p .schemas)) ∷ isTidySortOrders (laidSortOrders (p .orders)) ∷ isTidyFields (laidFields (p .fields)) ∷ []) (
+    let k = parts (snapshotsFormed (p .snapshots)) (refsFormed (p .refs) ∷ snapshotLogFormed (p .snapshotLog) ∷ metadataLogFormed (p .metadataLog) ∷ schemasFormed (p .schemas) ∷ ordersFormed (p .orders) ∷ statisticsFormed (p .statistics) ∷ statisticsFormed (p .partitionStatistics) ∷ fieldsFormed (p .fields) ∷ refsHeld p ∷ mainAgrees p ∷ currentSchemaHeld p ∷ defaultOrderHeld p ∷ []) f in
+    whole (isTidySnapshots (laidSnapshots (p .snapshots))) (isTidyRefs (laidRefs (p .refs)) ∷ isTidySnapshotLog (laidSnapshotLog (p .snapshotLog)) ∷ isTidyMetadataLog (laidMetadataLog (p .metadataLog)) ∷ isTidySchemas (laidSchemas (p .schemas)) ∷ isTidySortOrders (laidSortOrders (p .orders)) ∷ isTidyStatistics (laidStatistics (p .statistics)) ∷ isTidyStatistics (laidStatistics (p .partitionStatistics)) ∷ isTidyFields (laidFields (p .fields)) ∷ []) (
       tidy-snapshots (p .snapshots) (k .0),
       (
         tidy-refs (p .refs) (k .1 .0),
@@ -215,8 +232,14 @@ tidy-metadata p f =
               (
                 tidy-sort-orders (p .orders) (k .1 .1 .1 .1 .1 .0),
                 (
-                  tidy-fields (p .fields) (k .1 .1 .1 .1 .1 .1 .0),
-                  tt,
+                  tidy-statistics (p .statistics) (k .1 .1 .1 .1 .1 .1 .0),
+                  (
+                    tidy-statistics (p .partitionStatistics) (k .1 .1 .1 .1 .1 .1 .1 .0),
+                    (
+                      tidy-fields (p .fields) (k .1 .1 .1 .1 .1 .1 .1 .1 .0),
+                      tt,
+                    ),
+                  ),
                 ),
               ),
             ),
@@ -229,7 +252,7 @@ tidy-metadata p f =
 
 -- the records that its kind does not use stay as in a blank update
 unused-blank : (u : Update) → isUnusedBlank (laidUpdate u) ≡ true
-unfolding isUnusedBlank laidUpdate noUpdate noSchema noSortOrder isBlankSnapshot isBlankSnapshotIds isBlankReference isBlankSchema isBlankSchemaIds isBlankSortField isBlankSortOrder
+unfolding isUnusedBlank laidUpdate noUpdate noSchema noSortOrder isBlankSnapshot isBlankSnapshotIds isBlankReference isBlankSchema isBlankSchemaIds isBlankSortField isBlankSortOrder isBlankStatisticsFile
 unused-blank (AssignUuid uuid) = refl
 unused-blank (UpgradeFormatVersion v) = refl
 unused-blank (SetLocation location) = refl
@@ -243,11 +266,15 @@ unused-blank (SetCurrentSchema id) = refl
 unused-blank (RemoveSchemas ids) = refl
 unused-blank (AddSortOrder o) = refl
 unused-blank (SetDefaultSortOrder id) = refl
+unused-blank (SetStatistics Statistics x) = refl
+unused-blank (SetStatistics PartitionStatistics x) = refl
+unused-blank (RemoveStatistics Statistics id) = refl
+unused-blank (RemoveStatistics PartitionStatistics id) = refl
 unused-blank (NotFormed counts) = refl
 
 -- what it does use is tidy where it is well formed, and a blank record is tidy
 used-tidy : (u : Update) → updateFormed u ≡ true → isUsedTidy (laidUpdate u) ≡ true
-unfolding isUsedTidy laidUpdate updateFormed noUpdate noSchema noSortOrder isTidySnapshot isTidySnapshotIds isTidyReference isTidySchema isTidySchemaIds isTidySortOrder isBlankSortField
+unfolding isUsedTidy laidUpdate updateFormed noUpdate noSchema noSortOrder isTidySnapshot isTidySnapshotIds isTidyReference isTidySchema isTidySchemaIds isTidySortOrder isBlankSortField isTidyStatisticsFile
 used-tidy (AssignUuid uuid) f = refl
 used-tidy (UpgradeFormatVersion v) f = refl
 used-tidy (SetLocation location) f = rw (tidy-location location f)
@@ -261,10 +288,12 @@ used-tidy (SetCurrentSchema id) f = refl
 used-tidy (RemoveSchemas ids) f = rw (tidy-schema-ids ids f)
 used-tidy (AddSortOrder o) f = rw (tidy-sort-order o f)
 used-tidy (SetDefaultSortOrder id) f = refl
+used-tidy (SetStatistics which x) f = tidy-statistics-file x f
+used-tidy (RemoveStatistics which id) f = refl
 used-tidy (NotFormed counts) f = absurd (false≢true f)
 
 pub tidy-no-update : isTidyUpdate noUpdate ≡ true
-unfolding isUnusedBlank isUsedTidy noUpdate noSchema noSortOrder isBlankSnapshot isBlankSnapshotIds isBlankReference isBlankSchema isBlankSchemaIds isBlankSortField isBlankSortOrder isTidySnapshot isTidySnapshotIds isTidyReference isTidySchema isTidySchemaIds isTidySortOrder
+unfolding isUnusedBlank isUsedTidy noUpdate noSchema noSortOrder isBlankSnapshot isBlankSnapshotIds isBlankReference isBlankSchema isBlankSchemaIds isBlankSortField isBlankSortOrder isTidySnapshot isTidySnapshotIds isTidyReference isTidySchema isTidySchemaIds isTidySortOrder isTidyStatisticsFile isBlankStatisticsFile
 tidy-no-update = refl
 
 -- an update that is well formed is laid out tidily

@@ -10,6 +10,7 @@ pub mod SoundSnapshots
 pub mod SoundRefs
 pub mod SoundSchemas
 pub mod SoundOrders
+pub mod SoundStatistics
 pub mod SoundUpdates
 pub mod AcceptedRun
 pub mod SoundRun
@@ -28,6 +29,7 @@ pub mod ReplayRefs
 pub mod ReplayChoices
 pub mod ReplaySchemas
 pub mod ReplayOrders
+pub mod ReplayStatistics
 pub mod ReplayClose
 pub mod Replay
 pub mod Suffices

@@ -12,13 +12,14 @@ use Rattle.rules.specs.Words.{isSome, all, firstOf, Check}
 use Rattle.rules.specs.Replies.{accepted, updateNotFormed}
 use Rattle.rules.specs.Register.{Snapshot, Reference, Schema, SortOrder, Metadata, Update, Terms, State, Outcome}
 use Rattle.rules.specs.Register.Outcome.{Refused, Accepted}
-use Rattle.rules.specs.Register.Update.{AssignUuid, UpgradeFormatVersion, SetLocation, AddSnapshot, SetBranchSnapshot, RemoveSnapshots, SetRef, RemoveRef, AddSchema, SetCurrentSchema, RemoveSchemas, AddSortOrder, SetDefaultSortOrder, NotFormed}
+use Rattle.rules.specs.Register.Update.{AssignUuid, UpgradeFormatVersion, SetLocation, AddSnapshot, SetBranchSnapshot, RemoveSnapshots, SetRef, RemoveRef, AddSchema, SetCurrentSchema, RemoveSchemas, AddSortOrder, SetDefaultSortOrder, SetStatistics, RemoveStatistics, NotFormed}
 use Rattle.rules.specs.WellFormed.{updateFormed}
 use Rattle.rules.specs.SingleUpdates.{upgradeFormatVersionChecks}
 use Rattle.rules.specs.SnapshotUpdates.{addSnapshotChecks, addSnapshot}
 use Rattle.rules.specs.RefUpdates.{isHeldRef, setRefChecks, committed, setBranchSnapshotChecks}
 use Rattle.rules.specs.SchemaUpdates.{reusedSchema, addSchemaChecks, setCurrentSchemaChecks, removeSchemasChecks}
 use Rattle.rules.specs.OrderUpdates.{reusedOrder, addSortOrderChecks, setDefaultSortOrderChecks}
+use Rattle.rules.specs.StatisticsUpdates.{setStatisticsChecks}
 use Rattle.rules.specs.Updates.{checks, updateNumber, effect}
 use Rattle.rules.specs.Close.{closeChecks}
 use Rattle.rules.specs.Run.{Ran, runFrom, started, close, closeRan, startChecks, run}
@@ -70,7 +71,7 @@ unfolding addSortOrderChecks
 add-order-numbers o st = by-test OfUpdate (isSome (reusedOrder o (st .metadata .orders))) (λ t. refl) (λ f. refl)
 
 update-numbers : (terms : Terms) (u : Update) (st : State) → OfUpdate (checks terms u st)
-unfolding checks upgradeFormatVersionChecks setBranchSnapshotChecks setCurrentSchemaChecks removeSchemasChecks setDefaultSortOrderChecks
+unfolding checks upgradeFormatVersionChecks setBranchSnapshotChecks setCurrentSchemaChecks removeSchemasChecks setDefaultSortOrderChecks setStatisticsChecks
 update-numbers terms (AssignUuid uuid) st = refl
 update-numbers terms (UpgradeFormatVersion v) st = refl
 update-numbers terms (SetLocation location) st = refl
@@ -86,6 +87,8 @@ update-numbers terms (SetCurrentSchema id) st = refl
 update-numbers terms (RemoveSchemas ids) st = refl
 update-numbers terms (AddSortOrder o) st = add-order-numbers o st
 update-numbers terms (SetDefaultSortOrder id) st = refl
+update-numbers terms (SetStatistics which f) st = refl
+update-numbers terms (RemoveStatistics which id) st = refl
 update-numbers terms (NotFormed counts) st = refl
 
 update-numbered : (terms : Terms) (u : Update) (st : State) → (updateNumber terms u st ≡ accepted → ⊥) → isOfUpdate (updateNumber terms u st) ≡ true

@@ -11,7 +11,7 @@ use lib.IntN.{ℤ, pos}
 use lib.Signed.{nonNeg}
 use lib.ListN.{length, take, drop, replicate, length-append, length-replicate, length-take, length-drop, length-map, take-append-drop}
 use borrow.Author.Tests.{eqb-true, leb-true, not-true}
-use Rattle.records.specs.Blanks.{noRefName, noFileName, noSnapshot, noLogEntry, noReference, noRef, noSchemaField, noSchema, noSortField, noSortOrder, noMetadataLogEntry}
+use Rattle.records.specs.Blanks.{noRefName, noFileName, noSnapshot, noLogEntry, noReference, noRef, noSchemaField, noSchema, noSortField, noSortOrder, noStatisticsFile, noMetadataLogEntry}
 use Rattle.records.specs.declared.counters.RowId.{RowId}
 use Rattle.records.specs.declared.text.RefName.{RefName}
 use Rattle.records.specs.declared.text.Location.{Location}
@@ -27,6 +27,8 @@ use Rattle.records.specs.declared.schema.Schemas.{Schemas}
 use Rattle.records.specs.declared.«sort_order».SortField.{SortField}
 use Rattle.records.specs.declared.«sort_order».SortOrder.{SortOrder}
 use Rattle.records.specs.declared.«sort_order».SortOrders.{SortOrders}
+use Rattle.records.specs.declared.statistics.StatisticsFile.{StatisticsFile}
+use Rattle.records.specs.declared.statistics.StatisticsFiles.{StatisticsFiles}
 use Rattle.records.specs.declared.metadata.MetadataLogEntry.{MetadataLogEntry}
 use Rattle.records.specs.declared.metadata.MetadataLog.{MetadataLog}
 use Rattle.records.specs.declared.metadata.SingleFields.{SingleFields}
@@ -34,10 +36,10 @@ use Rattle.records.specs.declared.metadata.TableMetadata.{TableMetadata}
 use Rattle.records.specs.declared.snapshot.Snapshot.{Snapshot}
 use Rattle.records.specs.declared.snapshot.Snapshots.{Snapshots}
 use Rattle.rules.specs.Words.{isSome, orElse, all, unequal, ascending}
-use Rattle.rules.specs.Capacities.{snapshotRoom, refRoom, snapshotLogRoom, metadataLogRoom, schemaRoom, schemaFieldRoom, sortOrderRoom, sortFieldRoom, refNameRoom, locationRoom, fileNameRoom}
-use Rattle.rules.specs.WellFormed.{snapshotFormed, refFormed, refNameFormed, fileNameFormed, schemaFormed, orderFormed, offeredOrderFormed, sortFieldFormed, atLeastOne, versionFormed, locationFormed, fieldIds, snapshotBelow, refBelow, schemaBelow, orderBelow, snapshotsFormed, refsFormed, snapshotLogFormed, metadataLogFormed, schemasFormed, ordersFormed, fieldsFormed, refsHeld, mainAgrees, currentSchemaHeld, defaultOrderHeld, metadataFormed}
-use Rattle.rules.specs.Blanks.{isZero, isZeroZ, restBlank, tidySlots, noneUsed, isTidyRefName, isBlankRefName, isTidyLocation, isTidyFileName, isBlankFileName, isTidySnapshot, isBlankSnapshot, isTidySnapshots, isBlankLogEntry, isTidySnapshotLog, isTidyReference, isBlankReference, isTidyRef, isBlankRef, isTidyRefs, isBlankSchemaField, isTidySchema, isBlankSchema, isTidySchemas, isBlankSortField, isTidySortOrder, isBlankSortOrder, isTidySortOrders, isTidyMetadataLogEntry, isBlankMetadataLogEntry, isTidyMetadataLog, isTidyFields, isTidyMetadata}
-use Rattle.rules.specs.Layout.{counted, pad, given, firstRow, addedRows, readRefName, laidRefName, readLocation, laidLocation, readFileName, laidFileName, readSnapshot, laidSnapshot, readSnapshots, laidSnapshots, readLogEntry, laidLogEntry, readSnapshotLog, laidSnapshotLog, readReference, laidReference, readRef, laidRef, readRefs, laidRefs, readSchemaField, laidSchemaField, readSchema, laidSchema, readSchemas, laidSchemas, readSortField, laidSortField, readSortOrder, laidSortOrder, readSortOrders, laidSortOrders, readMetadataLogEntry, laidMetadataLogEntry, readMetadataLog, laidMetadataLog, readFields, laidFields, readMetadata, laidMetadata}
+use Rattle.rules.specs.Capacities.{snapshotRoom, refRoom, snapshotLogRoom, metadataLogRoom, schemaRoom, schemaFieldRoom, sortOrderRoom, sortFieldRoom, statisticsRoom, refNameRoom, locationRoom, fileNameRoom}
+use Rattle.rules.specs.WellFormed.{snapshotFormed, refFormed, refNameFormed, fileNameFormed, schemaFormed, orderFormed, offeredOrderFormed, sortFieldFormed, statisticsFileFormed, atLeastOne, versionFormed, locationFormed, fieldIds, snapshotBelow, refBelow, schemaBelow, orderBelow, statisticsBelow, snapshotsFormed, refsFormed, snapshotLogFormed, metadataLogFormed, schemasFormed, ordersFormed, statisticsFormed, fieldsFormed, refsHeld, mainAgrees, currentSchemaHeld, defaultOrderHeld, metadataFormed}
+use Rattle.rules.specs.Blanks.{isZero, isZeroZ, restBlank, tidySlots, noneUsed, isTidyRefName, isBlankRefName, isTidyLocation, isTidyFileName, isBlankFileName, isTidySnapshot, isBlankSnapshot, isTidySnapshots, isBlankLogEntry, isTidySnapshotLog, isTidyReference, isBlankReference, isTidyRef, isBlankRef, isTidyRefs, isBlankSchemaField, isTidySchema, isBlankSchema, isTidySchemas, isBlankSortField, isTidySortOrder, isBlankSortOrder, isTidySortOrders, isTidyStatisticsFile, isBlankStatisticsFile, isTidyStatistics, isTidyMetadataLogEntry, isBlankMetadataLogEntry, isTidyMetadataLog, isTidyFields, isTidyMetadata}
+use Rattle.rules.specs.Layout.{counted, pad, given, firstRow, addedRows, readRefName, laidRefName, readLocation, laidLocation, readFileName, laidFileName, readSnapshot, laidSnapshot, readSnapshots, laidSnapshots, readLogEntry, laidLogEntry, readSnapshotLog, laidSnapshotLog, readReference, laidReference, readRef, laidRef, readRefs, laidRefs, readSchemaField, laidSchemaField, readSchema, laidSchema, readSchemas, laidSchemas, readSortField, laidSortField, readSortOrder, laidSortOrder, readSortOrders, laidSortOrders, readStatisticsFile, laidStatisticsFile, readStatistics, laidStatistics, readMetadataLogEntry, laidMetadataLogEntry, readMetadataLog, laidMetadataLog, readFields, laidFields, readMetadata, laidMetadata}
 use Rattle.rules.specs.Register as plain
 use Rattle.rules.proofs.Orders.{eqZ-equal}
 use Rattle.rules.proofs.Checks.{and-left, and-right, parts}
@@ -341,6 +343,33 @@ back-sort-orders t e f =
     let r = table-back noSortOrder isBlankSortOrder blank-sort-order readSortOrder laidSortOrder isTidySortOrder orderFormed (λ o e f. back-sort-order o e (and-left (offeredOrderFormed (readSortOrder o)) _ f)) sortOrderRoom (t .count) (t .items) e (k .0) (k .1 .0) in
     λ i. record { items = r .0 i; count = r .1 i }
 
+-- ---- statistics files
+
+pub blank-statistics-file : (f : StatisticsFile) → isBlankStatisticsFile f ≡ true → f ≡ noStatisticsFile
+unfolding isBlankStatisticsFile
+blank-statistics-file f e =
+    let h = parts (isZeroZ (f .«snapshot_id» .0)) (isBlankFileName (f .«statistics_path») ∷ isZeroZ (f .«file_size_in_bytes» .0) ∷ []) e in
+    let n : f .«statistics_path» ≡ noFileName = blank-file-name (f .«statistics_path») (h .1 .0) in
+    λ i. record {
+      «snapshot_id» = record { 0 = zeroZ (f .«snapshot_id» .0) (h .0) i };
+      «statistics_path» = n i;
+      «file_size_in_bytes» = record { 0 = zeroZ (f .«file_size_in_bytes» .0) (h .1 .1 .0) i };
+    }
+
+pub back-statistics-file : (f : StatisticsFile) → isTidyStatisticsFile f ≡ true → statisticsFileFormed (readStatisticsFile f) ≡ true → laidStatisticsFile (readStatisticsFile f) ≡ f
+unfolding isTidyStatisticsFile laidStatisticsFile
+back-statistics-file f e g =
+    let k = parts (nonNeg (f .«snapshot_id» .0)) (fileNameFormed (readFileName (f .«statistics_path»)) ∷ nonNeg (f .«file_size_in_bytes» .0) ∷ []) g in
+    let n : laidFileName (readFileName (f .«statistics_path»)) ≡ f .«statistics_path» = back-file-name (f .«statistics_path») e (leb-true _ fileNameRoom (k .1 .0)) in
+    λ i. record { «snapshot_id» = f .«snapshot_id»; «statistics_path» = n i; «file_size_in_bytes» = f .«file_size_in_bytes» }
+
+pub back-statistics : (t : StatisticsFiles) → isTidyStatistics t ≡ true → statisticsFormed (readStatistics t) ≡ true → laidStatistics (readStatistics t) ≡ t
+unfolding isTidyStatistics laidStatistics statisticsFormed
+back-statistics t e f =
+    let k = parts (leb (length (readStatistics t)) statisticsRoom) (all statisticsFileFormed (readStatistics t) ∷ ascending statisticsBelow (readStatistics t) ∷ []) f in
+    let r = table-back noStatisticsFile isBlankStatisticsFile blank-statistics-file readStatisticsFile laidStatisticsFile isTidyStatisticsFile statisticsFileFormed back-statistics-file statisticsRoom (t .count) (t .items) e (k .0) (k .1 .0) in
+    λ i. record { items = r .0 i; count = r .1 i }
+
 -- ---- metadata
 
 pub blank-metadata-log-entry : (x : MetadataLogEntry) → isBlankMetadataLogEntry x ≡ true → x ≡ noMetadataLogEntry
@@ -387,15 +416,17 @@ back-fields f e g =
 pub relaid : (m : TableMetadata) → isTidyMetadata m ≡ true → metadataFormed (readMetadata m) ≡ true → laidMetadata (readMetadata m) ≡ m
 unfolding isTidyMetadata laidMetadata metadataFormed
 relaid m e f =
-    let t = parts (isTidySnapshots (m .snapshots)) (isTidyRefs (m .refs) ∷ isTidySnapshotLog (m .«snapshot_log») ∷ isTidyMetadataLog (m .«metadata_log») ∷ isTidySchemas (m .schemas) ∷ isTidySortOrders (m .«sort_orders») ∷ isTidyFields (m .fields) ∷ []) e in
+    let t = parts (isTidySnapshots (m .snapshots)) (isTidyRefs (m .refs) ∷ isTidySnapshotLog (m .«snapshot_log») ∷ isTidyMetadataLog (m .«metadata_log») ∷ isTidySchemas (m .schemas) ∷ isTidySortOrders (m .«sort_orders») ∷ isTidyStatistics (m .statistics) ∷ isTidyStatistics (m .«partition_statistics») ∷ isTidyFields (m .fields) ∷ []) e in
     let p = readMetadata m in
-    let k = parts (snapshotsFormed (p .snapshots)) (refsFormed (p .refs) ∷ snapshotLogFormed (p .snapshotLog) ∷ metadataLogFormed (p .metadataLog) ∷ schemasFormed (p .schemas) ∷ ordersFormed (p .orders) ∷ fieldsFormed (p .fields) ∷ refsHeld p ∷ mainAgrees p ∷ currentSchemaHeld p ∷ defaultOrderHeld p ∷ []) f in
+    let k = parts (snapshotsFormed (p .snapshots)) (refsFormed (p .refs) ∷ snapshotLogFormed (p .snapshotLog) ∷ metadataLogFormed (p .metadataLog) ∷ schemasFormed (p .schemas) ∷ ordersFormed (p .orders) ∷ statisticsFormed (p .statistics) ∷ statisticsFormed (p .partitionStatistics) ∷ fieldsFormed (p .fields) ∷ refsHeld p ∷ mainAgrees p ∷ currentSchemaHeld p ∷ defaultOrderHeld p ∷ []) f in
     λ i. record {
-      fields = back-fields (m .fields) (t .1 .1 .1 .1 .1 .1 .0) (k .1 .1 .1 .1 .1 .1 .0) i;
+      fields = back-fields (m .fields) (t .1 .1 .1 .1 .1 .1 .1 .1 .0) (k .1 .1 .1 .1 .1 .1 .1 .1 .0) i;
       snapshots = back-snapshots (m .snapshots) (t .0) (k .0) i;
       refs = back-refs (m .refs) (t .1 .0) (k .1 .0) i;
       «snapshot_log» = back-snapshot-log (m .«snapshot_log») (t .1 .1 .0) (k .1 .1 .0) i;
       «metadata_log» = back-metadata-log (m .«metadata_log») (t .1 .1 .1 .0) (k .1 .1 .1 .0) i;
       schemas = back-schemas (m .schemas) (t .1 .1 .1 .1 .0) (k .1 .1 .1 .1 .0) i;
       «sort_orders» = back-sort-orders (m .«sort_orders») (t .1 .1 .1 .1 .1 .0) (k .1 .1 .1 .1 .1 .0) i;
+      statistics = back-statistics (m .statistics) (t .1 .1 .1 .1 .1 .1 .0) (k .1 .1 .1 .1 .1 .1 .0) i;
+      «partition_statistics» = back-statistics (m .«partition_statistics») (t .1 .1 .1 .1 .1 .1 .1 .0) (k .1 .1 .1 .1 .1 .1 .1 .0) i;
     }

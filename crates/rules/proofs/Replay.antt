@@ -11,7 +11,7 @@ use Rattle.rules.specs.Words.{all, ifSome}
 use Rattle.rules.specs.Capacities.{listRoom}
 use Rattle.rules.specs.Register.{FileEntry, Metadata, Update, Terms, State}
 use Rattle.rules.specs.Register.Outcome.{Accepted}
-use Rattle.rules.specs.Register.Update.{AssignUuid, UpgradeFormatVersion, SetLocation, AddSnapshot, SetBranchSnapshot, RemoveSnapshots, SetRef, RemoveRef, AddSchema, SetCurrentSchema, RemoveSchemas, AddSortOrder, SetDefaultSortOrder, NotFormed}
+use Rattle.rules.specs.Register.Update.{AssignUuid, UpgradeFormatVersion, SetLocation, AddSnapshot, SetBranchSnapshot, RemoveSnapshots, SetRef, RemoveRef, AddSchema, SetCurrentSchema, RemoveSchemas, AddSortOrder, SetDefaultSortOrder, SetStatistics, RemoveStatistics, NotFormed}
 use Rattle.rules.specs.WellFormed.{metadataFormed, fileNameFormed, updateFormed}
 use Rattle.rules.specs.Updates.{updateNumber, effect}
 use Rattle.rules.specs.Run.{weight, listSum, runFrom, started, run}
@@ -27,6 +27,7 @@ use Rattle.rules.proofs.ReplaySnapshots.{add-snapshot-replays, remove-s
 use Rattle.rules.proofs.ReplayRefs.{set-ref-replays, set-branch-snapshot-replays, remove-ref-replays}
 use Rattle.rules.proofs.ReplaySchemas.{add-schema-replays, set-current-schema-replays, remove-schemas-replays}
 use Rattle.rules.proofs.ReplayOrders.{add-sort-order-replays, set-default-sort-order-replays}
+use Rattle.rules.proofs.ReplayStatistics.{set-statistics-replays, remove-statistics-replays}
 use Rattle.rules.proofs.ReplayClose.{close-alike}
 use Rattle.rules.proofs.SoundRun.{not-reached, same-state}
 use Rattle.rules.proofs.AcceptedRun.{Ends, run-accepted, run-started}
@@ -48,6 +49,8 @@ update-replays terms (SetCurrentSchema id) st e k = set-current-schema-replays t
 update-replays terms (RemoveSchemas ids) st e k = remove-schemas-replays terms ids st e k
 update-replays terms (AddSortOrder o) st e k = add-sort-order-replays terms o st e k
 update-replays terms (SetDefaultSortOrder id) st e k = set-default-sort-order-replays terms id st e
+update-replays terms (SetStatistics which f) st e k = set-statistics-replays terms which f st e
+update-replays terms (RemoveStatistics which id) st e k = remove-statistics-replays terms which id st e
 update-replays terms (NotFormed counts) st e k = absurd (false≢true (accepted-form terms (NotFormed counts) st e))
 
 -- ---- the updates of a run, from any state and at any place

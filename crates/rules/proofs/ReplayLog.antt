@@ -5,7 +5,7 @@ use mathlib.Core.List.{List, _++_}
 use mathlib.Core.Option.{none}
 use lib.IntN.{ℤ}
 use Rattle.rules.specs.Register.{Update}
-use Rattle.rules.specs.Register.Update.{AssignUuid, UpgradeFormatVersion, SetLocation, AddSnapshot, SetBranchSnapshot, RemoveSnapshots, SetRef, RemoveRef, AddSchema, SetCurrentSchema, RemoveSchemas, AddSortOrder, SetDefaultSortOrder, NotFormed}
+use Rattle.rules.specs.Register.Update.{AssignUuid, UpgradeFormatVersion, SetLocation, AddSnapshot, SetBranchSnapshot, RemoveSnapshots, SetRef, RemoveRef, AddSchema, SetCurrentSchema, RemoveSchemas, AddSortOrder, SetDefaultSortOrder, SetStatistics, RemoveStatistics, NotFormed}
 use Rattle.rules.specs.ChangeLog.{isAddition, logsAddition, mainTarget, logsMain, isSnapshotRemoval, logsRemoval}
 use Rattle.rules.specs.Replay.{isEmptySchemaRemoval, strip}
 use Rattle.rules.proofs.ReplayLists.{keep-append, keep-keep, any-append, any-kept, collect-kept}
@@ -26,6 +26,8 @@ dropped-adds-none id (SetCurrentSchema c) e = refl
 dropped-adds-none id (RemoveSchemas ids) e = refl
 dropped-adds-none id (AddSortOrder o) e = refl
 dropped-adds-none id (SetDefaultSortOrder c) e = refl
+dropped-adds-none id (SetStatistics which f) e = refl
+dropped-adds-none id (RemoveStatistics which c) e = refl
 dropped-adds-none id (NotFormed counts) e = refl
 
 dropped-sets-no-main : (u : Update) → not (isEmptySchemaRemoval u) ≡ false → mainTarget u ≡ none
@@ -42,6 +44,8 @@ dropped-sets-no-main (SetCurrentSchema c) e = refl
 dropped-sets-no-main (RemoveSchemas ids) e = refl
 dropped-sets-no-main (AddSortOrder o) e = refl
 dropped-sets-no-main (SetDefaultSortOrder c) e = refl
+dropped-sets-no-main (SetStatistics which f) e = refl
+dropped-sets-no-main (RemoveStatistics which id) e = refl
 dropped-sets-no-main (NotFormed counts) e = refl
 
 dropped-removes-none : (u : Update) → not (isEmptySchemaRemoval u) ≡ false → isSnapshotRemoval u ≡ false
@@ -58,6 +62,8 @@ dropped-removes-none (SetCurrentSchema c) e = refl
 dropped-removes-none (RemoveSchemas ids) e = refl
 dropped-removes-none (AddSortOrder o) e = refl
 dropped-removes-none (SetDefaultSortOrder c) e = refl
+dropped-removes-none (SetStatistics which f) e = refl
+dropped-removes-none (RemoveStatistics which id) e = refl
 dropped-removes-none (NotFormed counts) e = refl
 
 -- ---- the three facts

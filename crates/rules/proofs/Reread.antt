@@ -8,16 +8,17 @@ use mathlib.Core.Option.{Option, none, some}
 use lib.IntN.{ℤ, pos}
 use lib.ListN.{length, replicate, length-append, length-map}
 use lib.Seq.{take-append-seam}
-use Rattle.records.specs.Blanks.{noSnapshotId, noSnapshot, noLogEntry, noRef, noSchemaField, noSchema, noSchemaId, noSortField, noSortOrder, noMetadataLogEntry, noUpdate}
+use Rattle.records.specs.Blanks.{noSnapshotId, noSnapshot, noLogEntry, noRef, noSchemaField, noSchema, noSchemaId, noSortField, noSortOrder, noStatisticsFile, noMetadataLogEntry, noUpdate}
 use Rattle.records.specs.declared.counters.SnapshotId.{SnapshotId}
 use Rattle.records.specs.declared.counters.SchemaId.{SchemaId}
 use Rattle.rules.specs.Words.{isSome, orElse, all}
-use Rattle.rules.specs.Capacities.{snapshotRoom, refRoom, snapshotLogRoom, metadataLogRoom, schemaRoom, schemaFieldRoom, sortOrderRoom, sortFieldRoom, removalRoom, refNameRoom, locationRoom, fileNameRoom, listRoom}
+use Rattle.rules.specs.Capacities.{snapshotRoom, refRoom, snapshotLogRoom, metadataLogRoom, schemaRoom, schemaFieldRoom, sortOrderRoom, sortFieldRoom, statisticsRoom, removalRoom, refNameRoom, locationRoom, fileNameRoom, listRoom}
 use Rattle.rules.specs.Register as plain
 use Rattle.rules.specs.Register.{Update}
-use Rattle.rules.specs.Register.Update.{AssignUuid, UpgradeFormatVersion, SetLocation, AddSnapshot, SetBranchSnapshot, RemoveSnapshots, SetRef, RemoveRef, AddSchema, SetCurrentSchema, RemoveSchemas, AddSortOrder, SetDefaultSortOrder, NotFormed}
+use Rattle.rules.specs.Register.Update.{AssignUuid, UpgradeFormatVersion, SetLocation, AddSnapshot, SetBranchSnapshot, RemoveSnapshots, SetRef, RemoveRef, AddSchema, SetCurrentSchema, RemoveSchemas, AddSortOrder, SetDefaultSortOrder, SetStatistics, RemoveStatistics, NotFormed}
+use Rattle.rules.specs.Register.StatisticsTable.{Statistics, PartitionStatistics}
 use Rattle.rules.specs.WellFormed.{updateFormed}
-use Rattle.rules.specs.Layout.{counted, pad, given, firstRow, addedRows, readRefName, laidRefName, readLocation, laidLocation, readFileName, laidFileName, readSnapshot, laidSnapshot, readSnapshots, laidSnapshots, readSnapshotIds, laidSnapshotIds, readLogEntry, laidLogEntry, readSnapshotLog, laidSnapshotLog, readReference, laidReference, readRef, laidRef, readRefs, laidRefs, readSchemaField, laidSchemaField, readSchema, laidSchema, readSchemas, laidSchemas, readSchemaIds, laidSchemaIds, readSortField, laidSortField, readSortOrder, laidSortOrder, readSortOrders, laidSortOrders, readMetadataLogEntry, laidMetadataLogEntry, readMetadataLog, laidMetadataLog, readFields, laidFields, readMetadata, laidMetadata}
+use Rattle.rules.specs.Layout.{counted, pad, given, firstRow, addedRows, readRefName, laidRefName, readLocation, laidLocation, readFileName, laidFileName, readSnapshot, laidSnapshot, readSnapshots, laidSnapshots, readSnapshotIds, laidSnapshotIds, readLogEntry, laidLogEntry, readSnapshotLog, laidSnapshotLog, readReference, laidReference, readRef, laidRef, readRefs, laidRefs, readSchemaField, laidSchemaField, readSchema, laidSchema, readSchemas, laidSchemas, readSchemaIds, laidSchemaIds, readSortField, laidSortField, readSortOrder, laidSortOrder, readSortOrders, laidSortOrders, readStatisticsFile, laidStatisticsFile, readStatistics, laidStatistics, readMetadataLogEntry, laidMetadataLogEntry, readMetadataLog, laidMetadataLog, readFields, laidFields, readMetadata, laidMetadata}
 use Rattle.rules.specs.Kinds.{readKind, readUpdate, laidUpdate, readUpdates, laidUpdates}
 use Rattle.rules.proofs.Checks.{and-left, and-right}
 use Rattle.rules.proofs.Laid.{tidy-update}
@@ -132,6 +133,16 @@ pub reread-sort-orders : (l : List plain.SortOrder) → readSortOrders (laidSort
 unfolding laidSortOrders
 reread-sort-orders l = table-reread readSortOrder laidSortOrder reread-sort-order sortOrderRoom noSortOrder l
 
+-- ---- statistics files
+
+pub reread-statistics-file : (f : plain.StatisticsFile) → readStatisticsFile (laidStatisticsFile f) ≡ f
+unfolding laidStatisticsFile
+reread-statistics-file f = λ i. record { snapshot = f .snapshot; path = reread-file-name (f .path) i; size = f .size }
+
+pub reread-statistics : (l : List plain.StatisticsFile) → readStatistics (laidStatistics l) ≡ l
+unfolding laidStatistics
+reread-statistics l = table-reread readStatisticsFile laidStatisticsFile reread-statistics-file statisticsRoom noStatisticsFile l
+
 -- ---- metadata
 
 pub reread-metadata-log-entry : (e : plain.FileEntry) → readMetadataLogEntry (laidMetadataLogEntry e) ≡ e
@@ -170,6 +181,8 @@ reread-metadata p =
       metadataLog = reread-metadata-log (p .metadataLog) i;
       schemas = reread-schemas (p .schemas) i;
       orders = reread-sort-orders (p .orders) i;
+      statistics = reread-statistics (p .statistics) i;
+      partitionStatistics = reread-statistics (p .partitionStatistics) i;
     }
 
 -- ---- updates
@@ -190,6 +203,10 @@ reread-kind (SetCurrentSchema id) f = refl
 reread-kind (RemoveSchemas ids) f = ap RemoveSchemas (reread-schema-ids ids)
 reread-kind (AddSortOrder o) f = ap AddSortOrder (reread-sort-order o)
 reread-kind (SetDefaultSortOrder id) f = refl
+reread-kind (SetStatistics Statistics x) f = ap (SetStatistics Statistics) (reread-statistics-file x)
+reread-kind (SetStatistics PartitionStatistics x) f = ap (SetStatistics PartitionStatistics) (reread-statistics-file x)
+reread-kind (RemoveStatistics Statistics id) f = refl
+reread-kind (RemoveStatistics PartitionStatistics id) f = refl
 reread-kind (NotFormed counts) f = absurd (false≢true f)
 
 -- one that does not fit its slots, or of no known kind, would read as not well formed

@@ -15,14 +15,16 @@ use Rattle.rules.specs.Replies.{commitOnTag}
 use Rattle.rules.specs.Capacities.{largestRowId}
 use Rattle.rules.specs.RowIds.{isBehind, overflows}
 use Rattle.rules.specs.Names.{isMain, trimmed}
-use Rattle.rules.specs.Register.{RowRange, Snapshot, Reference, Schema, SortOrder, Update, Terms, State, logged}
-use Rattle.rules.specs.Register.Update.{AssignUuid, UpgradeFormatVersion, SetLocation, AddSnapshot, SetBranchSnapshot, RemoveSnapshots, SetRef, RemoveRef, AddSchema, SetCurrentSchema, RemoveSchemas, AddSortOrder, SetDefaultSortOrder, NotFormed}
+use Rattle.rules.specs.Register.{RowRange, Snapshot, Reference, Schema, SortOrder, StatisticsFile, StatisticsTable, Update, Terms, State, logged}
+use Rattle.rules.specs.Register.Update.{AssignUuid, UpgradeFormatVersion, SetLocation, AddSnapshot, SetBranchSnapshot, RemoveSnapshots, SetRef, RemoveRef, AddSchema, SetCurrentSchema, RemoveSchemas, AddSortOrder, SetDefaultSortOrder, SetStatistics, RemoveStatistics, NotFormed}
 use Rattle.rules.specs.WellFormed.{versionFormed, updateFormed}
 use Rattle.rules.specs.SingleUpdates.{assignUuid, upgradeFormatVersionChecks, upgradeFormatVersion, setLocation}
 use Rattle.rules.specs.SnapshotUpdates.{isVersion3, addSnapshotChecks, addSnapshot, heldSnapshots, withoutSnapshots, removeSnapshots}
 use Rattle.rules.specs.RefUpdates.{refNamed, isHeldRef, putRef, setRefChecks, setRef, committed, isTag, setBranchSnapshotChecks, setBranchSnapshot, removeRef}
 use Rattle.rules.specs.SchemaUpdates.{reusedSchema, addSchema, chosen, setCurrentSchema, removeSchemas}
 use Rattle.rules.specs.OrderUpdates.{reusedOrder, addSortOrder, setDefaultSortOrder}
+use Rattle.rules.specs.Register.StatisticsTable.{Statistics, PartitionStatistics}
+use Rattle.rules.specs.StatisticsUpdates.{hasFileOf, setStatistics, removeStatistics}
 use Rattle.rules.specs.Updates.{checks, updateNumber, effect}
 use Rattle.rules.specs.Rows.{newSnapshot, newSnapshots, endOf}
 use Rattle.rules.proofs.Checks.{by-test, by-option, and-right, passed, passed-before, passed-after}
@@ -121,6 +123,16 @@ module _ (st : State) where
   unfolding setDefaultSortOrder
   set-default-sort-order-keeps id = by-test (Keeps st) (eqZ (chosen id (st .added .order)) (st .metadata .fields .defaultOrder)) (λ e. refl) (λ e. logged-keeps st _ refl)
 
+  pub set-statistics-keeps : (which : StatisticsTable) (f : StatisticsFile) → Keeps st (setStatistics which f st)
+  unfolding setStatistics
+  set-statistics-keeps Statistics f = logged-keeps st _ refl
+  set-statistics-keeps PartitionStatistics f = logged-keeps st _ refl
+
+  pub remove-statistics-keeps : (which : StatisticsTable) (id : ℤ) → Keeps st (removeStatistics which id st)
+  unfolding removeStatistics
+  remove-statistics-keeps Statistics id = by-test (Keeps st) (hasFileOf (st .metadata .statistics) id) (λ e. logged-keeps st _ refl) (λ e. refl)
+  remove-statistics-keeps PartitionStatistics id = by-test (Keeps st) (hasFileOf (st .metadata .partitionStatistics) id) (λ e. logged-keeps st _ refl) (λ e. refl)
+
 -- a removal takes snapshots from the table and leaves the rest of it
 pub remove-snapshots-keeps : (ids : List ℤ) (st : State) → Keeps (withoutSnapshots ids st) (removeSnapshots ids st)
 unfolding removeSnapshots
@@ -184,6 +196,8 @@ checked-step terms (SetCurrentSchema id) st f e v = leaves (set-current-schema-k
 checked-step terms (RemoveSchemas ids) st f e v = leaves (remove-schemas-keeps st ids)
 checked-step terms (AddSortOrder o) st f e v = leaves (add-sort-order-keeps st o)
 checked-step terms (SetDefaultSortOrder id) st f e v = leaves (set-default-sort-order-keeps st id)
+checked-step terms (SetStatistics which x) st f e v = leaves (set-statistics-keeps st which x)
+checked-step terms (RemoveStatistics which id) st f e v = leaves (remove-statistics-keeps st which id)
 checked-step terms (NotFormed counts) st f e v = leaves refl
 
 pub effect-step : (terms : Terms) (u : Update) (st : State) → updateNumber terms u st ≡ 0 → st .metadata .fields .version ≡ 3 → Step st (effect terms u st) (newSnapshots (u ∷ []))

@@ -6,7 +6,7 @@ use borrow.Author.Tests.{not-false}
 use Rattle.rules.specs.Words.{firstOf}
 use Rattle.rules.specs.Replies.{updateNotFormed}
 use Rattle.rules.specs.Register.{Update, Terms, State}
-use Rattle.rules.specs.Register.Update.{AssignUuid, UpgradeFormatVersion, SetLocation, AddSnapshot, SetBranchSnapshot, RemoveSnapshots, SetRef, RemoveRef, AddSchema, SetCurrentSchema, RemoveSchemas, AddSortOrder, SetDefaultSortOrder, NotFormed}
+use Rattle.rules.specs.Register.Update.{AssignUuid, UpgradeFormatVersion, SetLocation, AddSnapshot, SetBranchSnapshot, RemoveSnapshots, SetRef, RemoveRef, AddSchema, SetCurrentSchema, RemoveSchemas, AddSortOrder, SetDefaultSortOrder, SetStatistics, RemoveStatistics, NotFormed}
 use Rattle.rules.specs.WellFormed.{refNameFormed, snapshotFormed, updateFormed}
 use Rattle.rules.specs.Updates.{checks, updateNumber, effect}
 use Rattle.rules.proofs.Checks.{and-left, and-right, passed, passed-before, passed-after}
@@ -16,6 +16,7 @@ use Rattle.rules.proofs.SoundSnapshots.{add-snapshot-sound, remove-snap
 use Rattle.rules.proofs.SoundRefs.{set-ref-sound, set-branch-snapshot-sound, remove-ref-sound}
 use Rattle.rules.proofs.SoundSchemas.{add-schema-sound, set-current-schema-sound, remove-schemas-sound}
 use Rattle.rules.proofs.SoundOrders.{add-sort-order-sound, set-default-sort-order-sound}
+use Rattle.rules.proofs.SoundStatistics.{set-statistics-sound, remove-statistics-sound}
 
 -- an accepted update is well formed, and none of its checks failed
 pub accepted-form : (terms : Terms) (u : Update) (st : State) → updateNumber terms u st ≡ 0 → updateFormed u ≡ true
@@ -42,6 +43,8 @@ checked-sound terms (SetCurrentSchema id) st f e s = set-current-schema-sound id
 checked-sound terms (RemoveSchemas ids) st f e s = remove-schemas-sound ids st e s
 checked-sound terms (AddSortOrder o) st f e s = add-sort-order-sound o st f e s
 checked-sound terms (SetDefaultSortOrder id) st f e s = set-default-sort-order-sound id st e s
+checked-sound terms (SetStatistics which x) st f e s = set-statistics-sound which x st f e s
+checked-sound terms (RemoveStatistics which id) st f e s = remove-statistics-sound which id st s
 checked-sound terms (NotFormed counts) st f e s = s
 
 pub effect-sound : (terms : Terms) (u : Update) (st : State) → updateNumber terms u st ≡ 0 → Sound (st .metadata) → Sound (effect terms u st .metadata)

@@ -26,12 +26,14 @@ use Rattle.records.specs.declared.schema.SchemaIds.{SchemaIds}
 use Rattle.records.specs.declared.«sort_order».SortField.{SortField}
 use Rattle.records.specs.declared.«sort_order».SortOrder.{SortOrder}
 use Rattle.records.specs.declared.«sort_order».SortOrders.{SortOrders}
+use Rattle.records.specs.declared.statistics.StatisticsFile.{StatisticsFile}
+use Rattle.records.specs.declared.statistics.StatisticsFiles.{StatisticsFiles}
 use Rattle.records.specs.declared.metadata.MetadataLogEntry.{MetadataLogEntry}
 use Rattle.records.specs.declared.metadata.MetadataLog.{MetadataLog}
 use Rattle.records.specs.declared.metadata.SingleFields.{SingleFields}
 use Rattle.records.specs.declared.metadata.TableMetadata.{TableMetadata}
 use Rattle.rules.specs.Words.{eqZ, all}
-use Rattle.rules.specs.Capacities.{snapshotRoom, refRoom, snapshotLogRoom, metadataLogRoom, schemaRoom, schemaFieldRoom, sortOrderRoom, sortFieldRoom, removalRoom, refNameRoom, locationRoom, fileNameRoom}
+use Rattle.rules.specs.Capacities.{snapshotRoom, refRoom, snapshotLogRoom, metadataLogRoom, schemaRoom, schemaFieldRoom, sortOrderRoom, sortFieldRoom, statisticsRoom, removalRoom, refNameRoom, locationRoom, fileNameRoom}
 
 -- ---- numbers and slots
 
@@ -174,6 +176,17 @@ isBlankSortOrder o = isZeroZ (o .«order_id» .0) && noneUsed sortFieldRoom isBl
 unfoldable pub isTidySortOrders : SortOrders → Bool
 isTidySortOrders t = tidySlots sortOrderRoom isTidySortOrder isBlankSortOrder (t .items) (t .count)
 
+-- ---- statistics files
+
+unfoldable pub isTidyStatisticsFile : StatisticsFile → Bool
+isTidyStatisticsFile f = isTidyFileName (f .«statistics_path»)
+
+unfoldable pub isBlankStatisticsFile : StatisticsFile → Bool
+isBlankStatisticsFile f = isZeroZ (f .«snapshot_id» .0) && isBlankFileName (f .«statistics_path») && isZeroZ (f .«file_size_in_bytes» .0)
+
+unfoldable pub isTidyStatistics : StatisticsFiles → Bool
+isTidyStatistics t = tidySlots statisticsRoom isTidyStatisticsFile isBlankStatisticsFile (t .items) (t .count)
+
 -- ---- metadata
 
 unfoldable pub isTidyMetadataLogEntry : MetadataLogEntry → Bool
@@ -197,4 +210,6 @@ isTidyMetadata m =
     && isTidyMetadataLog (m .«metadata_log»)
     && isTidySchemas (m .schemas)
     && isTidySortOrders (m .«sort_orders»)
+    && isTidyStatistics (m .statistics)
+    && isTidyStatistics (m .«partition_statistics»)
     && isTidyFields (m .fields)

@@ -26,6 +26,10 @@ sortOrderRoom = 16
 abbrev pub sortFieldRoom : ℕ
 sortFieldRoom = 8
 
+-- document 02, request (ii): "32 records each"
+abbrev pub statisticsRoom : ℕ
+statisticsRoom = 32
+
 abbrev pub removalRoom : ℕ
 removalRoom = 16
 
@@ -35,6 +39,7 @@ refNameRoom = 32
 abbrev pub locationRoom : ℕ
 locationRoom = 96
 
+-- also of a path: document 02, request (ii), "path up to 96 bytes"
 abbrev pub fileNameRoom : ℕ
 fileNameRoom = 96
 

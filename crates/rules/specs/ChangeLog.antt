@@ -7,7 +7,7 @@ use lib.IntN.{ℤ}
 use Rattle.rules.specs.Words.{eqZ, any, collect}
 use Rattle.rules.specs.Names.{isMain}
 use Rattle.rules.specs.Register.{Update}
-use Rattle.rules.specs.Register.Update.{AssignUuid, UpgradeFormatVersion, SetLocation, AddSnapshot, SetBranchSnapshot, RemoveSnapshots, SetRef, RemoveRef, AddSchema, SetCurrentSchema, RemoveSchemas, AddSortOrder, SetDefaultSortOrder, NotFormed}
+use Rattle.rules.specs.Register.Update.{AssignUuid, UpgradeFormatVersion, SetLocation, AddSnapshot, SetBranchSnapshot, RemoveSnapshots, SetRef, RemoveRef, AddSchema, SetCurrentSchema, RemoveSchemas, AddSortOrder, SetDefaultSortOrder, SetStatistics, RemoveStatistics, NotFormed}
 
 -- it adds the snapshot
 abbrev pub isAddition : ℤ → Update → Bool
@@ -24,6 +24,8 @@ isAddition id (SetCurrentSchema c) = false
 isAddition id (RemoveSchemas ids) = false
 isAddition id (AddSortOrder o) = false
 isAddition id (SetDefaultSortOrder c) = false
+isAddition id (SetStatistics which f) = false
+isAddition id (RemoveStatistics which c) = false
 isAddition id (NotFormed counts) = false
 
 -- "this run logged the addition of that snapshot"
@@ -45,6 +47,8 @@ mainTarget (SetCurrentSchema id) = none
 mainTarget (RemoveSchemas ids) = none
 mainTarget (AddSortOrder o) = none
 mainTarget (SetDefaultSortOrder id) = none
+mainTarget (SetStatistics which f) = none
+mainTarget (RemoveStatistics which id) = none
 mainTarget (NotFormed counts) = none
 
 -- "to which a logged `main` ref went"
@@ -66,6 +70,8 @@ isSnapshotRemoval (SetCurrentSchema id) = false
 isSnapshotRemoval (RemoveSchemas ids) = false
 isSnapshotRemoval (AddSortOrder o) = false
 isSnapshotRemoval (SetDefaultSortOrder id) = false
+isSnapshotRemoval (SetStatistics which f) = false
+isSnapshotRemoval (RemoveStatistics which id) = false
 isSnapshotRemoval (NotFormed counts) = false
 
 -- "a logged snapshot removal"

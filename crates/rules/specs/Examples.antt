@@ -1,9 +1,9 @@
 -- P1 to P12 of document 01, "Examples on both sides", every clause a question and the reply that it must get; then its "Easy wrong turns",
 -- and, each with a name, examples of clauses that no P shows; docs/RULES.md cites them by these names.
 -- That the rules give these replies is one statement over the list (`examples-hold`, in proofs/Examples).
-use Prim.Native.Nat.{ℕ}
+use Prim.Native.Nat.{ℕ, zero, suc}
 use mathlib.Core.Bool.{Bool, true, false}
-use mathlib.Core.List.{List, [], _∷_}
+use mathlib.Core.List.{List, [], _∷_, _++_}
 use mathlib.Core.Option.{Option, none, some}
 use lib.IntN.{ℤ, pos, negsuc}
 use lib.ListN.{replicate}
@@ -11,9 +11,10 @@ use Rattle.records.specs.declared.counters.SequenceNumber.{SequenceNumber}
 use Rattle.records.specs.declared.counters.RowId.{RowId}
 use Rattle.rules.specs.Names.{mainName}
 use Rattle.rules.specs.Window.{defaultTolerance}
-use Rattle.rules.specs.Register.{Snapshot, Reference, NamedRef, LogEntry, FileEntry, Schema, SortOrder, Metadata, Update, Terms, Outcome}
+use Rattle.rules.specs.Register.{Snapshot, Reference, NamedRef, LogEntry, FileEntry, Schema, SortOrder, StatisticsFile, StatisticsTable, Metadata, Update, Terms, Outcome, statisticsOf}
+use Rattle.rules.specs.Register.StatisticsTable.{Statistics, PartitionStatistics}
 use Rattle.rules.specs.Register.Outcome.{Refused, Accepted}
-use Rattle.rules.specs.Register.Update.{AssignUuid, UpgradeFormatVersion, SetLocation, AddSnapshot, SetBranchSnapshot, RemoveSnapshots, SetRef, RemoveRef, AddSchema, SetCurrentSchema, RemoveSchemas, AddSortOrder, SetDefaultSortOrder}
+use Rattle.rules.specs.Register.Update.{AssignUuid, UpgradeFormatVersion, SetLocation, AddSnapshot, SetBranchSnapshot, RemoveSnapshots, SetRef, RemoveRef, AddSchema, SetCurrentSchema, RemoveSchemas, AddSortOrder, SetDefaultSortOrder, SetStatistics, RemoveStatistics}
 use Rattle.rules.specs.Limit.{limitGiven}
 use Rattle.rules.specs.Walk.{Walk, Listed, Twice, Bad, ancestors, recordAncestors}
 use Rattle.rules.specs.Moment.{currentAt, entriesRead, isWhole, removesAndAdds}
@@ -26,6 +27,8 @@ pub data Look : Type 0 where
   AtHistory AtSnapshots AtSequence AtNextRow AtColumn AtUpdated AtLog AtFiles AtRemovedAndAdded : Look
   -- which snapshot was current at a time
   AtMoment : ℤ → Look
+  -- a table of statistics files
+  AtStatistics : StatisticsTable → Look
 
 pub data Question : Type 0 where
   -- a run
@@ -56,6 +59,7 @@ pub data Reply : Type 0 where
   Files : List FileEntry → List FileEntry → Reply
   Limit : ℕ → Reply
   Walked : Walk → Reply
+  Attached : List StatisticsFile → Reply
   -- the entry, and how many were read
   Current : Option LogEntry → ℕ → Reply
   Whole : Bool → Reply
@@ -77,6 +81,7 @@ look AtLog (Accepted m log expired) = Log log
 look AtFiles (Accepted m log expired) = Files expired (m .metadataLog)
 look AtRemovedAndAdded (Accepted m log expired) = RemovedAndAdded (removesAndAdds log)
 look (AtMoment time) (Accepted m log expired) = moment time (m .snapshotLog)
+look (AtStatistics which) (Accepted m log expired) = Attached (statisticsOf which m)
 
 abbrev pub rerun : Terms → Metadata → Outcome → Outcome
 rerun terms m (Refused number place) = Refused number place
@@ -172,6 +177,8 @@ register version sequence next updated snapshots current refs log files =
       metadataLog = files;
       schemas = record { id = pos 0; fields = record { id = pos 1 } ∷ [] } ∷ [];
       orders = record { id = pos 0; fields = [] } ∷ [];
+      statistics = [];
+      partitionStatistics = [];
     }
 
 -- `main` at a snapshot
@@ -240,6 +247,18 @@ orderOf field id = record { id = pos id; fields = record { source = pos field; d
 -- the order of no fields, with an id
 abbrev pub unordered : ℕ → SortOrder
 unordered id = record { id = pos id; fields = [] }
+
+-- a statistics file of a snapshot, with a size
+abbrev pub attached : ℕ → ℕ → StatisticsFile
+attached id size = record { snapshot = pos id; path = 112 ∷ []; size = pos size }
+
+abbrev pub attaching : ℕ → ℕ → Update
+attaching id size = SetStatistics Statistics (attached id size)
+
+-- so many files, of as many snapshots
+abbrev pub attachings : ℕ → List Update
+attachings zero = []
+attachings (suc n) = attaching n 1 ∷ attachings n
 
 -- ---- the examples
 
@@ -505,4 +524,25 @@ examples =
     ∷ (OfRun AtLog (tolerating (pos 3600000)) first (adding 2 30000 ∷ []) gives Log (adding 2 30000 ∷ []))
     ∷ (OfReplay AtLog (tolerating (pos 3600000)) first (adding 2 30000 ∷ []) gives Log (adding 2 30000 ∷ []))
     ∷ (OfRun AtLog terms first (adding 2 30000 ∷ []) gives Refusal 7 0)
+    -- Document 02, request (ii), by name.
+    -- statistics: a file takes the place of one of its snapshot, in ascending order; the snapshot need not be held
+    ∷ (OfRun (AtStatistics Statistics) terms three (attaching 9 1 ∷ attaching 2 5 ∷ attaching 9 7 ∷ []) gives Attached (attached 2 5 ∷ attached 9 7 ∷ []))
+    -- other statistics: the other table stays as it was
+    ∷ (OfRun (AtStatistics PartitionStatistics) terms three (attaching 9 1 ∷ []) gives Attached [])
+    ∷ (OfRun (AtStatistics PartitionStatistics) terms three (SetStatistics PartitionStatistics (attached 9 1) ∷ RemoveStatistics Statistics (pos 9) ∷ []) gives Attached (attached 9 1 ∷ []))
+    -- equal statistics: an equal file is logged too
+    ∷ (OfRun AtLog terms three (attaching 9 1 ∷ attaching 9 1 ∷ []) gives Log (attaching 9 1 ∷ attaching 9 1 ∷ []))
+    -- statistics removed: a removal is logged only if there was a file
+    ∷ (OfRun AtLog terms three (attaching 9 1 ∷ RemoveStatistics Statistics (pos 8) ∷ RemoveStatistics Statistics (pos 9) ∷ RemoveStatistics Statistics (pos 9) ∷ []) gives Log (attaching 9 1 ∷ RemoveStatistics Statistics (pos 9) ∷ []))
+    ∷ (OfRun (AtStatistics Statistics) terms three (attaching 9 1 ∷ RemoveStatistics Statistics (pos 9) ∷ []) gives Attached [])
+    -- snapshot gone: a removed snapshot's statistics stay
+    ∷ (OfRun (AtStatistics Statistics) terms three (attaching 2 5 ∷ RemoveSnapshots (pos 2 ∷ []) ∷ []) gives Attached (attached 2 5 ∷ []))
+    -- full statistics: 32 files; a new one is refused, one of a snapshot that has a file is not
+    ∷ (OfRun AtUpdated terms three (attachings 33) gives Refusal 19 32)
+    ∷ (OfRun AtUpdated terms three (attachings 32 ++ (attaching 0 2 ∷ [])) gives Updated (pos 500000))
+    -- ill-formed statistics: an id or a size below 0, a path of 97 bytes
+    ∷ (OfRun AtLog terms three (SetStatistics Statistics (record { snapshot = negsuc 0; path = []; size = pos 0 }) ∷ []) gives Refusal 3 0)
+    ∷ (OfRun AtLog terms three (SetStatistics Statistics (record { snapshot = pos 9; path = []; size = negsuc 0 }) ∷ []) gives Refusal 3 0)
+    ∷ (OfRun AtLog terms three (SetStatistics Statistics (record { snapshot = pos 9; path = replicate 97 112; size = pos 0 }) ∷ []) gives Refusal 3 0)
+    ∷ (OfRun AtLog terms three (RemoveStatistics PartitionStatistics (negsuc 0) ∷ []) gives Refusal 3 0)
     ∷ []

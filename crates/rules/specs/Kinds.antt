@@ -9,6 +9,7 @@ use Rattle.records.specs.Blanks.{noUpdate}
 use Rattle.records.specs.declared.update.TableUpdate.{TableUpdate}
 use Rattle.records.specs.declared.update.UpdateList.{UpdateList}
 use Rattle.records.specs.declared.counters.SchemaId.{SchemaId}
+use Rattle.records.specs.declared.counters.SnapshotId.{SnapshotId}
 use Rattle.records.specs.declared.counters.SortOrderId.{SortOrderId}
 use Rattle.records.specs.declared.text.Location.{Location}
 use Rattle.records.specs.declared.text.RefName.{RefName}
@@ -18,12 +19,14 @@ use Rattle.records.specs.declared.reference.SnapshotReference.{SnapshotReferenc
 use Rattle.records.specs.declared.schema.Schema.{Schema}
 use Rattle.records.specs.declared.schema.SchemaIds.{SchemaIds}
 use Rattle.records.specs.declared.«sort_order».SortOrder.{SortOrder}
+use Rattle.records.specs.declared.statistics.StatisticsFile.{StatisticsFile}
 use Rattle.rules.specs.Words.{all, any}
 use Rattle.rules.specs.Capacities.{listRoom}
-use Rattle.rules.specs.Register.{Update}
-use Rattle.rules.specs.Register.Update.{AssignUuid, UpgradeFormatVersion, SetLocation, AddSnapshot, SetBranchSnapshot, RemoveSnapshots, SetRef, RemoveRef, AddSchema, SetCurrentSchema, RemoveSchemas, AddSortOrder, SetDefaultSortOrder, NotFormed}
-use Rattle.rules.specs.Blanks.{isZero, isZeroZ, isTidyLocation, isBlankLocation, isTidySnapshot, isBlankSnapshot, isTidySnapshotIds, isBlankSnapshotIds, isTidyRefName, isBlankRefName, isTidyReference, isBlankReference, isTidySchema, isBlankSchema, isTidySchemaIds, isBlankSchemaIds, isTidySortOrder, isBlankSortOrder}
-use Rattle.rules.specs.Layout.{counted, pad, readRefName, laidRefName, readLocation, laidLocation, readSnapshot, laidSnapshot, readSnapshotIds, laidSnapshotIds, readReference, laidReference, readSchema, laidSchema, readSchemaIds, laidSchemaIds, readSortOrder, laidSortOrder}
+use Rattle.rules.specs.Register.{StatisticsTable, Update}
+use Rattle.rules.specs.Register.StatisticsTable.{Statistics, PartitionStatistics}
+use Rattle.rules.specs.Register.Update.{AssignUuid, UpgradeFormatVersion, SetLocation, AddSnapshot, SetBranchSnapshot, RemoveSnapshots, SetRef, RemoveRef, AddSchema, SetCurrentSchema, RemoveSchemas, AddSortOrder, SetDefaultSortOrder, SetStatistics, RemoveStatistics, NotFormed}
+use Rattle.rules.specs.Blanks.{isZero, isZeroZ, isTidyLocation, isBlankLocation, isTidySnapshot, isBlankSnapshot, isTidySnapshotIds, isBlankSnapshotIds, isTidyRefName, isBlankRefName, isTidyReference, isBlankReference, isTidySchema, isBlankSchema, isTidySchemaIds, isBlankSchemaIds, isTidySortOrder, isBlankSortOrder, isTidyStatisticsFile, isBlankStatisticsFile}
+use Rattle.rules.specs.Layout.{counted, pad, readRefName, laidRefName, readLocation, laidLocation, readSnapshot, laidSnapshot, readSnapshotIds, laidSnapshotIds, readReference, laidReference, readSchema, laidSchema, readSchemaIds, laidSchemaIds, readSortOrder, laidSortOrder, readStatisticsFile, laidStatisticsFile}
 
 -- ---- the kinds, in the order of a table's life
 
@@ -66,6 +69,18 @@ addSortOrderKind = 12
 abbrev pub setDefaultSortOrderKind : ℕ
 setDefaultSortOrderKind = 13
 
+abbrev pub setStatisticsKind : ℕ
+setStatisticsKind = 14
+
+abbrev pub removeStatisticsKind : ℕ
+removeStatisticsKind = 15
+
+abbrev pub setPartitionStatisticsKind : ℕ
+setPartitionStatisticsKind = 16
+
+abbrev pub removePartitionStatisticsKind : ℕ
+removePartitionStatisticsKind = 17
+
 -- ---- what a kind uses
 
 -- the update is of one of the kinds that use the record, or the record is blank
@@ -87,6 +102,8 @@ isUnusedBlank u =
     && usedBy (removeSchemasKind ∷ []) (u .kind) (isBlankSchemaIds (u .«schema_ids»))
     && usedBy (addSortOrderKind ∷ []) (u .kind) (isBlankSortOrder (u .«sort_order»))
     && usedBy (setDefaultSortOrderKind ∷ []) (u .kind) (isZeroZ (u .«sort_order_id» .0))
+    && usedBy (setStatisticsKind ∷ setPartitionStatisticsKind ∷ []) (u .kind) (isBlankStatisticsFile (u .statistics))
+    && usedBy (removeStatisticsKind ∷ removePartitionStatisticsKind ∷ []) (u .kind) (isZeroZ (u .«statistics_id» .0))
 
 -- what it does use is tidy (a blank record is)
 unfoldable pub isUsedTidy : TableUpdate → Bool
@@ -99,6 +116,7 @@ isUsedTidy u =
     && isTidySchema (u .schema)
     && isTidySchemaIds (u .«schema_ids»)
     && isTidySortOrder (u .«sort_order»)
+    && isTidyStatisticsFile (u .statistics)
 
 abbrev pub isTidyUpdate : TableUpdate → Bool
 isTidyUpdate u = isUnusedBlank u && isUsedTidy u
@@ -130,6 +148,10 @@ readings u =
     ∷ (removeSchemasKind, RemoveSchemas (readSchemaIds (u .«schema_ids»)))
     ∷ (addSortOrderKind, AddSortOrder (readSortOrder (u .«sort_order»)))
     ∷ (setDefaultSortOrderKind, SetDefaultSortOrder (u .«sort_order_id» .0))
+    ∷ (setStatisticsKind, SetStatistics Statistics (readStatisticsFile (u .statistics)))
+    ∷ (removeStatisticsKind, RemoveStatistics Statistics (u .«statistics_id» .0))
+    ∷ (setPartitionStatisticsKind, SetStatistics PartitionStatistics (readStatisticsFile (u .statistics)))
+    ∷ (removePartitionStatisticsKind, RemoveStatistics PartitionStatistics (u .«statistics_id» .0))
     ∷ []
 
 abbrev pub readKind : TableUpdate → Update
@@ -145,43 +167,58 @@ readUpdates t = map readUpdate (counted noUpdate (t .items) (t .count))
 -- ---- laying out: a blank update of a kind, with the records that the kind uses
 
 abbrev pub ofKind : ℕ → TableUpdate
-ofKind kind = record { kind = kind; uuid = noUpdate .uuid; «format_version» = noUpdate .«format_version»; location = noUpdate .location; snapshot = noUpdate .snapshot; «snapshot_ids» = noUpdate .«snapshot_ids»; «ref_name» = noUpdate .«ref_name»; reference = noUpdate .reference; schema = noUpdate .schema; «schema_id» = noUpdate .«schema_id»; «schema_ids» = noUpdate .«schema_ids»; «sort_order» = noUpdate .«sort_order»; «sort_order_id» = noUpdate .«sort_order_id» }
+ofKind kind = record { kind = kind; uuid = noUpdate .uuid; «format_version» = noUpdate .«format_version»; location = noUpdate .location; snapshot = noUpdate .snapshot; «snapshot_ids» = noUpdate .«snapshot_ids»; «ref_name» = noUpdate .«ref_name»; reference = noUpdate .reference; schema = noUpdate .schema; «schema_id» = noUpdate .«schema_id»; «schema_ids» = noUpdate .«schema_ids»; «sort_order» = noUpdate .«sort_order»; «sort_order_id» = noUpdate .«sort_order_id»; statistics = noUpdate .statistics; «statistics_id» = noUpdate .«statistics_id» }
 
 abbrev pub withUuid : List ℕ → TableUpdate → TableUpdate
-withUuid x u = record { kind = u .kind; uuid = x; «format_version» = u .«format_version»; location = u .location; snapshot = u .snapshot; «snapshot_ids» = u .«snapshot_ids»; «ref_name» = u .«ref_name»; reference = u .reference; schema = u .schema; «schema_id» = u .«schema_id»; «schema_ids» = u .«schema_ids»; «sort_order» = u .«sort_order»; «sort_order_id» = u .«sort_order_id» }
+withUuid x u = record { kind = u .kind; uuid = x; «format_version» = u .«format_version»; location = u .location; snapshot = u .snapshot; «snapshot_ids» = u .«snapshot_ids»; «ref_name» = u .«ref_name»; reference = u .reference; schema = u .schema; «schema_id» = u .«schema_id»; «schema_ids» = u .«schema_ids»; «sort_order» = u .«sort_order»; «sort_order_id» = u .«sort_order_id»; statistics = u .statistics; «statistics_id» = u .«statistics_id» }
 
 abbrev pub withFormatVersion : ℕ → TableUpdate → TableUpdate
-withFormatVersion x u = record { kind = u .kind; uuid = u .uuid; «format_version» = x; location = u .location; snapshot = u .snapshot; «snapshot_ids» = u .«snapshot_ids»; «ref_name» = u .«ref_name»; reference = u .reference; schema = u .schema; «schema_id» = u .«schema_id»; «schema_ids» = u .«schema_ids»; «sort_order» = u .«sort_order»; «sort_order_id» = u .«sort_order_id» }
+withFormatVersion x u = record { kind = u .kind; uuid = u .uuid; «format_version» = x; location = u .location; snapshot = u .snapshot; «snapshot_ids» = u .«snapshot_ids»; «ref_name» = u .«ref_name»; reference = u .reference; schema = u .schema; «schema_id» = u .«schema_id»; «schema_ids» = u .«schema_ids»; «sort_order» = u .«sort_order»; «sort_order_id» = u .«sort_order_id»; statistics = u .statistics; «statistics_id» = u .«statistics_id» }
 
 abbrev pub withLocation : Location → TableUpdate → TableUpdate
-withLocation x u = record { kind = u .kind; uuid = u .uuid; «format_version» = u .«format_version»; location = x; snapshot = u .snapshot; «snapshot_ids» = u .«snapshot_ids»; «ref_name» = u .«ref_name»; reference = u .reference; schema = u .schema; «schema_id» = u .«schema_id»; «schema_ids» = u .«schema_ids»; «sort_order» = u .«sort_order»; «sort_order_id» = u .«sort_order_id» }
+withLocation x u = record { kind = u .kind; uuid = u .uuid; «format_version» = u .«format_version»; location = x; snapshot = u .snapshot; «snapshot_ids» = u .«snapshot_ids»; «ref_name» = u .«ref_name»; reference = u .reference; schema = u .schema; «schema_id» = u .«schema_id»; «schema_ids» = u .«schema_ids»; «sort_order» = u .«sort_order»; «sort_order_id» = u .«sort_order_id»; statistics = u .statistics; «statistics_id» = u .«statistics_id» }
 
 abbrev pub withSnapshot : Snapshot → TableUpdate → TableUpdate
-withSnapshot x u = record { kind = u .kind; uuid = u .uuid; «format_version» = u .«format_version»; location = u .location; snapshot = x; «snapshot_ids» = u .«snapshot_ids»; «ref_name» = u .«ref_name»; reference = u .reference; schema = u .schema; «schema_id» = u .«schema_id»; «schema_ids» = u .«schema_ids»; «sort_order» = u .«sort_order»; «sort_order_id» = u .«sort_order_id» }
+withSnapshot x u = record { kind = u .kind; uuid = u .uuid; «format_version» = u .«format_version»; location = u .location; snapshot = x; «snapshot_ids» = u .«snapshot_ids»; «ref_name» = u .«ref_name»; reference = u .reference; schema = u .schema; «schema_id» = u .«schema_id»; «schema_ids» = u .«schema_ids»; «sort_order» = u .«sort_order»; «sort_order_id» = u .«sort_order_id»; statistics = u .statistics; «statistics_id» = u .«statistics_id» }
 
 abbrev pub withSnapshotIds : SnapshotIds → TableUpdate → TableUpdate
-withSnapshotIds x u = record { kind = u .kind; uuid = u .uuid; «format_version» = u .«format_version»; location = u .location; snapshot = u .snapshot; «snapshot_ids» = x; «ref_name» = u .«ref_name»; reference = u .reference; schema = u .schema; «schema_id» = u .«schema_id»; «schema_ids» = u .«schema_ids»; «sort_order» = u .«sort_order»; «sort_order_id» = u .«sort_order_id» }
+withSnapshotIds x u = record { kind = u .kind; uuid = u .uuid; «format_version» = u .«format_version»; location = u .location; snapshot = u .snapshot; «snapshot_ids» = x; «ref_name» = u .«ref_name»; reference = u .reference; schema = u .schema; «schema_id» = u .«schema_id»; «schema_ids» = u .«schema_ids»; «sort_order» = u .«sort_order»; «sort_order_id» = u .«sort_order_id»; statistics = u .statistics; «statistics_id» = u .«statistics_id» }
 
 abbrev pub withRefName : RefName → TableUpdate → TableUpdate
-withRefName x u = record { kind = u .kind; uuid = u .uuid; «format_version» = u .«format_version»; location = u .location; snapshot = u .snapshot; «snapshot_ids» = u .«snapshot_ids»; «ref_name» = x; reference = u .reference; schema = u .schema; «schema_id» = u .«schema_id»; «schema_ids» = u .«schema_ids»; «sort_order» = u .«sort_order»; «sort_order_id» = u .«sort_order_id» }
+withRefName x u = record { kind = u .kind; uuid = u .uuid; «format_version» = u .«format_version»; location = u .location; snapshot = u .snapshot; «snapshot_ids» = u .«snapshot_ids»; «ref_name» = x; reference = u .reference; schema = u .schema; «schema_id» = u .«schema_id»; «schema_ids» = u .«schema_ids»; «sort_order» = u .«sort_order»; «sort_order_id» = u .«sort_order_id»; statistics = u .statistics; «statistics_id» = u .«statistics_id» }
 
 abbrev pub withReference : SnapshotReference → TableUpdate → TableUpdate
-withReference x u = record { kind = u .kind; uuid = u .uuid; «format_version» = u .«format_version»; location = u .location; snapshot = u .snapshot; «snapshot_ids» = u .«snapshot_ids»; «ref_name» = u .«ref_name»; reference = x; schema = u .schema; «schema_id» = u .«schema_id»; «schema_ids» = u .«schema_ids»; «sort_order» = u .«sort_order»; «sort_order_id» = u .«sort_order_id» }
+withReference x u = record { kind = u .kind; uuid = u .uuid; «format_version» = u .«format_version»; location = u .location; snapshot = u .snapshot; «snapshot_ids» = u .«snapshot_ids»; «ref_name» = u .«ref_name»; reference = x; schema = u .schema; «schema_id» = u .«schema_id»; «schema_ids» = u .«schema_ids»; «sort_order» = u .«sort_order»; «sort_order_id» = u .«sort_order_id»; statistics = u .statistics; «statistics_id» = u .«statistics_id» }
 
 abbrev pub withSchema : Schema → TableUpdate → TableUpdate
-withSchema x u = record { kind = u .kind; uuid = u .uuid; «format_version» = u .«format_version»; location = u .location; snapshot = u .snapshot; «snapshot_ids» = u .«snapshot_ids»; «ref_name» = u .«ref_name»; reference = u .reference; schema = x; «schema_id» = u .«schema_id»; «schema_ids» = u .«schema_ids»; «sort_order» = u .«sort_order»; «sort_order_id» = u .«sort_order_id» }
+withSchema x u = record { kind = u .kind; uuid = u .uuid; «format_version» = u .«format_version»; location = u .location; snapshot = u .snapshot; «snapshot_ids» = u .«snapshot_ids»; «ref_name» = u .«ref_name»; reference = u .reference; schema = x; «schema_id» = u .«schema_id»; «schema_ids» = u .«schema_ids»; «sort_order» = u .«sort_order»; «sort_order_id» = u .«sort_order_id»; statistics = u .statistics; «statistics_id» = u .«statistics_id» }
 
 abbrev pub withSchemaId : SchemaId → TableUpdate → TableUpdate
-withSchemaId x u = record { kind = u .kind; uuid = u .uuid; «format_version» = u .«format_version»; location = u .location; snapshot = u .snapshot; «snapshot_ids» = u .«snapshot_ids»; «ref_name» = u .«ref_name»; reference = u .reference; schema = u .schema; «schema_id» = x; «schema_ids» = u .«schema_ids»; «sort_order» = u .«sort_order»; «sort_order_id» = u .«sort_order_id» }
+withSchemaId x u = record { kind = u .kind; uuid = u .uuid; «format_version» = u .«format_version»; location = u .location; snapshot = u .snapshot; «snapshot_ids» = u .«snapshot_ids»; «ref_name» = u .«ref_name»; reference = u .reference; schema = u .schema; «schema_id» = x; «schema_ids» = u .«schema_ids»; «sort_order» = u .«sort_order»; «sort_order_id» = u .«sort_order_id»; statistics = u .statistics; «statistics_id» = u .«statistics_id» }
 
 abbrev pub withSchemaIds : SchemaIds → TableUpdate → TableUpdate
-withSchemaIds x u = record { kind = u .kind; uuid = u .uuid; «format_version» = u .«format_version»; location = u .location; snapshot = u .snapshot; «snapshot_ids» = u .«snapshot_ids»; «ref_name» = u .«ref_name»; reference = u .reference; schema = u .schema; «schema_id» = u .«schema_id»; «schema_ids» = x; «sort_order» = u .«sort_order»; «sort_order_id» = u .«sort_order_id» }
+withSchemaIds x u = record { kind = u .kind; uuid = u .uuid; «format_version» = u .«format_version»; location = u .location; snapshot = u .snapshot; «snapshot_ids» = u .«snapshot_ids»; «ref_name» = u .«ref_name»; reference = u .reference; schema = u .schema; «schema_id» = u .«schema_id»; «schema_ids» = x; «sort_order» = u .«sort_order»; «sort_order_id» = u .«sort_order_id»; statistics = u .statistics; «statistics_id» = u .«statistics_id» }
 
 abbrev pub withSortOrder : SortOrder → TableUpdate → TableUpdate
-withSortOrder x u = record { kind = u .kind; uuid = u .uuid; «format_version» = u .«format_version»; location = u .location; snapshot = u .snapshot; «snapshot_ids» = u .«snapshot_ids»; «ref_name» = u .«ref_name»; reference = u .reference; schema = u .schema; «schema_id» = u .«schema_id»; «schema_ids» = u .«schema_ids»; «sort_order» = x; «sort_order_id» = u .«sort_order_id» }
+withSortOrder x u = record { kind = u .kind; uuid = u .uuid; «format_version» = u .«format_version»; location = u .location; snapshot = u .snapshot; «snapshot_ids» = u .«snapshot_ids»; «ref_name» = u .«ref_name»; reference = u .reference; schema = u .schema; «schema_id» = u .«schema_id»; «schema_ids» = u .«schema_ids»; «sort_order» = x; «sort_order_id» = u .«sort_order_id»; statistics = u .statistics; «statistics_id» = u .«statistics_id» }
 
 abbrev pub withSortOrderId : SortOrderId → TableUpdate → TableUpdate
-withSortOrderId x u = record { kind = u .kind; uuid = u .uuid; «format_version» = u .«format_version»; location = u .location; snapshot = u .snapshot; «snapshot_ids» = u .«snapshot_ids»; «ref_name» = u .«ref_name»; reference = u .reference; schema = u .schema; «schema_id» = u .«schema_id»; «schema_ids» = u .«schema_ids»; «sort_order» = u .«sort_order»; «sort_order_id» = x }
+withSortOrderId x u = record { kind = u .kind; uuid = u .uuid; «format_version» = u .«format_version»; location = u .location; snapshot = u .snapshot; «snapshot_ids» = u .«snapshot_ids»; «ref_name» = u .«ref_name»; reference = u .reference; schema = u .schema; «schema_id» = u .«schema_id»; «schema_ids» = u .«schema_ids»; «sort_order» = u .«sort_order»; «sort_order_id» = x; statistics = u .statistics; «statistics_id» = u .«statistics_id» }
+
+abbrev pub withStatisticsFile : StatisticsFile → TableUpdate → TableUpdate
+withStatisticsFile x u = record { kind = u .kind; uuid = u .uuid; «format_version» = u .«format_version»; location = u .location; snapshot = u .snapshot; «snapshot_ids» = u .«snapshot_ids»; «ref_name» = u .«ref_name»; reference = u .reference; schema = u .schema; «schema_id» = u .«schema_id»; «schema_ids» = u .«schema_ids»; «sort_order» = u .«sort_order»; «sort_order_id» = u .«sort_order_id»; statistics = x; «statistics_id» = u .«statistics_id» }
+
+abbrev pub withStatisticsId : SnapshotId → TableUpdate → TableUpdate
+withStatisticsId x u = record { kind = u .kind; uuid = u .uuid; «format_version» = u .«format_version»; location = u .location; snapshot = u .snapshot; «snapshot_ids» = u .«snapshot_ids»; «ref_name» = u .«ref_name»; reference = u .reference; schema = u .schema; «schema_id» = u .«schema_id»; «schema_ids» = u .«schema_ids»; «sort_order» = u .«sort_order»; «sort_order_id» = u .«sort_order_id»; statistics = u .statistics; «statistics_id» = x }
+
+-- the kinds of the two tables
+abbrev pub settingKind : StatisticsTable → ℕ
+settingKind Statistics = setStatisticsKind
+settingKind PartitionStatistics = setPartitionStatisticsKind
+
+abbrev pub removingKind : StatisticsTable → ℕ
+removingKind Statistics = removeStatisticsKind
+removingKind PartitionStatistics = removePartitionStatisticsKind
 
 unfoldable pub laidUpdate : Update → TableUpdate
 laidUpdate (AssignUuid uuid) = withUuid uuid (ofKind assignUuidKind)
@@ -197,6 +234,8 @@ laidUpdate (SetCurrentSchema id) = withSchemaId (record { 0 = id }) (ofKind setC
 laidUpdate (RemoveSchemas ids) = withSchemaIds (laidSchemaIds ids) (ofKind removeSchemasKind)
 laidUpdate (AddSortOrder o) = withSortOrder (laidSortOrder o) (ofKind addSortOrderKind)
 laidUpdate (SetDefaultSortOrder id) = withSortOrderId (record { 0 = id }) (ofKind setDefaultSortOrderKind)
+laidUpdate (SetStatistics which f) = withStatisticsFile (laidStatisticsFile f) (ofKind (settingKind which))
+laidUpdate (RemoveStatistics which id) = withStatisticsId (record { 0 = id }) (ofKind (removingKind which))
 laidUpdate (NotFormed counts) = noUpdate
 
 unfoldable pub laidUpdates : List Update → UpdateList

@@ -7,7 +7,7 @@ use mathlib.Core.List.{List, _++_, map}
 use mathlib.Core.Option.{Option, none, some}
 use lib.IntN.{ℤ, pos}
 use lib.ListN.{length, take, replicate}
-use Rattle.records.specs.Blanks.{noSnapshotId, noSnapshot, noLogEntry, noRef, noSchemaField, noSchema, noSchemaId, noSortField, noSortOrder, noMetadataLogEntry}
+use Rattle.records.specs.Blanks.{noSnapshotId, noSnapshot, noLogEntry, noRef, noSchemaField, noSchema, noSchemaId, noSortField, noSortOrder, noStatisticsFile, noMetadataLogEntry}
 use Rattle.records.specs.declared.counters.RowId.{RowId}
 use Rattle.records.specs.declared.counters.SnapshotId.{SnapshotId}
 use Rattle.records.specs.declared.counters.SchemaId.{SchemaId}
@@ -29,12 +29,14 @@ use Rattle.records.specs.declared.schema.SchemaIds.{SchemaIds}
 use Rattle.records.specs.declared.«sort_order».SortField.{SortField}
 use Rattle.records.specs.declared.«sort_order».SortOrder.{SortOrder}
 use Rattle.records.specs.declared.«sort_order».SortOrders.{SortOrders}
+use Rattle.records.specs.declared.statistics.StatisticsFile.{StatisticsFile}
+use Rattle.records.specs.declared.statistics.StatisticsFiles.{StatisticsFiles}
 use Rattle.records.specs.declared.metadata.MetadataLogEntry.{MetadataLogEntry}
 use Rattle.records.specs.declared.metadata.MetadataLog.{MetadataLog}
 use Rattle.records.specs.declared.metadata.SingleFields.{SingleFields}
 use Rattle.records.specs.declared.metadata.TableMetadata.{TableMetadata}
 use Rattle.rules.specs.Words.{isSome, orElse}
-use Rattle.rules.specs.Capacities.{snapshotRoom, refRoom, snapshotLogRoom, metadataLogRoom, schemaRoom, schemaFieldRoom, sortOrderRoom, sortFieldRoom, removalRoom, refNameRoom, locationRoom, fileNameRoom}
+use Rattle.rules.specs.Capacities.{snapshotRoom, refRoom, snapshotLogRoom, metadataLogRoom, schemaRoom, schemaFieldRoom, sortOrderRoom, sortFieldRoom, statisticsRoom, removalRoom, refNameRoom, locationRoom, fileNameRoom}
 use Rattle.rules.specs.Register as plain
 
 -- ---- slots and flags
@@ -213,6 +215,20 @@ readSortOrders t = map readSortOrder (counted noSortOrder (t .items) (t .count))
 unfoldable pub laidSortOrders : List plain.SortOrder → SortOrders
 laidSortOrders l = record { items = pad sortOrderRoom noSortOrder (map laidSortOrder l); count = length l }
 
+-- ---- statistics files
+
+abbrev pub readStatisticsFile : StatisticsFile → plain.StatisticsFile
+readStatisticsFile f = record { snapshot = f .«snapshot_id» .0; path = readFileName (f .«statistics_path»); size = f .«file_size_in_bytes» .0 }
+
+unfoldable pub laidStatisticsFile : plain.StatisticsFile → StatisticsFile
+laidStatisticsFile f = record { «snapshot_id» = record { 0 = f .snapshot }; «statistics_path» = laidFileName (f .path); «file_size_in_bytes» = record { 0 = f .size } }
+
+abbrev pub readStatistics : StatisticsFiles → List plain.StatisticsFile
+readStatistics t = map readStatisticsFile (counted noStatisticsFile (t .items) (t .count))
+
+unfoldable pub laidStatistics : List plain.StatisticsFile → StatisticsFiles
+laidStatistics l = record { items = pad statisticsRoom noStatisticsFile (map laidStatisticsFile l); count = length l }
+
 -- ---- metadata
 
 abbrev pub readMetadataLogEntry : MetadataLogEntry → plain.FileEntry
@@ -268,6 +284,8 @@ readMetadata m =
       metadataLog = readMetadataLog (m .«metadata_log»);
       schemas = readSchemas (m .schemas);
       orders = readSortOrders (m .«sort_orders»);
+      statistics = readStatistics (m .statistics);
+      partitionStatistics = readStatistics (m .«partition_statistics»);
     }
 
 unfoldable pub laidMetadata : plain.Metadata → TableMetadata
@@ -280,4 +298,6 @@ laidMetadata m =
       «metadata_log» = laidMetadataLog (m .metadataLog);
       schemas = laidSchemas (m .schemas);
       «sort_orders» = laidSortOrders (m .orders);
+      statistics = laidStatistics (m .statistics);
+      «partition_statistics» = laidStatistics (m .partitionStatistics);
     }

@@ -8,7 +8,7 @@ use lib.ListN.{length}
 use lib.Signed.{leZ}
 use Rattle.rules.specs.Words.{all, any, keep, lastOf, afterLast}
 use Rattle.rules.specs.Register.{LogEntry, Metadata, Update}
-use Rattle.rules.specs.Register.Update.{AssignUuid, UpgradeFormatVersion, SetLocation, AddSnapshot, SetBranchSnapshot, RemoveSnapshots, SetRef, RemoveRef, AddSchema, SetCurrentSchema, RemoveSchemas, AddSortOrder, SetDefaultSortOrder, NotFormed}
+use Rattle.rules.specs.Register.Update.{AssignUuid, UpgradeFormatVersion, SetLocation, AddSnapshot, SetBranchSnapshot, RemoveSnapshots, SetRef, RemoveRef, AddSchema, SetCurrentSchema, RemoveSchemas, AddSortOrder, SetDefaultSortOrder, SetStatistics, RemoveStatistics, NotFormed}
 use Rattle.rules.specs.WellFormed.{holdsSnapshot}
 use Rattle.rules.specs.ChangeLog.{logsAddition}
 
@@ -47,6 +47,8 @@ removedIds (SetCurrentSchema id) = []
 removedIds (RemoveSchemas ids) = []
 removedIds (AddSortOrder o) = []
 removedIds (SetDefaultSortOrder id) = []
+removedIds (SetStatistics which f) = []
+removedIds (RemoveStatistics which id) = []
 removedIds (NotFormed counts) = []
 
 -- the snapshots that a change log removes

@@ -59,6 +59,12 @@ pub record SortOrder : Type 0 where
   pub id : ℤ
   pub fields : List SortField
 
+-- document 02, request (ii): "snapshot id, path up to 96 bytes, size"
+pub record StatisticsFile : Type 0 where
+  pub snapshot : ℤ
+  pub path : List ℕ
+  pub size : ℤ
+
 -- ---- metadata
 
 pub record SingleFields : Type 0 where
@@ -81,6 +87,12 @@ pub record Metadata : Type 0 where
   pub metadataLog : List FileEntry
   pub schemas : List Schema
   pub orders : List SortOrder
+  pub statistics : List StatisticsFile
+  pub partitionStatistics : List StatisticsFile
+
+-- which of the two tables of statistics files
+pub data StatisticsTable : Type 0 where
+  Statistics PartitionStatistics : StatisticsTable
 
 -- ---- updates
 
@@ -98,6 +110,8 @@ pub data Update : Type 0 where
   RemoveSchemas : List ℤ → Update
   AddSortOrder : SortOrder → Update
   SetDefaultSortOrder : ℤ → Update
+  SetStatistics : StatisticsTable → StatisticsFile → Update
+  RemoveStatistics : StatisticsTable → ℤ → Update
   -- a record of unknown kind, or with an unused place that is not blank; the number is what it counts
   NotFormed : ℕ → Update
 
@@ -131,25 +145,33 @@ pub data Outcome : Type 0 where
 -- ---- one part changed, the others kept
 
 abbrev pub withFields : SingleFields → Metadata → Metadata
-withFields f m = record { fields = f; snapshots = m .snapshots; refs = m .refs; snapshotLog = m .snapshotLog; metadataLog = m .metadataLog; schemas = m .schemas; orders = m .orders }
+withFields f m = record { fields = f; snapshots = m .snapshots; refs = m .refs; snapshotLog = m .snapshotLog; metadataLog = m .metadataLog; schemas = m .schemas; orders = m .orders; statistics = m .statistics; partitionStatistics = m .partitionStatistics }
 
 abbrev pub withSnapshots : List Snapshot → Metadata → Metadata
-withSnapshots l m = record { fields = m .fields; snapshots = l; refs = m .refs; snapshotLog = m .snapshotLog; metadataLog = m .metadataLog; schemas = m .schemas; orders = m .orders }
+withSnapshots l m = record { fields = m .fields; snapshots = l; refs = m .refs; snapshotLog = m .snapshotLog; metadataLog = m .metadataLog; schemas = m .schemas; orders = m .orders; statistics = m .statistics; partitionStatistics = m .partitionStatistics }
 
 abbrev pub withRefs : List NamedRef → Metadata → Metadata
-withRefs l m = record { fields = m .fields; snapshots = m .snapshots; refs = l; snapshotLog = m .snapshotLog; metadataLog = m .metadataLog; schemas = m .schemas; orders = m .orders }
+withRefs l m = record { fields = m .fields; snapshots = m .snapshots; refs = l; snapshotLog = m .snapshotLog; metadataLog = m .metadataLog; schemas = m .schemas; orders = m .orders; statistics = m .statistics; partitionStatistics = m .partitionStatistics }
 
 abbrev pub withSnapshotLog : List LogEntry → Metadata → Metadata
-withSnapshotLog l m = record { fields = m .fields; snapshots = m .snapshots; refs = m .refs; snapshotLog = l; metadataLog = m .metadataLog; schemas = m .schemas; orders = m .orders }
+withSnapshotLog l m = record { fields = m .fields; snapshots = m .snapshots; refs = m .refs; snapshotLog = l; metadataLog = m .metadataLog; schemas = m .schemas; orders = m .orders; statistics = m .statistics; partitionStatistics = m .partitionStatistics }
 
 abbrev pub withMetadataLog : List FileEntry → Metadata → Metadata
-withMetadataLog l m = record { fields = m .fields; snapshots = m .snapshots; refs = m .refs; snapshotLog = m .snapshotLog; metadataLog = l; schemas = m .schemas; orders = m .orders }
+withMetadataLog l m = record { fields = m .fields; snapshots = m .snapshots; refs = m .refs; snapshotLog = m .snapshotLog; metadataLog = l; schemas = m .schemas; orders = m .orders; statistics = m .statistics; partitionStatistics = m .partitionStatistics }
 
 abbrev pub withSchemas : List Schema → Metadata → Metadata
-withSchemas l m = record { fields = m .fields; snapshots = m .snapshots; refs = m .refs; snapshotLog = m .snapshotLog; metadataLog = m .metadataLog; schemas = l; orders = m .orders }
+withSchemas l m = record { fields = m .fields; snapshots = m .snapshots; refs = m .refs; snapshotLog = m .snapshotLog; metadataLog = m .metadataLog; schemas = l; orders = m .orders; statistics = m .statistics; partitionStatistics = m .partitionStatistics }
 
 abbrev pub withOrders : List SortOrder → Metadata → Metadata
-withOrders l m = record { fields = m .fields; snapshots = m .snapshots; refs = m .refs; snapshotLog = m .snapshotLog; metadataLog = m .metadataLog; schemas = m .schemas; orders = l }
+withOrders l m = record { fields = m .fields; snapshots = m .snapshots; refs = m .refs; snapshotLog = m .snapshotLog; metadataLog = m .metadataLog; schemas = m .schemas; orders = l; statistics = m .statistics; partitionStatistics = m .partitionStatistics }
+
+abbrev pub statisticsOf : StatisticsTable → Metadata → List StatisticsFile
+statisticsOf Statistics m = m .statistics
+statisticsOf PartitionStatistics m = m .partitionStatistics
+
+abbrev pub withStatistics : StatisticsTable → List StatisticsFile → Metadata → Metadata
+withStatistics Statistics l m = record { fields = m .fields; snapshots = m .snapshots; refs = m .refs; snapshotLog = m .snapshotLog; metadataLog = m .metadataLog; schemas = m .schemas; orders = m .orders; statistics = l; partitionStatistics = m .partitionStatistics }
+withStatistics PartitionStatistics l m = record { fields = m .fields; snapshots = m .snapshots; refs = m .refs; snapshotLog = m .snapshotLog; metadataLog = m .metadataLog; schemas = m .schemas; orders = m .orders; statistics = m .statistics; partitionStatistics = l }
 
 abbrev pub withUuid : List ℕ → SingleFields → SingleFields
 withUuid uuid f = record { version = f .version; uuid = uuid; location = f .location; lastUpdated = f .lastUpdated; lastSequence = f .lastSequence; nextRow = f .nextRow; lastColumn = f .lastColumn; current = f .current; currentSchema = f .currentSchema; defaultOrder = f .defaultOrder }

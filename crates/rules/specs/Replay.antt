@@ -3,7 +3,7 @@ use mathlib.Core.Bool.{Bool, false, not}
 use mathlib.Core.List.{List}
 use Rattle.rules.specs.Words.{keep, isEmpty}
 use Rattle.rules.specs.Register.{Update}
-use Rattle.rules.specs.Register.Update.{AssignUuid, UpgradeFormatVersion, SetLocation, AddSnapshot, SetBranchSnapshot, RemoveSnapshots, SetRef, RemoveRef, AddSchema, SetCurrentSchema, RemoveSchemas, AddSortOrder, SetDefaultSortOrder, NotFormed}
+use Rattle.rules.specs.Register.Update.{AssignUuid, UpgradeFormatVersion, SetLocation, AddSnapshot, SetBranchSnapshot, RemoveSnapshots, SetRef, RemoveRef, AddSchema, SetCurrentSchema, RemoveSchemas, AddSortOrder, SetDefaultSortOrder, SetStatistics, RemoveStatistics, NotFormed}
 
 -- it removes schemas, and names none
 abbrev pub isEmptySchemaRemoval : Update → Bool
@@ -20,6 +20,8 @@ isEmptySchemaRemoval (SetCurrentSchema id) = false
 isEmptySchemaRemoval (RemoveSchemas ids) = isEmpty ids
 isEmptySchemaRemoval (AddSortOrder o) = false
 isEmptySchemaRemoval (SetDefaultSortOrder id) = false
+isEmptySchemaRemoval (SetStatistics which f) = false
+isEmptySchemaRemoval (RemoveStatistics which id) = false
 isEmptySchemaRemoval (NotFormed counts) = false
 
 -- the log without its schema removals that name no schema

@@ -13,7 +13,7 @@ use Rattle.rules.specs.Capacities.{largestRowId}
 use Rattle.rules.specs.RowIds.{rangeEnd}
 use Rattle.rules.specs.Register.{RowRange, Snapshot, Metadata, Update, Terms, Outcome}
 use Rattle.rules.specs.Register.Outcome.{Refused, Accepted}
-use Rattle.rules.specs.Register.Update.{AssignUuid, UpgradeFormatVersion, SetLocation, AddSnapshot, SetBranchSnapshot, RemoveSnapshots, SetRef, RemoveRef, AddSchema, SetCurrentSchema, RemoveSchemas, AddSortOrder, SetDefaultSortOrder, NotFormed}
+use Rattle.rules.specs.Register.Update.{AssignUuid, UpgradeFormatVersion, SetLocation, AddSnapshot, SetBranchSnapshot, RemoveSnapshots, SetRef, RemoveRef, AddSchema, SetCurrentSchema, RemoveSchemas, AddSortOrder, SetDefaultSortOrder, SetStatistics, RemoveStatistics, NotFormed}
 use Rattle.rules.specs.SnapshotUpdates.{isVersion3}
 use Rattle.rules.specs.Run.{run}
 
@@ -34,6 +34,8 @@ newSnapshot (SetCurrentSchema id) = none
 newSnapshot (RemoveSchemas ids) = none
 newSnapshot (AddSortOrder o) = none
 newSnapshot (SetDefaultSortOrder id) = none
+newSnapshot (SetStatistics which f) = none
+newSnapshot (RemoveStatistics which id) = none
 newSnapshot (NotFormed counts) = none
 
 -- those of a list of updates, or of a change log, in order

@@ -12,7 +12,7 @@ use Rattle.rules.specs.Capacities.{listRoom}
 use Rattle.rules.specs.Window.{isOutside}
 use Rattle.rules.specs.Register.{Metadata, Update, Terms, State, Outcome}
 use Rattle.rules.specs.Register.Outcome.{Refused, Accepted}
-use Rattle.rules.specs.Register.Update.{AssignUuid, UpgradeFormatVersion, SetLocation, AddSnapshot, SetBranchSnapshot, RemoveSnapshots, SetRef, RemoveRef, AddSchema, SetCurrentSchema, RemoveSchemas, AddSortOrder, SetDefaultSortOrder, NotFormed}
+use Rattle.rules.specs.Register.Update.{AssignUuid, UpgradeFormatVersion, SetLocation, AddSnapshot, SetBranchSnapshot, RemoveSnapshots, SetRef, RemoveRef, AddSchema, SetCurrentSchema, RemoveSchemas, AddSortOrder, SetDefaultSortOrder, SetStatistics, RemoveStatistics, NotFormed}
 use Rattle.rules.specs.WellFormed.{metadataFormed, fileNameFormed}
 use Rattle.rules.specs.Updates.{updateNumber, effect}
 use Rattle.rules.specs.Close.{closeChecks, closed, expired}
@@ -32,6 +32,8 @@ weight (SetCurrentSchema id) = 1
 weight (RemoveSchemas ids) = 1
 weight (AddSortOrder o) = 1
 weight (SetDefaultSortOrder id) = 1
+weight (SetStatistics which f) = 1
+weight (RemoveStatistics which id) = 1
 weight (NotFormed counts) = counts
 
 -- "the sum is at most 64"

@@ -5,13 +5,14 @@ use mathlib.Core.List.{List, [], _∷_}
 use Rattle.rules.specs.Words.{firstOf, Check}
 use Rattle.rules.specs.Replies.{updateNotFormed}
 use Rattle.rules.specs.Register.{Update, Terms, State}
-use Rattle.rules.specs.Register.Update.{AssignUuid, UpgradeFormatVersion, SetLocation, AddSnapshot, SetBranchSnapshot, RemoveSnapshots, SetRef, RemoveRef, AddSchema, SetCurrentSchema, RemoveSchemas, AddSortOrder, SetDefaultSortOrder, NotFormed}
+use Rattle.rules.specs.Register.Update.{AssignUuid, UpgradeFormatVersion, SetLocation, AddSnapshot, SetBranchSnapshot, RemoveSnapshots, SetRef, RemoveRef, AddSchema, SetCurrentSchema, RemoveSchemas, AddSortOrder, SetDefaultSortOrder, SetStatistics, RemoveStatistics, NotFormed}
 use Rattle.rules.specs.WellFormed.{updateFormed}
 use Rattle.rules.specs.SingleUpdates.{assignUuid, upgradeFormatVersionChecks, upgradeFormatVersion, setLocation}
 use Rattle.rules.specs.SnapshotUpdates.{addSnapshotChecks, addSnapshot, removeSnapshots}
 use Rattle.rules.specs.RefUpdates.{setRefChecks, setRef, setBranchSnapshotChecks, setBranchSnapshot, removeRef}
 use Rattle.rules.specs.SchemaUpdates.{addSchemaChecks, addSchema, setCurrentSchemaChecks, setCurrentSchema, removeSchemasChecks, removeSchemas}
 use Rattle.rules.specs.OrderUpdates.{addSortOrderChecks, addSortOrder, setDefaultSortOrderChecks, setDefaultSortOrder}
+use Rattle.rules.specs.StatisticsUpdates.{setStatisticsChecks, setStatistics, removeStatistics}
 
 -- the checks of an update beside its own form
 unfoldable pub checks : Terms → Update → State → List Check
@@ -28,6 +29,8 @@ checks terms (SetCurrentSchema id) st = setCurrentSchemaChecks id st
 checks terms (RemoveSchemas ids) st = removeSchemasChecks ids st
 checks terms (AddSortOrder o) st = addSortOrderChecks o st
 checks terms (SetDefaultSortOrder id) st = setDefaultSortOrderChecks id st
+checks terms (SetStatistics which f) st = setStatisticsChecks which f st
+checks terms (RemoveStatistics which id) st = []
 checks terms (NotFormed counts) st = []
 
 -- "3 comes first within an update."
@@ -49,4 +52,6 @@ effect terms (SetCurrentSchema id) st = setCurrentSchema id st
 effect terms (RemoveSchemas ids) st = removeSchemas ids st
 effect terms (AddSortOrder o) st = addSortOrder o st
 effect terms (SetDefaultSortOrder id) st = setDefaultSortOrder id st
+effect terms (SetStatistics which f) st = setStatistics which f st
+effect terms (RemoveStatistics which id) st = removeStatistics which id st
 effect terms (NotFormed counts) st = st

@@ -10,10 +10,10 @@ use lib.IntN.{ℤ, pos}
 use lib.Signed.{ltZ, leZ, nonNeg}
 use lib.ListN.{length}
 use Rattle.rules.specs.Words.{eqZ, isSome, ifSome, sameOption, all, any, first, isEmpty, unequal, ascending}
-use Rattle.rules.specs.Capacities.{snapshotRoom, refRoom, snapshotLogRoom, metadataLogRoom, schemaRoom, schemaFieldRoom, sortOrderRoom, sortFieldRoom, removalRoom, refNameRoom, locationRoom, fileNameRoom}
+use Rattle.rules.specs.Capacities.{snapshotRoom, refRoom, snapshotLogRoom, metadataLogRoom, schemaRoom, schemaFieldRoom, sortOrderRoom, sortFieldRoom, statisticsRoom, removalRoom, refNameRoom, locationRoom, fileNameRoom}
 use Rattle.rules.specs.Names.{nameBelow, isMain}
-use Rattle.rules.specs.Register.{Snapshot, Reference, NamedRef, LogEntry, FileEntry, SchemaField, Schema, SortField, SortOrder, SingleFields, Metadata, Update, lastAdded}
-use Rattle.rules.specs.Register.Update.{AssignUuid, UpgradeFormatVersion, SetLocation, AddSnapshot, SetBranchSnapshot, RemoveSnapshots, SetRef, RemoveRef, AddSchema, SetCurrentSchema, RemoveSchemas, AddSortOrder, SetDefaultSortOrder, NotFormed}
+use Rattle.rules.specs.Register.{Snapshot, Reference, NamedRef, LogEntry, FileEntry, SchemaField, Schema, SortField, SortOrder, StatisticsFile, SingleFields, Metadata, Update, lastAdded}
+use Rattle.rules.specs.Register.Update.{AssignUuid, UpgradeFormatVersion, SetLocation, AddSnapshot, SetBranchSnapshot, RemoveSnapshots, SetRef, RemoveRef, AddSchema, SetCurrentSchema, RemoveSchemas, AddSortOrder, SetDefaultSortOrder, SetStatistics, RemoveStatistics, NotFormed}
 
 -- ---- the bounds that records and updates share
 
@@ -76,6 +76,10 @@ offeredOrderFormed o = nonNeg (o .id) && leb (length (o .fields)) sortFieldRoom 
 abbrev pub orderFormed : SortOrder → Bool
 orderFormed o = offeredOrderFormed o && Bool·beq (isEmpty (o .fields)) (eqZ (o .id) (pos 0))
 
+-- a statistics file: "snapshot id, path up to 96 bytes, size", and neither number is below 0
+abbrev pub statisticsFileFormed : StatisticsFile → Bool
+statisticsFileFormed f = nonNeg (f .snapshot) && fileNameFormed (f .path) && nonNeg (f .size)
+
 -- ---- the tables: "ascending by key (names by bytes, a prefix first), keys unequal; both logs keep history order"
 
 abbrev pub snapshotBelow : Snapshot → Snapshot → Bool
@@ -89,6 +93,9 @@ schemaBelow a b = ltZ (a .id) (b .id)
 
 abbrev pub orderBelow : SortOrder → SortOrder → Bool
 orderBelow a b = ltZ (a .id) (b .id)
+
+abbrev pub statisticsBelow : StatisticsFile → StatisticsFile → Bool
+statisticsBelow a b = ltZ (a .snapshot) (b .snapshot)
 
 unfoldable pub snapshotsFormed : List Snapshot → Bool
 snapshotsFormed l = leb (length l) snapshotRoom && all snapshotFormed l && ascending snapshotBelow l
@@ -107,6 +114,9 @@ schemasFormed l = leb (length l) schemaRoom && all schemaFormed l && ascending s
 
 unfoldable pub ordersFormed : List SortOrder → Bool
 ordersFormed l = leb (length l) sortOrderRoom && all orderFormed l && ascending orderBelow l
+
+unfoldable pub statisticsFormed : List StatisticsFile → Bool
+statisticsFormed l = leb (length l) statisticsRoom && all statisticsFileFormed l && ascending statisticsBelow l
 
 -- ---- what metadata says of itself
 
@@ -160,6 +170,8 @@ metadataFormed m =
     && metadataLogFormed (m .metadataLog)
     && schemasFormed (m .schemas)
     && ordersFormed (m .orders)
+    && statisticsFormed (m .statistics)
+    && statisticsFormed (m .partitionStatistics)
     && fieldsFormed (m .fields)
     && refsHeld m
     && mainAgrees m
@@ -191,4 +203,6 @@ updateFormed (SetCurrentSchema id) = choiceFormed id
 updateFormed (RemoveSchemas ids) = removalFormed ids
 updateFormed (AddSortOrder o) = offeredOrderFormed o
 updateFormed (SetDefaultSortOrder id) = choiceFormed id
+updateFormed (SetStatistics which f) = statisticsFileFormed f
+updateFormed (RemoveStatistics which id) = nonNeg id
 updateFormed (NotFormed counts) = false

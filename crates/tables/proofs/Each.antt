@@ -7,7 +7,7 @@ use borrow.Author.Tests.{leb-true}
 use lib.Dec.{leb}
 use lib.IntN.{ℤ}
 use lib.ListN.{length, getD}
-use Rattle.records.specs.Blanks.{noSnapshotIds, noSchemaIds, noSnapshots, noRefs, noSchemas, noSnapshotId, noSchemaId, noSnapshot, noRef, noSchema, noSortOrder, noLogEntry, noMetadataLogEntry, noSchemaField, noSortField}
+use Rattle.records.specs.Blanks.{noSnapshotIds, noSchemaIds, noSnapshots, noRefs, noSchemas, noStatisticsFiles, noSnapshotId, noSchemaId, noSnapshot, noRef, noSchema, noSortOrder, noStatisticsFile, noLogEntry, noMetadataLogEntry, noSchemaField, noSortField}
 use Rattle.records.specs.declared.counters.SnapshotId.{SnapshotId}
 use Rattle.records.specs.declared.counters.SchemaId.{SchemaId}
 use Rattle.records.specs.declared.snapshot.SnapshotIds.{SnapshotIds}
@@ -24,13 +24,15 @@ use Rattle.records.specs.declared.schema.SchemaField.{SchemaField}
 use Rattle.records.specs.declared.«sort_order».SortField.{SortField}
 use Rattle.records.specs.declared.«sort_order».SortOrder.{SortOrder}
 use Rattle.records.specs.declared.«sort_order».SortOrders.{SortOrders}
+use Rattle.records.specs.declared.statistics.StatisticsFile.{StatisticsFile}
+use Rattle.records.specs.declared.statistics.StatisticsFiles.{StatisticsFiles}
 use Rattle.records.specs.declared.metadata.MetadataLogEntry.{MetadataLogEntry}
 use Rattle.records.specs.declared.metadata.MetadataLog.{MetadataLog}
 use Rattle.rules.specs.Register as plain
-use Rattle.rules.specs.Capacities.{refNameRoom, removalRoom, snapshotRoom, refRoom, schemaRoom, sortOrderRoom, snapshotLogRoom, metadataLogRoom, schemaFieldRoom, sortFieldRoom}
-use Rattle.rules.specs.Layout.{readSnapshotIds, laidSnapshotIds, readSchemaIds, laidSchemaIds, readSnapshot, laidSnapshot, laidSnapshots, readRef, laidRef, laidRefs, readSchema, laidSchema, laidSchemas, readSortOrder, laidSortOrder, laidSortOrders, readLogEntry, laidLogEntry, laidSnapshotLog, readMetadataLogEntry, laidMetadataLogEntry, laidMetadataLog, readSchemaField, laidSchemaField, readSortField, laidSortField}
+use Rattle.rules.specs.Capacities.{refNameRoom, removalRoom, snapshotRoom, refRoom, schemaRoom, sortOrderRoom, statisticsRoom, snapshotLogRoom, metadataLogRoom, schemaFieldRoom, sortFieldRoom}
+use Rattle.rules.specs.Layout.{readSnapshotIds, laidSnapshotIds, readSchemaIds, laidSchemaIds, readSnapshot, laidSnapshot, laidSnapshots, readRef, laidRef, laidRefs, readSchema, laidSchema, laidSchemas, readSortOrder, laidSortOrder, laidSortOrders, readStatisticsFile, laidStatisticsFile, laidStatistics, readLogEntry, laidLogEntry, laidSnapshotLog, readMetadataLogEntry, laidMetadataLogEntry, laidMetadataLog, readSchemaField, laidSchemaField, readSortField, laidSortField}
 use Rattle.rules.proofs.Reread.{reread-snapshot-ids, reread-schema-ids}
-use Rattle.tables.specs.Laid.{LaidName, LaidRef, LaidSnapshotIds, LaidSchemaIds, LaidSnapshots, LaidRefs, LaidSchemas, LaidOrders, LaidSnapshotLog, LaidMetadataLog, LaidSchema, LaidOrder}
+use Rattle.tables.specs.Laid.{LaidName, LaidRef, LaidSnapshotIds, LaidSchemaIds, LaidSnapshots, LaidRefs, LaidSchemas, LaidOrders, LaidStatistics, LaidSnapshotLog, LaidMetadataLog, LaidSchema, LaidOrder}
 use Rattle.tables.proofs.Table.{Kind, Tidy, Made, read-length, each-at, element-back}
 
 abbrev pub snapshotIds : Kind
@@ -98,6 +100,17 @@ tidy-sort-orders h = record { slots = ap (λ (t : SortOrders). t .items) (sym (h
 pub made-sort-orders : Made sortOrders laidSortOrders
 unfolding laidSortOrders
 made-sort-orders = record { laid-items = λ l. refl; laid-count = λ l. refl; same = λ p q i. record { items = p i; count = q i } }
+
+abbrev pub statistics : Kind
+statistics = record { Slot = StatisticsFile; Plain = plain.StatisticsFile; Whole = StatisticsFiles; room = statisticsRoom; blank = noStatisticsFile; read = readStatisticsFile; lay = laidStatisticsFile; items = λ t. t .items; count = λ t. t .count }
+
+pub tidy-statistics : {t : StatisticsFiles} → LaidStatistics t → Tidy statistics t
+unfolding laidStatistics
+tidy-statistics h = record { slots = ap (λ (t : StatisticsFiles). t .items) (sym (h .back)); fits = h .fits }
+
+pub made-statistics : Made statistics laidStatistics
+unfolding laidStatistics
+made-statistics = record { laid-items = λ l. refl; laid-count = λ l. refl; same = λ p q i. record { items = p i; count = q i } }
 
 abbrev pub snapshotLog : Kind
 snapshotLog = record { Slot = SnapshotLogEntry; Plain = plain.LogEntry; Whole = SnapshotLog; room = snapshotLogRoom; blank = noLogEntry; read = readLogEntry; lay = laidLogEntry; items = λ t. t .items; count = λ t. t .count }
@@ -193,3 +206,7 @@ none-refs = refl
 pub none-schemas : noSchemas ≡ laidSchemas []
 unfolding noSchemas laidSchemas
 none-schemas = refl
+
+pub none-statistics : noStatisticsFiles ≡ laidStatistics []
+unfolding noStatisticsFiles laidStatistics
+none-statistics = refl

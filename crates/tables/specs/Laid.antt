@@ -15,10 +15,12 @@ use Rattle.records.specs.declared.schema.Schemas.{Schemas}
 use Rattle.records.specs.declared.schema.SchemaIds.{SchemaIds}
 use Rattle.records.specs.declared.«sort_order».SortOrder.{SortOrder}
 use Rattle.records.specs.declared.«sort_order».SortOrders.{SortOrders}
+use Rattle.records.specs.declared.statistics.StatisticsFile.{StatisticsFile}
+use Rattle.records.specs.declared.statistics.StatisticsFiles.{StatisticsFiles}
 use Rattle.records.specs.declared.metadata.MetadataLog.{MetadataLog}
 use Rattle.rules.specs.Words.{all}
-use Rattle.rules.specs.Capacities.{snapshotRoom, refRoom, snapshotLogRoom, metadataLogRoom, schemaRoom, schemaFieldRoom, sortOrderRoom, sortFieldRoom, removalRoom, refNameRoom}
-use Rattle.rules.specs.Layout.{readRefName, laidRefName, readSnapshots, laidSnapshots, readSnapshotIds, laidSnapshotIds, readSnapshotLog, laidSnapshotLog, readRef, laidRef, readRefs, laidRefs, readSchema, laidSchema, readSchemas, laidSchemas, readSchemaIds, laidSchemaIds, readSortOrder, laidSortOrder, readSortOrders, laidSortOrders, readMetadataLog, laidMetadataLog}
+use Rattle.rules.specs.Capacities.{snapshotRoom, refRoom, snapshotLogRoom, metadataLogRoom, schemaRoom, schemaFieldRoom, sortOrderRoom, sortFieldRoom, statisticsRoom, removalRoom, refNameRoom}
+use Rattle.rules.specs.Layout.{readRefName, laidRefName, readSnapshots, laidSnapshots, readSnapshotIds, laidSnapshotIds, readSnapshotLog, laidSnapshotLog, readRef, laidRef, readRefs, laidRefs, readSchema, laidSchema, readSchemas, laidSchemas, readSchemaIds, laidSchemaIds, readSortOrder, laidSortOrder, readSortOrders, laidSortOrders, readStatisticsFile, laidStatisticsFile, readStatistics, laidStatistics, readMetadataLog, laidMetadataLog}
 use Rattle.rules.specs.Register as plain
 
 -- ---- texts
@@ -41,6 +43,9 @@ pub record LaidOrder (o : SortOrder) : Type 0 where
   pub back : laidSortOrder (readSortOrder o) ≡ o
   pub fits : length (readSortOrder o .fields) ≤ sortFieldRoom
 
+pub record LaidStatisticsFile (f : StatisticsFile) : Type 0 where
+  pub back : laidStatisticsFile (readStatisticsFile f) ≡ f
+
 -- ---- tables and logs
 
 pub record LaidSnapshots (t : Snapshots) : Type 0 where
@@ -61,6 +66,10 @@ pub record LaidOrders (t : SortOrders) : Type 0 where
   pub back : laidSortOrders (readSortOrders t) ≡ t
   pub fits : length (readSortOrders t) ≤ sortOrderRoom
   pub fields : all (λ (o : plain.SortOrder). leb (length (o .fields)) sortFieldRoom) (readSortOrders t) ≡ true
+
+pub record LaidStatistics (t : StatisticsFiles) : Type 0 where
+  pub back : laidStatistics (readStatistics t) ≡ t
+  pub fits : length (readStatistics t) ≤ statisticsRoom
 
 pub record LaidSnapshotLog (t : SnapshotLog) : Type 0 where
   pub back : laidSnapshotLog (readSnapshotLog t) ≡ t

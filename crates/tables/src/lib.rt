@@ -7,3 +7,4 @@ pub mod refs;
 pub mod schemas;
 pub mod snapshots;
 pub mod sort_orders;
+pub mod statistics;

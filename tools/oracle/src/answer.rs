@@ -3,7 +3,9 @@
 use std::collections::BTreeMap;
 use std::io::{BufRead, Write};
 
-use crate::case::{Case, CaseReader, DEFAULT_TOLERANCE, Line, Run, WalkTerms};
+use crate::case::{
+    Case, CaseReader, DEFAULT_TOLERANCE, Line, More, Run, SnapshotLogEntry, WalkTerms,
+};
 use crate::port::{self, Outcome, Own, Owns, Reply, WalkOutcome};
 
 /// What the unwritten part of a walk's buffer holds.
@@ -28,8 +30,8 @@ pub struct PublishedAnswer {
 
 pub fn answer(case: &Case) -> Answer {
     match case {
-        Case::Run(run) => run_answer(run, DEFAULT_TOLERANCE),
-        Case::RunGiven(run, more) => run_answer(run, more.tolerance()),
+        Case::Run(run) => run_answer(run, &More::default()),
+        Case::RunGiven(run, more) => run_answer(run, more),
         Case::Walk {
             ids,
             parents,
@@ -62,6 +64,11 @@ pub fn answer(case: &Case) -> Answer {
             line.list(trimmed.len(), &trimmed);
             finished(line, None, Owns::new())
         }
+        Case::CurrentAt { log, time } => current_answer(log, *time),
+        Case::RowsApart(metadata) => {
+            let apart = port::rows_apart(metadata);
+            leaf_answer(&[apart as u64], None, Owns::from([Own::NotPublished]))
+        }
     }
 }
 
@@ -85,8 +92,22 @@ fn window_answer(time: i64, last: i64, tolerance: i64) -> Answer {
     leaf_answer(&[within as u64], None, owns)
 }
 
-fn run_answer(run: &Run, tolerance: i64) -> Answer {
-    reply_answer(port::run(run, tolerance), |reply| run_line(run, reply))
+/// Number, found, the entry (zeros where there is none) and how many entries were read.
+fn current_answer(log: &[SnapshotLogEntry], time: i64) -> Answer {
+    let (number, (hit, read)) = match port::current_at(log, time) {
+        Ok(found) => (0, found),
+        Err(number) => (number, (None, 0)),
+    };
+    let entry = hit.map_or((0, 0), |entry| (entry.snapshot_id, entry.timestamp_ms));
+    let mut line = Line::for_answer();
+    line.number(number).number(hit.is_some() as u8);
+    line.number(entry.0).number(entry.1).number(read);
+    finished(line, Some(number), Owns::from([Own::NotPublished]))
+}
+
+fn run_answer(run: &Run, more: &More) -> Answer {
+    let outcome = port::run(run, more.tolerance());
+    reply_answer(outcome, |reply| run_line(run, more, reply))
 }
 
 /// All answers of an outcome, each written by `line`.
@@ -110,17 +131,23 @@ fn reply_answer(outcome: Outcome, line: impl Fn(&Reply) -> Line) -> Answer {
     }
 }
 
-fn run_line(run: &Run, reply: &Reply) -> Line {
+/// Behind what every run answers stand the tables that it was given, as they are now.
+fn run_line(run: &Run, more: &More, reply: &Reply) -> Line {
     let mut line = Line::for_answer();
-    match reply {
+    let metadata = match reply {
         Ok(accepted) => {
             line.number(0).number(0).metadata(&accepted.metadata);
             line.updates(&accepted.log).metadata_log(&accepted.expired);
+            &accepted.metadata
         }
         Err((number, place)) => {
             line.number(number).number(place).metadata(&run.metadata);
             line.updates(&[]).metadata_log(&[]);
+            &run.metadata
         }
+    };
+    for (_, files) in more.tables(metadata) {
+        line.statistics(files);
     }
     line
 }

@@ -8,7 +8,7 @@ use crate::spec::{
 };
 use crate::uuid::Uuid;
 
-/// One entry of the change log. The builder writes all of these; document 01's domain reaches those that `from_published` reads.
+/// One entry of the change log. The builder writes all of these; the domain of documents 01 and 02 reaches those that `from_published` reads.
 #[derive(Debug, Clone, PartialEq)]
 pub enum TableUpdate {
     AssignUuid {
@@ -83,7 +83,7 @@ pub enum TableUpdate {
     },
 }
 
-/// Taken apart by a function of the published builder that document 01 leaves out.
+/// Taken apart by a function of the published builder that is not taken.
 #[allow(dead_code)]
 pub struct TableCreation {
     pub name: String,

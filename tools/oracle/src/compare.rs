@@ -7,7 +7,7 @@ use std::collections::BTreeMap;
 use std::io::{self, BufRead, Write};
 
 use crate::answer::{Answer, answer};
-use crate::case::{Case, CaseReader};
+use crate::case::{Case, CaseReader, Update};
 use crate::port::{self, Own};
 
 /// So many differences are shown.
@@ -29,6 +29,8 @@ struct Tally {
     accepted_runs: u64,
     /// Runs with a tolerance that they may have and that is not a minute.
     other_tolerance: u64,
+    /// Runs that are given a table of statistics files, or whose list has an update of one.
+    statistics: u64,
     /// Cases that a published rule answers otherwise: by its mark, kind, reply number and whether that rule accepts.
     by_rule: BTreeMap<(Own, &'static str, Option<u8>, bool), u64>,
     different: u64,
@@ -85,7 +87,10 @@ impl Tally {
             *self.owns.entry(*own).or_default() += 1;
         }
         self.published_alone += expected.owns.is_empty() as u64;
-        if let Some((_, tolerance)) = case.run() {
+        if let Some((run, tolerance)) = case.run() {
+            let given = matches!(case, Case::RunGiven(_, more) if more.has_tables());
+            let updated = run.updates.iter().any(Update::is_of_statistics);
+            self.statistics += (given || updated) as u64;
             self.accepted_runs += (expected.number == Some(0)) as u64;
             self.other_tolerance += port::is_another_tolerance(tolerance) as u64;
         }
@@ -109,6 +114,7 @@ impl Tally {
             "runs with another tolerance than a minute {}",
             self.other_tolerance
         )?;
+        writeln!(report, "runs with statistics files {}", self.statistics)?;
         writeln!(
             report,
             "decided by the published code alone {}",

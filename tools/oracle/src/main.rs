@@ -1,4 +1,4 @@
-//! The published builder and walks as an oracle for document 01. See README.md.
+//! The published builder and walks as an oracle for documents 01 and 02. See README.md.
 
 mod answer;
 mod bench;
@@ -27,7 +27,7 @@ pub use catalog::{TableCreation, TableUpdate};
 use generate::Kind;
 
 const USAGE: &str = "oracle answer [--published-rows] < CASES > ANSWERS
-oracle generate --seed S --count N [--kind run|walk|limit|tolerance|mixed]
+oracle generate --seed S --count N [--kind run|walk|limit|tolerance|statistics|mixed]
 oracle compare CASES ACTUAL        (ACTUAL may be - for standard input)
 oracle pick --count K < CASES
 oracle differences [--cases]
@@ -110,6 +110,7 @@ fn kind(options: &[&str]) -> Option<Kind> {
         Some("walk") => Some(Kind::Walk),
         Some("limit") => Some(Kind::Limit),
         Some("tolerance") => Some(Kind::Tolerance),
+        Some("statistics") => Some(Kind::Statistics),
         Some("mixed") | None => Some(Kind::Mixed),
         Some(_) => None,
     }

@@ -1,13 +1,18 @@
 //! Picks a small list that shows what the given cases show: each reply, each update accepted with and without an entry in the log,
 //! each update refused with each number, each place where the answer rests on the wrapper, each reply beside what a published rule
-//! says that differs, each reply to a tolerance outside its bounds; then versions, pairs and sizes.
+//! says that differs, each reply to a tolerance outside its bounds, what updates of statistics files meet or in what they are at fault,
+//! which tables of them are given; then versions, pairs and sizes.
 
 use std::collections::{BTreeMap, BTreeSet};
 use std::io::{self, BufRead, Write};
 
 use crate::answer::{PublishedAnswer, answer};
-use crate::case::{Case, CaseReader, Line, Run, TOLERANCES};
+use crate::case::{
+    Case, CaseReader, Line, More, Run, StatisticsFile, TOLERANCES, Update, capacity,
+};
 use crate::port::{self, Own, Owns};
+use crate::published::to_published as to;
+use crate::spec::TableMetadata;
 
 /// A thing that a case can show. Those above `Version` come first.
 #[derive(Debug, Clone, Copy, PartialEq, Eq, PartialOrd, Ord)]
@@ -22,6 +27,12 @@ enum Shown {
     ByRule(Own, &'static str, Option<u8>, bool),
     /// The reply to a run whose tolerance is outside its bounds, and whether its updates are well formed.
     Outside(Option<u8>, bool),
+    /// The tables of statistics files that a run is given, and whether it is accepted.
+    Tables(Table, Table, bool),
+    /// An update of statistics files in an accepted run.
+    Statistics(Met),
+    /// The kind of an update that is refused with a statistics file, and whether its snapshot id, its path or its size is at fault.
+    Fault(u8, [bool; 3]),
     /// A time window: its kind, its answer, and a place where that rests on the wrapper.
     Window(&'static str, bool, Option<Own>),
     /// The version of a run's start and the run's reply.
@@ -30,6 +41,33 @@ enum Shown {
     Pair(u8, u8),
     /// A reply, both kinds of runs being one, and the power of two that the case's length lies under.
     Size(&'static str, Option<u8>, u32),
+}
+
+/// A table of statistics files that may be given.
+#[derive(Debug, Clone, Copy, PartialEq, Eq, PartialOrd, Ord)]
+enum Table {
+    LeftOut,
+    Formed,
+    /// More than there are slots.
+    TooMany,
+    /// Its keys do not ascend.
+    OutOfOrder,
+    /// A file is not well formed.
+    NotFormed,
+}
+
+/// What an update of statistics files meets.
+#[derive(Debug, Clone, Copy, PartialEq, Eq, PartialOrd, Ord)]
+struct Met {
+    kind: u8,
+    /// The table has a file of the snapshot.
+    filed: bool,
+    /// That file is the one that is set.
+    equal: bool,
+    /// The table is full.
+    full: bool,
+    /// The snapshot is held.
+    held: bool,
 }
 
 struct Candidate {
@@ -75,6 +113,9 @@ fn candidate(case: Case) -> Candidate {
         let within = |own| Shown::Window(case.kind(), answer.line == "1", own);
         shown.extend(owns.chain([None]).map(within));
     }
+    if let Case::RunGiven(run, more) = &case {
+        shown.insert(tables_shown(run, more, answer.number == Some(0)));
+    }
     if let Some((run, tolerance)) = case.run() {
         let formed = run.updates.iter().all(port::update_formed);
         let outside = !TOLERANCES.contains(&tolerance);
@@ -83,6 +124,51 @@ fn candidate(case: Case) -> Candidate {
         shown.extend(updates_shown(run, tolerance));
     }
     Candidate { line, shown }
+}
+
+fn tables_shown(run: &Run, more: &More, accepted: bool) -> Shown {
+    let table = |given: bool, files: &[StatisticsFile]| match port::statistics_formed(files) {
+        _ if !given => Table::LeftOut,
+        true => Table::Formed,
+        false if files.len() > capacity::STATISTICS => Table::TooMany,
+        false if !files.is_sorted_by(|a, b| a.snapshot_id < b.snapshot_id) => Table::OutOfOrder,
+        false => Table::NotFormed,
+    };
+    let m = &run.metadata;
+    let statistics = table(more.statistics, &m.statistics);
+    let partition_statistics = table(more.partition_statistics, &m.partition_statistics);
+    Shown::Tables(statistics, partition_statistics, accepted)
+}
+
+fn fault(update: &Update) -> Option<Shown> {
+    let (Update::SetStatistics(f) | Update::SetPartitionStatistics(f)) = update else {
+        return None;
+    };
+    let too_long = f.path.len() > capacity::FILE_NAME;
+    let faults = [f.snapshot_id < 0, too_long, f.size < 0];
+    Some(Shown::Fault(update.kind(), faults))
+}
+
+fn met(m: &TableMetadata, update: &Update) -> Option<Met> {
+    let (id, set) = match update {
+        Update::SetStatistics(f) | Update::SetPartitionStatistics(f) => {
+            (f.snapshot_id, Some(to::statistics_file(f)))
+        }
+        Update::RemoveStatistics(id) | Update::RemovePartitionStatistics(id) => (*id, None),
+        _ => return None,
+    };
+    let files = match update {
+        Update::SetStatistics(_) | Update::RemoveStatistics(_) => &m.statistics,
+        _ => &m.partition_statistics,
+    };
+    let there = files.get(&id);
+    Some(Met {
+        kind: update.kind(),
+        filed: there.is_some(),
+        equal: there.is_some() && there == set.as_ref(),
+        full: files.len() == capacity::STATISTICS,
+        held: m.snapshots.contains_key(&id),
+    })
 }
 
 fn updates_shown(run: &Run, tolerance: i64) -> Vec<Shown> {
@@ -94,12 +180,17 @@ fn updates_shown(run: &Run, tolerance: i64) -> Vec<Shown> {
     let mut before = None;
     for update in &run.updates {
         let logged = builder.logged();
+        let met = met(builder.held(), update);
         builder = match port::step(builder, update, &mut owns) {
             Ok(builder) => builder,
-            Err(number) => return vec![Shown::Refused(update.kind(), number)],
+            Err(number) => {
+                let refused = Shown::Refused(update.kind(), number);
+                return [refused].into_iter().chain(fault(update)).collect();
+            }
         };
         let logged = builder.logged() - logged;
         shown.push(Shown::Accepted(update.kind(), logged));
+        shown.extend(met.map(Shown::Statistics));
         let here = (logged > 0).then_some(update.kind());
         shown.extend(before.zip(here).map(|(a, b)| Shown::Pair(a, b)));
         before = here;

@@ -20,7 +20,9 @@ first-difference-spec =
     (λ c κs. search needs)
     (λ c κs. search needs)
     (λ c κs. search needs)
-    (λ c. let l = c .before .before .before .before .before in let o = l .before .before in
+    (λ c κs. search needs)
+    (λ c κs. search needs)
+    (λ c. let l = c .before .before .before .before .before in let o = l .before .before in let s = o .before .before in
     rw (
       c .compare-fields .ensures,
       c .before .compare-snapshots .ensures,
@@ -31,6 +33,8 @@ first-difference-spec =
       l .before .unless2 .ensures,
       o .compare-sort-orders .ensures,
       o .before .unless .ensures,
-      o .before .before .same-schema .ensures,
-      o .before .before .before .same-order .ensures,
+      s .compare-statistics2 .ensures,
+      s .before .compare-statistics .ensures,
+      s .before .before .same-schema .ensures,
+      s .before .before .before .same-order .ensures,
     )))

@@ -16,15 +16,18 @@ use lib.IntN.{ℤ, pos}
 use lib.ListN.{length, drop, take, length-map}
 use lib.Signed.{ltZ}
 use Rattle.records.specs.Blanks.{noSnapshot}
+use Rattle.records.specs.declared.statistics.StatisticsFiles.{StatisticsFiles}
 use Rattle.records.specs.declared.update.TableUpdate.{TableUpdate}
-use Rattle.rules.specs.Words.{total, eqZ, firstOf, ascending, put}
+use Rattle.rules.specs.Words.{total, eqZ, firstOf, ascending, keep, put}
 use Rattle.rules.specs.Names.{isMain}
 use Rattle.rules.specs.Register as plain
-use Rattle.rules.specs.WellFormed.{updateFormed, snapshotBelow}
+use Rattle.rules.specs.Register.StatisticsTable.{Statistics, PartitionStatistics}
+use Rattle.rules.specs.WellFormed.{updateFormed, snapshotBelow, statisticsBelow}
 use Rattle.rules.specs.SnapshotUpdates.{addSnapshotChecks}
+use Rattle.rules.specs.StatisticsUpdates.{isOf}
 use Rattle.rules.specs.Run.{weight, listSum}
-use Rattle.rules.specs.Layout.{pad, readSnapshot, laidSnapshot, laidSnapshots, readSnapshotIds, readSchemaIds, readRefName}
-use Rattle.rules.specs.Kinds.{isTidyUpdate, readUpdate, readUpdates, assignUuidKind, upgradeFormatVersionKind, setLocationKind, addSnapshotKind, setBranchSnapshotKind, removeSnapshotsKind, setRefKind, removeRefKind, addSchemaKind, setCurrentSchemaKind, removeSchemasKind, addSortOrderKind, setDefaultSortOrderKind}
+use Rattle.rules.specs.Layout.{pad, readSnapshot, laidSnapshot, laidSnapshots, readSnapshotIds, readSchemaIds, readStatisticsFile, readStatistics, laidStatistics, readRefName}
+use Rattle.rules.specs.Kinds.{isTidyUpdate, readUpdate, readUpdates, assignUuidKind, upgradeFormatVersionKind, setLocationKind, addSnapshotKind, setBranchSnapshotKind, removeSnapshotsKind, setRefKind, removeRefKind, addSchemaKind, setCurrentSchemaKind, removeSchemasKind, addSortOrderKind, setDefaultSortOrderKind, setStatisticsKind, removeStatisticsKind, setPartitionStatisticsKind, removePartitionStatisticsKind, settingKind, removingKind}
 use Rattle.close.specs.Answers.{HistoryOf}
 use Rattle.rules.proofs.Checks.{and-left, and-right, by-either, neither}
 use Rattle.tables.specs.Laid.{LaidName}
@@ -35,21 +38,23 @@ use Rattle.builder.specs.Pieces.{idsOf, isAbove}
 use Rattle.builder.proofs.Entries.{not-first, only-one}
 use Rattle.snapshot_updates.specs.Snapshots.{SnapshotDecided}
 use Rattle.ref_updates.specs.Refs.{RefSet}
+use Rattle.statistics_updates.specs.Files.{FileDecided}
+use Rattle.statistics_updates.proofs.Tables.{statistics-grown, statistics-left}
 use Rattle.start.specs.Start.{startNumber}
-use Rattle.start.proofs.Reading.{formed-tidy, formed-kind, known, kinds, read-remove-snapshots, read-set-ref, read-remove-ref, read-remove-schemas, here, all-read, weight-read, counts}
+use Rattle.start.proofs.Reading.{formed-tidy, formed-kind, known, kinds, read-remove-snapshots, read-set-ref, read-remove-ref, read-remove-schemas, read-remove-statistics, here, all-read, weight-read, counts}
 use Rattle.start.proofs.Started.{refused-start}
-use Rattle.laws.specs.Standing.{Given, termsOf, Pieces, Represents, Standing}
+use Rattle.laws.specs.Standing.{Given, termsOf, filesOf, Pieces, Represents, Standing}
 use Rattle.laws.specs.Turns.{nothing, updateAt, nameAt, Midway, Stands, Decided, Turn}
-use Rattle.laws.proofs.Beginning.{start-snapshots, start-log, start-short, standing-start, laid-snapshots, laid-refs, laid-log, laid-schemas, laid-orders, location-fits, snapshots-ascend, schemas-ascend, refs-ascend, orders-formed, schema-held, order-held}
+use Rattle.laws.proofs.Beginning.{start-snapshots, start-log, start-short, standing-start, laid-snapshots, laid-refs, laid-log, laid-schemas, laid-orders, laid-statistics, statistics-laid, statistics-ascend, location-fits, snapshots-ascend, schemas-ascend, refs-ascend, orders-formed, schema-held, order-held}
 use Rattle.laws.proofs.Closed.{held-ids, held-ascend, held-fits, held-within, held-slice, adds-within, added-slice, mains-within, main-slice, adds-most, mains-most, told, handed, files-laid, files-fit, gone-fits, overfull-is, joins-fit, stay-is, gone-is, checks, close-refused, close-accepted}
 use Rattle.laws.proofs.Moving.{fits, ends}
-use Rattle.laws.proofs.Deciding.{whole, not-formed-decided, fields-decided, refs-decided, schemas-decided, orders-decided, refs-left, schemas-left, schemas-grown, orders-grown}
+use Rattle.laws.proofs.Deciding.{whole, not-formed-decided, fields-decided, refs-decided, schemas-decided, orders-decided, refs-left, schemas-left, schemas-grown, orders-grown, tabled, withFiles, statistics-decided}
 use Rattle.laws.proofs.Removing.{left-laid, left-lent, removed-decided}
 use Rattle.laws.proofs.Adding.{has-room, stored-last, id-last, put-new, put-laid, put-tables, put-ids, add-refused, adds-fine, add-decided}
 use Rattle.laws.proofs.Setting.{faced, set-midway, set-decides, main-room, other-decided, main-decided}
 use Rattle.laws.proofs.Taken.{snapshot-back, reference-back, asked-laid, schema-ids-laid, branch-name-laid, set-name-laid, removed-name-laid}
-use Rattle.laws.proofs.Effects.{group}
-use Rattle.laws.proofs.Turning.{undivided, unformed, at-the-end, decides, refuses, goes-on, is-uuid, is-version, is-location, is-ref-removal, is-schema, is-schema-choice, is-schema-removal, is-order, is-order-choice}
+use Rattle.laws.proofs.Effects.{group, statisticsGroup}
+use Rattle.laws.proofs.Turning.{undivided, unformed, at-the-end, decides, refuses, goes-on, is-uuid, is-version, is-location, is-ref-removal, is-schema, is-schema-choice, is-schema-removal, is-order, is-order-choice, is-statistics-setting, is-statistics-removal}
 use Rattle.register.proofs.run.Statement.{statement}
 use Rattle.register.proofs.run.Tie as tie
 
@@ -63,17 +68,17 @@ and-second a b e h = rw e at h
 
 -- the sum of the updates passed, and of the rest of a list that is not too long, make the list's sum
 abbrev Inv-loop : tie.InvT-loop
-Inv-loop metadata terms text updates first clock listed added mained adds mains removal sum₀ number entries builder decision snapshots ids refs log last schemas orders count place₀ waits half begun sum place =
+Inv-loop metadata terms text updates first clock listed added mained adds mains removal sum₀ number entries builder decision snapshots ids refs log last schemas orders statistics partitions count place₀ waits half begun sum place =
     (place ≤ 64) × (sum ≤ 2 * place) × (listed ≤ 64 → (place ≤ listed) × (sum + total weight (drop place (readUpdates updates)) ≡ listSum (readUpdates updates)))
 
 abbrev μ-loop : tie.MeasureT-loop
-μ-loop metadata terms text updates first clock listed added mained adds mains removal sum₀ number entries builder decision snapshots ids refs log last schemas orders count place₀ waits half begun sum place = 64 - place
+μ-loop metadata terms text updates first clock listed added mained adds mains removal sum₀ number entries builder decision snapshots ids refs log last schemas orders statistics partitions count place₀ waits half begun sum place = 64 - place
 
 abbrev Inv-loop2 : tie.InvT-loop2
-Inv-loop2 metadata terms text updates first clock listed added₀ mained₀ adds₀ mains₀ removal₀ sum number₀ entries₀ builder₀ decision₀ snapshots₀ ids₀ refs₀ log₀ last₀ schemas₀ orders₀ count₀ place₀ waits₀ half₀ begun₀ added mained adds mains removal number entries builder decision snapshots ids refs log last schemas orders count place waits half begun =
+Inv-loop2 metadata terms text updates first clock listed added₀ mained₀ adds₀ mains₀ removal₀ sum number₀ entries₀ builder₀ decision₀ snapshots₀ ids₀ refs₀ log₀ last₀ schemas₀ orders₀ statistics₀ partitions₀ count₀ place₀ waits₀ half₀ begun₀ added mained adds mains removal number entries builder decision snapshots ids refs log last schemas orders statistics partitions count place waits half begun =
     Turn (record { metadata = metadata; updates = updates; terms = terms; text = text }) number place waits half
     (record {
-      held = record { builder = builder; snapshots = snapshots; ids = ids; refs = refs; log = log; last = last; schemas = schemas; orders = orders };
+      held = record { builder = builder; snapshots = snapshots; ids = ids; refs = refs; log = log; last = last; shelf = record { schemas = schemas; orders = orders; statistics = statistics; partitionStatistics = partitions } };
       changes = record { entries = entries; count = count; added = added; adds = adds; mained = mained; mains = mains; removal = removal };
     })
     decision
@@ -83,19 +88,19 @@ abbrev turns : Bool → Bool → ℕ
 turns waits half = cond waits (cond half 3 1) (cond half 2 4)
 
 abbrev μ-loop2 : tie.MeasureT-loop2
-μ-loop2 metadata terms text updates first clock listed added₀ mained₀ adds₀ mains₀ removal₀ sum number₀ entries₀ builder₀ decision₀ snapshots₀ ids₀ refs₀ log₀ last₀ schemas₀ orders₀ count₀ place₀ waits₀ half₀ begun₀ added mained adds mains removal number entries builder decision snapshots ids refs log last schemas orders count place waits half begun =
+μ-loop2 metadata terms text updates first clock listed added₀ mained₀ adds₀ mains₀ removal₀ sum number₀ entries₀ builder₀ decision₀ snapshots₀ ids₀ refs₀ log₀ last₀ schemas₀ orders₀ statistics₀ partitions₀ count₀ place₀ waits₀ half₀ begun₀ added mained adds mains removal number entries builder decision snapshots ids refs log last schemas orders statistics partitions count place waits half begun =
     cond (eqb number 0) (4 * (listed - place) + turns waits half) 0
 
 -- ---- before the loops
 
-abbrev begin : tie.After-orders Inv-loop μ-loop Inv-loop2 μ-loop2 → tie.Start Inv-loop μ-loop Inv-loop2 μ-loop2
-begin c = c .before .before .before .before .before .before .before .before .before .before .before .before .before
+abbrev begin : tie.After-partition-statistics Inv-loop μ-loop Inv-loop2 μ-loop2 → tie.Start Inv-loop μ-loop Inv-loop2 μ-loop2
+begin c = c .before .before .before .before .before .before .before .before .before .before .before .before .before .before .before
 
 -- what the run is given
-abbrev G : tie.After-orders Inv-loop μ-loop Inv-loop2 μ-loop2 → Given
+abbrev G : tie.After-partition-statistics Inv-loop μ-loop Inv-loop2 μ-loop2 → Given
 G c = record { metadata = begin c .args .metadata; updates = begin c .args .t2; terms = begin c .args .terms; text = begin c .args .text .now }
 
-long : (c : tie.After-orders Inv-loop μ-loop Inv-loop2 μ-loop2) → length (G c .updates .items) ≡ 64
+long : (c : tie.After-partition-statistics Inv-loop μ-loop Inv-loop2 μ-loop2) → length (G c .updates .items) ≡ 64
 long c = sym (length-map (G c .updates .items) _) ∙ begin c .good .1 .0 .1 .1 .0 .1 .0 .1
 
 -- ---- the sum
@@ -139,7 +144,7 @@ module _ (a : tie.At-loop2 Inv-loop μ-loop Inv-loop2 μ-loop2) where
   abbrev here-pieces : Pieces
   here-pieces =
       record {
-        held = record { builder = a .loop2 .builder; snapshots = a .loop2 .snapshots; ids = a .loop2 .ids; refs = a .loop2 .refs; log = a .loop2 .log; last = a .loop2 .last; schemas = a .loop2 .schemas; orders = a .loop2 .orders };
+        held = record { builder = a .loop2 .builder; snapshots = a .loop2 .snapshots; ids = a .loop2 .ids; refs = a .loop2 .refs; log = a .loop2 .log; last = a .loop2 .last; shelf = record { schemas = a .loop2 .schemas; orders = a .loop2 .orders; statistics = a .loop2 .statistics; partitionStatistics = a .loop2 .partition-statistics } };
         changes = record { entries = a .loop2 .entries; count = a .loop2 .count; added = a .loop2 .added; adds = a .loop2 .adds; mained = a .loop2 .mained; mains = a .loop2 .mains; removal = a .loop2 .removal };
       }
 
@@ -391,9 +396,13 @@ module _ (c : tie.Else13 Inv-loop μ-loop Inv-loop2 μ-loop2) where
 
 -- ---- the last kind
 
-last-kind : (c : tie.Else19 Inv-loop μ-loop Inv-loop2 μ-loop2) → U (loop-at (c .before .before .before .before .before .before .before .before .before .before .before)) .kind ≡ setDefaultSortOrderKind
+last-kind : (c : tie.Else23 Inv-loop μ-loop Inv-loop2 μ-loop2) → U (loop-at (c .before .before .before .before .before .before .before .before .before .before .before .before .before .before .before)) .kind ≡ removePartitionStatisticsKind
 last-kind c =
-    let e18 = c .before in
+    let e22 = c .before in
+    let e21 = e22 .before in
+    let e20 = e21 .before in
+    let e19 = e20 .before in
+    let e18 = e19 .before in
     let e17 = e18 .before in
     let e16 = e17 .before in
     let e15 = e16 .before in
@@ -408,8 +417,12 @@ last-kind c =
     let k = u .kind in
     let four = neither (eqb k addSnapshotKind) (eqb k setBranchSnapshotKind && not (loop-at e4 .loop2 .half)) (e8 .if8 .left) in
     let five = neither (eqb k setBranchSnapshotKind) (eqb k setRefKind) (e11 .if11 .left) in
-    only-one k setDefaultSortOrderKind
-    (not-first k addSortOrderKind (drop 12 kinds) (c .if19 .left)
+    only-one k removePartitionStatisticsKind
+    (not-first k setPartitionStatisticsKind (drop 16 kinds) (c .if23 .left)
+    (not-first k removeStatisticsKind (drop 15 kinds) (e22 .if22 .left)
+    (not-first k setStatisticsKind (drop 14 kinds) (e21 .if21 .left)
+    (not-first k setDefaultSortOrderKind (drop 13 kinds) (e20 .if20 .left)
+    (not-first k addSortOrderKind (drop 12 kinds) (e19 .if19 .left)
     (not-first k removeSchemasKind (drop 11 kinds) (e18 .if18 .left)
     (not-first k setCurrentSchemaKind (drop 10 kinds) (e17 .if17 .left)
     (not-first k addSchemaKind (drop 9 kinds) (e16 .if16 .left)
@@ -420,25 +433,58 @@ last-kind c =
     (not-first k addSnapshotKind (drop 4 kinds) (eqb-false k addSnapshotKind (four .0))
     (not-first k setLocationKind (drop 3 kinds) (e7 .if7 .left)
     (not-first k upgradeFormatVersionKind (drop 2 kinds) (e6 .if6 .left)
-    (not-first k assignUuidKind (drop 1 kinds) (e5 .if5 .left) (known u (formed e4))))))))))))))
+    (not-first k assignUuidKind (drop 1 kinds) (e5 .if5 .left) (known u (formed e4))))))))))))))))))
+
+-- ---- statistics files, of either table
+
+no-group : (which : plain.StatisticsTable) {n : ℕ} → n ≡ statisticsGroup which → n ≡ 0 → ⊥
+no-group Statistics e z = omega arith
+no-group PartitionStatistics e z = omega arith
+
+module _ (e : tie.Else4 Inv-loop μ-loop Inv-loop2 μ-loop2) (which : plain.StatisticsTable) where
+  abbrev file-table : StatisticsFiles
+  file-table = filesOf which (here-pieces (loop-at e) .held .shelf)
+
+  -- the pieces with another table
+  abbrev refiled : StatisticsFiles → Pieces
+  refiled t = tabled (loop-at e .loop2 .refs) (withFiles which t (here-pieces (loop-at e) .held .shelf)) (here-pieces (loop-at e))
+
+  set-filed : (s : Standing (given (loop-at e)) (loop-at e .loop2 .place) (here-pieces (loop-at e))) → U (loop-at e) .kind ≡ settingKind which → {d : Decision} → FileDecided (loop-at e .loop2 .builder) file-table (U (loop-at e)) d → {t : StatisticsFiles}
+      → t ≡ cond (d .grows) (laidStatistics (put statisticsBelow (readStatisticsFile (d .entry .statistics)) (readStatistics file-table))) file-table
+      → Turn (given (loop-at e)) (loop-at e .loop2 .number) (loop-at e .loop2 .place) true false (refiled t) d
+  set-filed s q {d} D w =
+      let u = U (loop-at e) in
+      let k = is-statistics-setting u (formed e) which q in
+      waits-now (deciding e) (statistics-decided s (readUpdate u) (at (deciding e)) (one (deciding e)) (formed e) (no-group which k) d
+      (D .answers which (termsOf (given (loop-at e))) (s .state) q (s .stands .tables .builder) (statistics-laid (s .stands) which)) which k
+      (λ z. statistics-grown which (s .state) (statistics-laid (s .stands) which) d w (D .table which (termsOf (given (loop-at e))) (s .state) q z)))
+
+  remove-filed : (s : Standing (given (loop-at e)) (loop-at e .loop2 .place) (here-pieces (loop-at e))) → U (loop-at e) .kind ≡ removingKind which → {d : Decision} → Decides (termsOf (given (loop-at e))) (U (loop-at e)) (s .state) d → {t : StatisticsFiles}
+      → t ≡ laidStatistics (keep (λ x. not (isOf (U (loop-at e) .«statistics_id» .0) x)) (readStatistics file-table))
+      → Turn (given (loop-at e)) (loop-at e .loop2 .number) (loop-at e .loop2 .place) true false (refiled t) d
+  remove-filed s q {d} D w =
+      let u = U (loop-at e) in
+      let k = is-statistics-removal u (formed e) which q in
+      waits-now (deciding e) (statistics-decided s (readUpdate u) (at (deciding e)) (one (deciding e)) (formed e) (no-group which k) d D which k
+      (λ z. statistics-left which (s .state) (statistics-laid (s .stands) which) (termsOf (given (loop-at e))) (readUpdate u) (u .«statistics_id» .0) (read-remove-statistics u (formed e) which q) w))
 
 -- ---- the close
 
-module _ (c : tie.Else20 Inv-loop μ-loop Inv-loop2 μ-loop2) where
+module _ (c : tie.Else24 Inv-loop μ-loop Inv-loop2 μ-loop2) where
   abbrev end-at : tie.At-loop2 Inv-loop μ-loop Inv-loop2 μ-loop2
   end-at = c .before .before
 
   over : (end-at .loop2 .waits || ltb (end-at .loop2 .place) (given end-at .updates .count)) ≡ false
-  over = and-second (eqb (end-at .loop2 .number) 0) (end-at .loop2 .waits || ltb (end-at .loop2 .place) (given end-at .updates .count)) (eq-eqb _ _ (c .if20 .left)) (c .before .loop2-test .left)
+  over = and-second (eqb (end-at .loop2 .number) 0) (end-at .loop2 .waits || ltb (end-at .loop2 .place) (given end-at .updates .count)) (eq-eqb _ _ (c .if24 .left)) (c .before .loop2-test .left)
 
   passed : given end-at .updates .count ≤ end-at .loop2 .place
   passed = ltb-false _ _ (neither (end-at .loop2 .waits) (ltb (end-at .loop2 .place) (given end-at .updates .count)) over .1)
 
   end : Standing (given end-at) (end-at .loop2 .place) (here-pieces end-at)
-  end = at-the-end (end-at .loop2 .inv .stands (c .if20 .left) (neither (end-at .loop2 .waits) (ltb (end-at .loop2 .place) (given end-at .updates .count)) over .0)) passed
+  end = at-the-end (end-at .loop2 .inv .stands (c .if24 .left) (neither (end-at .loop2 .waits) (ltb (end-at .loop2 .place) (given end-at .updates .count)) over .0)) passed
 
 module _ (c : tie.After-surplus Inv-loop μ-loop Inv-loop2 μ-loop2) where
-  abbrev closing : tie.Else20 Inv-loop μ-loop Inv-loop2 μ-loop2
+  abbrev closing : tie.Else24 Inv-loop μ-loop Inv-loop2 μ-loop2
   closing = c .before .before .before .before .before .before .before
 
   history : HistoryOf (end closing .state .log) (end closing .state .metadata) (c .before .before .close-log .result)
@@ -484,13 +530,14 @@ loop-again c = (omega (arith, slotted (c .before)), omega (arith, c .weight .ens
 loop2-holds : tie.Need-loop2-holds Inv-loop μ-loop Inv-loop2 μ-loop2
 loop2-holds c =
     let a = c .before .before .before in
+    let orders = a .before .before in
     let g = G a in
     let n : c .start-number .result ≡ startNumber (g .metadata) (g .updates) (g .terms) = c .start-number .ensures (g .updates) refl (whole-sum (c .before)) in
     record {
       within = omega arith;
       short = λ z. start-short g (sym n ∙ z);
       refused = λ z. refused-start (g .metadata) (g .updates) (g .terms) (g .text) _ (sym n) z;
-      stands = λ z _. whole (standing-start g (sym n ∙ z) (a .before .before .before .before .before .before .before .before .new-from-metadata .ensures) (a .before .before .before .before .before .ids-of .ensures (start-snapshots g (sym n ∙ z))) (a .before .before .last-time .ensures (start-log g (sym n ∙ z))) (a .before .before .before .before .before .before .before .before .before .before .before .blank .ensures));
+      stands = λ z _. whole (standing-start g (sym n ∙ z) (orders .before .before .before .before .before .before .before .before .new-from-metadata .ensures) (orders .before .before .before .before .before .ids-of .ensures (start-snapshots g (sym n ∙ z))) (orders .before .before .last-time .ensures (start-log g (sym n ∙ z))) (orders .before .before .before .before .before .before .before .before .before .before .before .blank .ensures));
       waits = λ _ f. absurd (false≢true f);
     }
 
@@ -869,7 +916,7 @@ loop2-again-14 c =
     let u = U (loop-at e) in
     let k = is-schema u (formed e) q in
     let D = c .before .add-schema in
-    waits-now (deciding e) (schemas-decided s (readUpdate u) (at (deciding e)) (one (deciding e)) (formed e) (λ (z : group (readUpdate u) ≡ 0). omega arith) (D .result) (D .ensures .answers (termsOf (given (loop-at e))) (s .state) (T .builder) (T .schemas)) k (λ z. schemas-grown E (D .result) (c .schemas-after .ensures) (D .ensures .table (termsOf (given (loop-at e))) (s .state) (T .schemas) z)))
+    waits-now (deciding e) (schemas-decided s (readUpdate u) (at (deciding e)) (one (deciding e)) (formed e) (λ (z : group (readUpdate u) ≡ 0). omega arith) (D .result) (D .ensures .answers (termsOf (given (loop-at e))) (s .state) (T .builder) (T .shelf .schemas)) k (λ z. schemas-grown E (D .result) (c .schemas-after .ensures) (D .ensures .table (termsOf (given (loop-at e))) (s .state) (T .shelf .schemas) z)))
 
 set-current-schema-requires : tie.Need-set-current-schema-requires Inv-loop μ-loop Inv-loop2 μ-loop2
 set-current-schema-requires c κs =
@@ -887,7 +934,7 @@ loop2-again-15 c =
     let e = c .before .before .before .before .before .before .before .before .before .before in
     let q = c .before .if17 .taken in
     let s = S e setCurrentSchemaKind q refl in
-    fields e setCurrentSchemaKind q refl (c .set-current-schema .ensures (termsOf (given (loop-at e))) (s .state) (s .stands .tables .builder) (s .stands .tables .schemas)) (is-schema-choice (U (loop-at e)) (formed e) q)
+    fields e setCurrentSchemaKind q refl (c .set-current-schema .ensures (termsOf (given (loop-at e))) (s .state) (s .stands .tables .builder) (s .stands .tables .shelf .schemas)) (is-schema-choice (U (loop-at e)) (formed e) q)
 
 remove-schemas-requires : tie.Need-remove-schemas-requires Inv-loop μ-loop Inv-loop2 μ-loop2
 remove-schemas-requires c κs =
@@ -919,7 +966,7 @@ loop2-again-16 c =
     let T = E .tables in
     let u = U (loop-at e) in
     let k = is-schema-removal u (formed e) q in
-    waits-now (deciding e) (schemas-decided s (readUpdate u) (at (deciding e)) (one (deciding e)) (formed e) (λ (z : group (readUpdate u) ≡ 0). omega arith) (c .before .remove-schemas .result) (c .before .remove-schemas .ensures (termsOf (given (loop-at e))) (s .state) (T .builder) (T .schemas)) k (λ z. schemas-left E (readUpdate u) (readSchemaIds (u .«schema_ids»)) (read-remove-schemas u (formed e) q) (c .without3 .ensures)))
+    waits-now (deciding e) (schemas-decided s (readUpdate u) (at (deciding e)) (one (deciding e)) (formed e) (λ (z : group (readUpdate u) ≡ 0). omega arith) (c .before .remove-schemas .result) (c .before .remove-schemas .ensures (termsOf (given (loop-at e))) (s .state) (T .builder) (T .shelf .schemas)) k (λ z. schemas-left E (readUpdate u) (readSchemaIds (u .«schema_ids»)) (read-remove-schemas u (formed e) q) (c .without3 .ensures)))
 
 add-sort-order-requires : tie.Need-add-sort-order-requires Inv-loop μ-loop Inv-loop2 μ-loop2
 add-sort-order-requires c κs =
@@ -949,28 +996,114 @@ loop2-again-17 c =
     let u = U (loop-at e) in
     let k = is-order u (formed e) q in
     let D = c .before .add-sort-order in
-    waits-now (deciding e) (orders-decided s (readUpdate u) (at (deciding e)) (one (deciding e)) (formed e) (λ (z : group (readUpdate u) ≡ 0). omega arith) (D .result) (D .ensures .answers (termsOf (given (loop-at e))) (s .state) (T .builder) (T .schemas) (T .orders)) k (λ z. orders-grown E (D .result) (c .orders-after .ensures) (D .ensures .table (termsOf (given (loop-at e))) (s .state) (T .orders) z)))
+    waits-now (deciding e) (orders-decided s (readUpdate u) (at (deciding e)) (one (deciding e)) (formed e) (λ (z : group (readUpdate u) ≡ 0). omega arith) (D .result) (D .ensures .answers (termsOf (given (loop-at e))) (s .state) (T .builder) (T .shelf .schemas) (T .shelf .orders)) k (λ z. orders-grown E (D .result) (c .orders-after .ensures) (D .ensures .table (termsOf (given (loop-at e))) (s .state) (T .shelf .orders) z)))
 
 set-default-sort-order-requires : tie.Need-set-default-sort-order-requires Inv-loop μ-loop Inv-loop2 μ-loop2
 set-default-sort-order-requires c κs =
-    let e = c .before .before .before .before .before .before .before .before .before .before .before in
-    let q = last-kind c in
+    let e = c .before .before .before .before .before .before .before .before .before .before .before .before in
+    let q = c .if20 .taken in
     let s = S e setDefaultSortOrderKind q refl in
     let E = s .stands in
     (laid-orders E, (tidy e, q))
 
 loop2-less-18 : tie.Need-loop2-less-18 Inv-loop μ-loop Inv-loop2 μ-loop2
-loop2-less-18 c = turn-less (deciding (c .before .before .before .before .before .before .before .before .before .before .before .before))
+loop2-less-18 c = turn-less (deciding (c .before .before .before .before .before .before .before .before .before .before .before .before .before))
 
 loop2-again-18 : tie.Need-loop2-again-18 Inv-loop μ-loop Inv-loop2 μ-loop2
 loop2-again-18 c =
-    let e = c .before .before .before .before .before .before .before .before .before .before .before .before in
-    let q = last-kind (c .before) in
+    let e = c .before .before .before .before .before .before .before .before .before .before .before .before .before in
+    let q = c .before .if20 .taken in
     let s = S e setDefaultSortOrderKind q refl in
-    fields e setDefaultSortOrderKind q refl (c .set-default-sort-order .ensures (termsOf (given (loop-at e))) (s .state) (s .stands .tables .builder) (s .stands .tables .orders)) (is-order-choice (U (loop-at e)) (formed e) q)
+    fields e setDefaultSortOrderKind q refl (c .set-default-sort-order .ensures (termsOf (given (loop-at e))) (s .state) (s .stands .tables .builder) (s .stands .tables .shelf .orders)) (is-order-choice (U (loop-at e)) (formed e) q)
+
+set-statistics-requires : tie.Need-set-statistics-requires Inv-loop μ-loop Inv-loop2 μ-loop2
+set-statistics-requires c κs =
+    let e = c .before .before .before .before .before .before .before .before .before .before .before .before .before in
+    let q = c .if21 .taken in
+    let E = S e setStatisticsKind q refl .stands in
+    (laid-statistics E Statistics, (tidy e, (formed-kind (U (loop-at e)) (formed e), rw q)))
+
+statistics-after-requires : tie.Need-statistics-after-requires Inv-loop μ-loop Inv-loop2 μ-loop2
+statistics-after-requires c κs =
+    let e = c .before .before .before .before .before .before .before .before .before .before .before .before .before .before in
+    let E = S e setStatisticsKind (c .before .if21 .taken) refl .stands in
+    (laid-statistics E Statistics, (statistics-ascend E Statistics, λ g. c .set-statistics .ensures .new g))
+
+loop2-less-19 : tie.Need-loop2-less-19 Inv-loop μ-loop Inv-loop2 μ-loop2
+loop2-less-19 c = turn-less (deciding (c .before .before .before .before .before .before .before .before .before .before .before .before .before .before .before))
+
+loop2-again-19 : tie.Need-loop2-again-19 Inv-loop μ-loop Inv-loop2 μ-loop2
+loop2-again-19 c =
+    let e = c .before .before .before .before .before .before .before .before .before .before .before .before .before .before .before in
+    let q = c .before .before .if21 .taken in
+    set-filed e Statistics (S e setStatisticsKind q refl) q (c .before .set-statistics .ensures) (c .statistics-after .ensures)
+
+remove-statistics-requires : tie.Need-remove-statistics-requires Inv-loop μ-loop Inv-loop2 μ-loop2
+remove-statistics-requires c κs =
+    let e = c .before .before .before .before .before .before .before .before .before .before .before .before .before .before in
+    let E = S e removeStatisticsKind (c .if22 .taken) refl .stands in
+    (laid-statistics E Statistics, tidy e)
+
+without-requires-4 : tie.Need-without-requires-4 Inv-loop μ-loop Inv-loop2 μ-loop2
+without-requires-4 c κs =
+    let e = c .before .before .before .before .before .before .before .before .before .before .before .before .before .before .before in
+    laid-statistics (S e removeStatisticsKind (c .before .if22 .taken) refl .stands) Statistics
+
+loop2-less-20 : tie.Need-loop2-less-20 Inv-loop μ-loop Inv-loop2 μ-loop2
+loop2-less-20 c = turn-less (deciding (c .before .before .before .before .before .before .before .before .before .before .before .before .before .before .before .before))
+
+loop2-again-20 : tie.Need-loop2-again-20 Inv-loop μ-loop Inv-loop2 μ-loop2
+loop2-again-20 c =
+    let e = c .before .before .before .before .before .before .before .before .before .before .before .before .before .before .before .before in
+    let q = c .before .before .if22 .taken in
+    let s = S e removeStatisticsKind q refl in
+    remove-filed e Statistics s q (c .before .remove-statistics .ensures Statistics (termsOf (given (loop-at e))) (s .state) q (s .stands .tables .builder) (statistics-laid (s .stands) Statistics)) (c .without4 .ensures)
+
+set-statistics-requires-2 : tie.Need-set-statistics-requires-2 Inv-loop μ-loop Inv-loop2 μ-loop2
+set-statistics-requires-2 c κs =
+    let e = c .before .before .before .before .before .before .before .before .before .before .before .before .before .before .before in
+    let q = c .if23 .taken in
+    let E = S e setPartitionStatisticsKind q refl .stands in
+    (laid-statistics E PartitionStatistics, (tidy e, (formed-kind (U (loop-at e)) (formed e), rw q)))
+
+statistics-after-requires-2 : tie.Need-statistics-after-requires-2 Inv-loop μ-loop Inv-loop2 μ-loop2
+statistics-after-requires-2 c κs =
+    let e = c .before .before .before .before .before .before .before .before .before .before .before .before .before .before .before .before in
+    let E = S e setPartitionStatisticsKind (c .before .if23 .taken) refl .stands in
+    (laid-statistics E PartitionStatistics, (statistics-ascend E PartitionStatistics, λ g. c .set-statistics2 .ensures .new g))
+
+loop2-less-21 : tie.Need-loop2-less-21 Inv-loop μ-loop Inv-loop2 μ-loop2
+loop2-less-21 c = turn-less (deciding (c .before .before .before .before .before .before .before .before .before .before .before .before .before .before .before .before .before))
+
+loop2-again-21 : tie.Need-loop2-again-21 Inv-loop μ-loop Inv-loop2 μ-loop2
+loop2-again-21 c =
+    let e = c .before .before .before .before .before .before .before .before .before .before .before .before .before .before .before .before .before in
+    let q = c .before .before .if23 .taken in
+    set-filed e PartitionStatistics (S e setPartitionStatisticsKind q refl) q (c .before .set-statistics2 .ensures) (c .statistics-after2 .ensures)
+
+remove-statistics-requires-2 : tie.Need-remove-statistics-requires-2 Inv-loop μ-loop Inv-loop2 μ-loop2
+remove-statistics-requires-2 c κs =
+    let e = c .before .before .before .before .before .before .before .before .before .before .before .before .before .before .before in
+    let E = S e removePartitionStatisticsKind (last-kind c) refl .stands in
+    (laid-statistics E PartitionStatistics, tidy e)
+
+without-requires-5 : tie.Need-without-requires-5 Inv-loop μ-loop Inv-loop2 μ-loop2
+without-requires-5 c κs =
+    let e = c .before .before .before .before .before .before .before .before .before .before .before .before .before .before .before .before in
+    laid-statistics (S e removePartitionStatisticsKind (last-kind (c .before)) refl .stands) PartitionStatistics
+
+loop2-less-22 : tie.Need-loop2-less-22 Inv-loop μ-loop Inv-loop2 μ-loop2
+loop2-less-22 c = turn-less (deciding (c .before .before .before .before .before .before .before .before .before .before .before .before .before .before .before .before .before))
+
+loop2-again-22 : tie.Need-loop2-again-22 Inv-loop μ-loop Inv-loop2 μ-loop2
+loop2-again-22 c =
+    let e = c .before .before .before .before .before .before .before .before .before .before .before .before .before .before .before .before .before in
+    let q = last-kind (c .before .before) in
+    let s = S e removePartitionStatisticsKind q refl in
+    remove-filed e PartitionStatistics s q (c .before .remove-statistics2 .ensures PartitionStatistics (termsOf (given (loop-at e))) (s .state) q (s .stands .tables .builder) (statistics-laid (s .stands) PartitionStatistics)) (c .without5 .ensures)
 
 returns : tie.Need-returns Inv-loop μ-loop Inv-loop2 μ-loop2
-returns c = c .refused .ensures ∙ c .before .before .before .loop2 .inv .refused (c .before .if20 .taken)
+returns c = c .refused .ensures ∙ c .before .before .before .loop2 .inv .refused (c .before .if24 .taken)
 
 array-share-prefix-ids-5 : tie.Need-array-share-prefix-ids-5 Inv-loop μ-loop Inv-loop2 μ-loop2
 array-share-prefix-ids-5 c = held-within (end (c .before) .stands)
@@ -1003,7 +1136,7 @@ close-number-requires : tie.Need-close-number-requires Inv-loop μ-loop Inv-loop
 close-number-requires c κs = let e = E (c .before) in (c .before .before .before .close-log .ensures .1, (laid-refs e, (laid-schemas e, (laid-orders e, (schema-held e, order-held e)))))
 
 returns-2 : tie.Need-returns-2 Inv-loop μ-loop Inv-loop2 μ-loop2
-returns-2 c = let n = c .before .before in let e = closing (filing n) in c .refused2 .ensures ∙ close-refused (E (filing n)) _ (numbered n) (c .before .if21 .taken) ∙ ends (end e) (passed e)
+returns-2 c = let n = c .before .before in let e = closing (filing n) in c .refused2 .ensures ∙ close-refused (E (filing n)) _ (numbered n) (c .before .if25 .taken) ∙ ends (end e) (passed e)
 
 part-requires : tie.Need-part-requires Inv-loop μ-loop Inv-loop2 μ-loop2
 part-requires c κs = let f = filing (c .before) in (files-laid (E f), (search needs, gone-within f))
@@ -1012,14 +1145,14 @@ staying-requires : tie.Need-staying-requires Inv-loop μ-loop Inv-loop2 μ-loop2
 staying-requires c κs =
     let n = c .before .before in
     let f = filing n in
-    (files-laid (E f), (gone-within f, joins-fit (E f) (f .before .limit .ensures) (f .surplus .ensures) (sym (numbered n) ∙ c .before .if21 .left)))
+    (files-laid (E f), (gone-within f, joins-fit (E f) (f .before .limit .ensures) (f .surplus .ensures) (sym (numbered n) ∙ c .before .if25 .left)))
 
 returns-3 : tie.Need-returns-3 Inv-loop μ-loop Inv-loop2 μ-loop2
 returns-3 c =
     let l = c .before in
     let n = l .before .before .before .before in
     let f = filing n in
-    close-accepted (E f) _ (sym (numbered n) ∙ l .before .before .before .if21 .left) (history f)
+    close-accepted (E f) _ (sym (numbered n) ∙ l .before .before .before .if25 .left) (history f)
     (stay-is (E f) (f .before .limit .ensures) (f .surplus .ensures) (l .before .staying .ensures))
     (gone-is (E f) (f .before .limit .ensures) (f .surplus .ensures) (l .before .before .part .ensures))
     (l .last-update .ensures (end (closing f) .state) (E f .tables .builder))
@@ -1147,6 +1280,22 @@ run-spec =
     set-default-sort-order-requires
     loop2-less-18
     loop2-again-18
+    set-statistics-requires
+    statistics-after-requires
+    loop2-less-19
+    loop2-again-19
+    remove-statistics-requires
+    without-requires-4
+    loop2-less-20
+    loop2-again-20
+    set-statistics-requires-2
+    statistics-after-requires-2
+    loop2-less-21
+    loop2-again-21
+    remove-statistics-requires-2
+    without-requires-5
+    loop2-less-22
+    loop2-again-22
     (λ c κs. search needs)
     returns
     array-share-prefix-ids-5

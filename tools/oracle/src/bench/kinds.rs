@@ -1,7 +1,7 @@
 //! For each kind of update a run with updates of this kind that take effect, as many as there is room for.
 
 use super::workload::{Workload, order, reference, run, schema, snapshot, start};
-use crate::case::{BRANCH, Metadata, Order, SortField, TAG, Update};
+use crate::case::{BRANCH, Metadata, Order, SortField, StatisticsFile, TAG, Update};
 
 pub struct Work {
     pub title: &'static str,
@@ -24,10 +24,17 @@ impl Work {
 }
 
 pub fn all() -> Vec<Work> {
-    [fields(), snapshots(), references(), schemas(), orders()]
-        .into_iter()
-        .flatten()
-        .collect()
+    [
+        fields(),
+        snapshots(),
+        references(),
+        schemas(),
+        orders(),
+        statistics(),
+    ]
+    .into_iter()
+    .flatten()
+    .collect()
 }
 
 /// So many updates of the half-full start.
@@ -143,5 +150,27 @@ fn orders() -> Vec<Work> {
         work("13 set default sort order", 64, |i| {
             Update::SetDefaultSortOrder(i % 4)
         }),
+    ]
+}
+
+/// Of one table; the other has the same.
+fn statistics() -> Vec<Work> {
+    let set = |i: i64| {
+        Update::SetStatistics(StatisticsFile {
+            snapshot_id: i % 32,
+            path: format!("metadata/{i:05}.stats").into_bytes(),
+            size: 4096,
+        })
+    };
+    vec![
+        work("14 set statistics, a new one", 32, set),
+        Work {
+            both: (0..32).map(set).collect(),
+            ..work("14 set statistics, a held one", 32, |i| set(32 + i))
+        },
+        Work {
+            both: (0..32).map(set).collect(),
+            ..work("15 remove statistics", 32, Update::RemoveStatistics)
+        },
     ]
 }

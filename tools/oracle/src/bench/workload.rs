@@ -129,6 +129,8 @@ pub fn start(snapshots: i64, entries: i64) -> Metadata {
         current_schema_id: 3,
         orders: (0..4).map(order).collect(),
         default_order_id: 1,
+        statistics: vec![],
+        partition_statistics: vec![],
     }
 }
 

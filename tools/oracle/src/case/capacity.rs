@@ -1,4 +1,4 @@
-//! Document 01's capacities, in its order.
+//! The capacities, in document 01's order.
 
 pub const SNAPSHOTS: usize = 64;
 pub const REFS: usize = 16;
@@ -8,9 +8,12 @@ pub const SCHEMAS: usize = 16;
 pub const SCHEMA_FIELDS: usize = 32;
 pub const ORDERS: usize = 16;
 pub const ORDER_FIELDS: usize = 8;
+/// Of each of the two tables, by document 02.
+pub const STATISTICS: usize = 32;
 pub const REMOVAL_IDS: usize = 16;
 pub const REF_NAME: usize = 32;
 pub const LOCATION: usize = 96;
+/// Also of a statistics file's path.
 pub const FILE_NAME: usize = 96;
 /// The updates of a list count 1 each, a branch commit 2.
 pub const LIST_SUM: usize = 64;

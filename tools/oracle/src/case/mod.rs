@@ -76,6 +76,14 @@ pub struct Order {
     pub fields: Vec<SortField>,
 }
 
+/// The statistics file of a snapshot. Statistics and partition statistics have a table each.
+#[derive(Debug, Clone, PartialEq)]
+pub struct StatisticsFile {
+    pub snapshot_id: i64,
+    pub path: Bytes,
+    pub size: i64,
+}
+
 #[derive(Debug, Clone, PartialEq)]
 pub struct SnapshotLogEntry {
     pub snapshot_id: i64,
@@ -106,6 +114,8 @@ pub struct Metadata {
     pub current_schema_id: i32,
     pub orders: Vec<Order>,
     pub default_order_id: i64,
+    pub statistics: Vec<StatisticsFile>,
+    pub partition_statistics: Vec<StatisticsFile>,
 }
 
 #[derive(Debug, Clone, PartialEq)]
@@ -123,6 +133,10 @@ pub enum Update {
     RemoveSchemas(Vec<i32>),
     AddSortOrder(Order),
     SetDefaultSortOrder(i64),
+    SetStatistics(StatisticsFile),
+    RemoveStatistics(i64),
+    SetPartitionStatistics(StatisticsFile),
+    RemovePartitionStatistics(i64),
     UnknownKind(u8),
 }
 
@@ -142,8 +156,16 @@ impl Update {
             Self::RemoveSchemas(_) => 11,
             Self::AddSortOrder(_) => 12,
             Self::SetDefaultSortOrder(_) => 13,
+            Self::SetStatistics(_) => 14,
+            Self::RemoveStatistics(_) => 15,
+            Self::SetPartitionStatistics(_) => 16,
+            Self::RemovePartitionStatistics(_) => 17,
             Self::UnknownKind(kind) => *kind,
         }
+    }
+
+    pub fn is_of_statistics(&self) -> bool {
+        (14..=17).contains(&self.kind())
     }
 
     /// The snapshot that it adds, if it does.
@@ -169,6 +191,10 @@ pub struct Run {
 pub struct More {
     /// Tag 1, in milliseconds.
     pub tolerance: Option<i64>,
+    /// Tag 2: whether the metadata's table of statistics is given. The answer then shows it; else it is empty.
+    pub statistics: bool,
+    /// Tag 3, the same of the metadata's partition statistics.
+    pub partition_statistics: bool,
 }
 
 /// The tolerance of a run that is given none, in milliseconds.
@@ -180,6 +206,20 @@ pub const TOLERANCES: RangeInclusive<i64> = 0..=3_600_000;
 impl More {
     pub fn tolerance(&self) -> i64 {
         self.tolerance.unwrap_or(DEFAULT_TOLERANCE)
+    }
+
+    pub fn has_tables(&self) -> bool {
+        self.statistics || self.partition_statistics
+    }
+
+    /// Those of the metadata's tables that are given, each behind its tag.
+    pub fn tables<'a>(&self, m: &'a Metadata) -> Vec<(u8, &'a Vec<StatisticsFile>)> {
+        let both = [
+            (self.statistics, 2, &m.statistics),
+            (self.partition_statistics, 3, &m.partition_statistics),
+        ];
+        let given = both.into_iter().filter(|(given, ..)| *given);
+        given.map(|(_, tag, files)| (tag, files)).collect()
     }
 }
 
@@ -220,6 +260,11 @@ pub enum Case {
         added_rows: u64,
     },
     Trim(Vec<u8>),
+    CurrentAt {
+        log: Vec<SnapshotLogEntry>,
+        time: i64,
+    },
+    RowsApart(Box<Metadata>),
 }
 
 impl Case {
@@ -234,6 +279,8 @@ impl Case {
             Self::TimeWindowGiven { .. } => "time window given a tolerance",
             Self::RowIds { .. } => "row ids",
             Self::Trim(_) => "trim",
+            Self::CurrentAt { .. } => "current at a time",
+            Self::RowsApart(_) => "rows apart",
         }
     }
 

@@ -47,12 +47,21 @@ impl<R: BufRead> CaseReader<R> {
                 added_rows: self.number()?,
             }),
             7 => Ok(Case::Trim(self.bytes()?)),
-            9 => Ok(Case::RunGiven(Box::new(self.run()?), self.more()?)),
+            8 => Ok(Case::CurrentAt {
+                log: self.counted(Self::snapshot_log_entry)?,
+                time: self.number()?,
+            }),
+            9 => {
+                let mut run = self.run()?;
+                let more = self.more(&mut run.metadata)?;
+                Ok(Case::RunGiven(Box::new(run), more))
+            }
             10 => Ok(Case::TimeWindowGiven {
                 time: self.number()?,
                 last: self.number()?,
                 tolerance: self.number()?,
             }),
+            11 => Ok(Case::RowsApart(Box::new(self.metadata()?))),
             _ => Err(BadCase),
         }
     }
@@ -67,8 +76,8 @@ impl<R: BufRead> CaseReader<R> {
         })
     }
 
-    /// Each tag is one that is known, above the one before it.
-    fn more(&mut self) -> Read<More> {
+    /// Each tag is one that is known, above the one before it. Tables go into the metadata.
+    fn more(&mut self, metadata: &mut Metadata) -> Read<More> {
         let mut more = More::default();
         let mut before = 0;
         for _ in 0..self.number::<u64>()? {
@@ -76,6 +85,14 @@ impl<R: BufRead> CaseReader<R> {
             match tag {
                 _ if tag <= before => return Err(BadCase),
                 1 => more.tolerance = Some(self.number()?),
+                2 => {
+                    more.statistics = true;
+                    metadata.statistics = self.counted(Self::statistics_file)?;
+                }
+                3 => {
+                    more.partition_statistics = true;
+                    metadata.partition_statistics = self.counted(Self::statistics_file)?;
+                }
                 _ => return Err(BadCase),
             }
             before = tag;
@@ -113,6 +130,8 @@ impl<R: BufRead> CaseReader<R> {
             current_schema_id: self.number()?,
             orders: self.counted(Self::order)?,
             default_order_id: self.number()?,
+            statistics: Vec::new(),
+            partition_statistics: Vec::new(),
         })
     }
 
@@ -131,6 +150,10 @@ impl<R: BufRead> CaseReader<R> {
             11 => Update::RemoveSchemas(self.counted(Self::number)?),
             12 => Update::AddSortOrder(self.order()?),
             13 => Update::SetDefaultSortOrder(self.number()?),
+            14 => Update::SetStatistics(self.statistics_file()?),
+            15 => Update::RemoveStatistics(self.number()?),
+            16 => Update::SetPartitionStatistics(self.statistics_file()?),
+            17 => Update::RemovePartitionStatistics(self.number()?),
             kind => Update::UnknownKind(kind),
         })
     }
@@ -192,6 +215,14 @@ impl<R: BufRead> CaseReader<R> {
             source_id: self.number()?,
             direction: self.number()?,
             nulls: self.number()?,
+        })
+    }
+
+    fn statistics_file(&mut self) -> Read<StatisticsFile> {
+        Ok(StatisticsFile {
+            snapshot_id: self.number()?,
+            path: self.bytes()?,
+            size: self.number()?,
         })
     }
 

@@ -75,7 +75,7 @@ impl Line {
     fn case(&mut self, case: &Case) -> &mut Self {
         match case {
             Case::Run(run) => self.number(1).run(run),
-            Case::RunGiven(run, more) => self.number(9).run(run).more(more),
+            Case::RunGiven(run, more) => self.number(9).run(run).more(more, &run.metadata),
             Case::Walk {
                 ids,
                 parents,
@@ -104,6 +104,8 @@ impl Line {
                 .number(6)
                 .numbers(&[next_row_id, first_row, added_rows]),
             Case::Trim(location) => self.number(7).list(location.len(), location),
+            Case::CurrentAt { log, time } => self.number(8).snapshot_log(log).number(time),
+            Case::RowsApart(metadata) => self.number(11).metadata(metadata),
         }
     }
 
@@ -114,13 +116,22 @@ impl Line {
         self.updates(&run.updates)
     }
 
-    /// A count, then the tags that are given, ascending.
-    fn more(&mut self, more: &More) -> &mut Self {
-        self.number(more.tolerance.is_some() as u8);
-        match more.tolerance {
-            Some(tolerance) => self.number(1).number(tolerance),
-            None => self,
+    /// A count, then the tags that are given, ascending, with what they give.
+    fn more(&mut self, more: &More, m: &Metadata) -> &mut Self {
+        let tables = more.tables(m);
+        self.number(more.tolerance.is_some() as usize + tables.len());
+        if let Some(tolerance) = more.tolerance {
+            self.number(1).number(tolerance);
         }
+        for (tag, files) in tables {
+            self.number(tag).statistics(files);
+        }
+        self
+    }
+
+    /// A table of statistics files.
+    pub fn statistics(&mut self, files: &[StatisticsFile]) -> &mut Self {
+        self.counted(capacity::STATISTICS, files, Self::statistics_file)
     }
 
     fn walk_terms(&mut self, terms: &WalkTerms) -> &mut Self {
@@ -137,9 +148,7 @@ impl Line {
         self.flagged(&m.current_snapshot_id);
         self.counted(capacity::SNAPSHOTS, &m.snapshots, Self::snapshot);
         self.counted(capacity::REFS, &m.refs, Self::reference);
-        self.counted(capacity::SNAPSHOT_LOG, &m.snapshot_log, |line, entry| {
-            line.number(entry.snapshot_id).number(entry.timestamp_ms)
-        });
+        self.snapshot_log(&m.snapshot_log);
         self.metadata_log(&m.metadata_log);
         self.counted(capacity::SCHEMAS, &m.schemas, Self::schema);
         self.number(m.current_schema_id);
@@ -169,6 +178,10 @@ impl Line {
             Update::RemoveSchemas(ids) => self.list(capacity::REMOVAL_IDS, ids),
             Update::AddSortOrder(order) => self.order(order),
             Update::SetDefaultSortOrder(id) => self.number(id),
+            Update::SetStatistics(file) => self.statistics_file(file),
+            Update::RemoveStatistics(id) => self.number(id),
+            Update::SetPartitionStatistics(file) => self.statistics_file(file),
+            Update::RemovePartitionStatistics(id) => self.number(id),
             Update::UnknownKind(_) => self,
         }
     }
@@ -189,6 +202,12 @@ impl Line {
         self.flagged(&r.max_ref_age_ms)
     }
 
+    fn snapshot_log(&mut self, entries: &[SnapshotLogEntry]) -> &mut Self {
+        self.counted(capacity::SNAPSHOT_LOG, entries, |line, entry| {
+            line.number(entry.snapshot_id).number(entry.timestamp_ms)
+        })
+    }
+
     pub fn metadata_log(&mut self, entries: &[MetadataLogEntry]) -> &mut Self {
         self.counted(capacity::METADATA_LOG, entries, |line, entry| {
             line.list(capacity::FILE_NAME, &entry.file);
@@ -207,5 +226,10 @@ impl Line {
             line.number(field.source_id);
             line.number(field.direction).number(field.nulls)
         })
+    }
+
+    fn statistics_file(&mut self, file: &StatisticsFile) -> &mut Self {
+        self.number(file.snapshot_id);
+        self.list(capacity::FILE_NAME, &file.path).number(file.size)
     }
 }

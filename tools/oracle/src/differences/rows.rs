@@ -2,7 +2,7 @@
 
 use crate::case::{
     BRANCH, Case, Flagged, Metadata, MetadataLogEntry, More, Order, Ref, Run, Schema, Snapshot,
-    SnapshotLogEntry, SortField, Update, WalkTerms, capacity,
+    SnapshotLogEntry, SortField, StatisticsFile, Update, WalkTerms, capacity,
 };
 use crate::port;
 
@@ -88,6 +88,14 @@ fn by_field_1(id: i64, direction: u8) -> Order {
     Order {
         id,
         fields: vec![field],
+    }
+}
+
+fn statistics_file(snapshot_id: i64, path: &[u8], size: i64) -> StatisticsFile {
+    StatisticsFile {
+        snapshot_id,
+        path: path.to_vec(),
+        size,
     }
 }
 
@@ -179,6 +187,7 @@ fn tolerances() -> Vec<(&'static str, Case)> {
         let updates = vec![Update::AddSnapshot(snapshot(0, time))];
         let more = More {
             tolerance: Some(tolerance),
+            ..More::default()
         };
         Case::RunGiven(Box::new(run_of(metadata.clone(), updates)), more)
     };
@@ -223,7 +232,13 @@ fn capacities() -> Vec<(&'static str, Case)> {
         run.file = Some(vec![]);
         run.limit = Some(b"129".to_vec());
     }
+    let files = |set: fn(StatisticsFile) -> Update| {
+        let ids = 0..=capacity::STATISTICS as i64;
+        let all = ids.map(|id| set(statistics_file(id, b"", 0)));
+        run(bare(), all.collect())
+    };
     let slashes = vec![b'/'; capacity::LOCATION + 1];
+    let long_path = statistics_file(0, &[b'/'; capacity::FILE_NAME + 1], 0);
     let updates = vec![Update::RemoveSnapshots(vec![]); capacity::LIST_SUM + 1];
     vec![
         (
@@ -232,8 +247,20 @@ fn capacities() -> Vec<(&'static str, Case)> {
         ),
         ("128 metadata files and one more, limit 129", one_file_more),
         (
+            "33 statistics files, one after another",
+            files(Update::SetStatistics),
+        ),
+        (
+            "33 partition statistics files, one after another",
+            files(Update::SetPartitionStatistics),
+        ),
+        (
             "a location of 97 slashes",
             run(bare(), vec![Update::SetLocation(slashes)]),
+        ),
+        (
+            "a statistics file with a path of 97 slashes",
+            run(bare(), vec![Update::SetStatistics(long_path)]),
         ),
         ("a list of 65 updates", run(bare(), updates)),
     ]
@@ -332,6 +359,18 @@ fn numbers_below_their_bounds() -> Vec<(&'static str, Case)> {
         (
             "a schema offered with id -1",
             one(bare(), Update::AddSchema(schema(-1, None))),
+        ),
+        (
+            "a statistics file of snapshot -1",
+            one(bare(), Update::SetStatistics(statistics_file(-1, b"", 0))),
+        ),
+        (
+            "a statistics file of size -1",
+            one(bare(), Update::SetStatistics(statistics_file(0, b"", -1))),
+        ),
+        (
+            "statistics of snapshot -1 removed",
+            one(bare(), Update::RemoveStatistics(-1)),
         ),
         (
             "current schema -2",

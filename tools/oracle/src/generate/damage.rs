@@ -3,8 +3,8 @@
 use super::random::Random;
 use super::start::fill_metadata_log;
 use crate::case::{
-    Bytes, Flagged, Metadata, Order, Ref, Run, Schema, Snapshot, SnapshotLogEntry, SortField, TAG,
-    Update, capacity,
+    Bytes, Flagged, Metadata, Order, Ref, Run, Schema, Snapshot, SnapshotLogEntry, SortField,
+    StatisticsFile, TAG, Update, capacity,
 };
 
 const HIDDEN: Flagged<i64> = Flagged {
@@ -15,7 +15,7 @@ const HIDDEN: Flagged<i64> = Flagged {
 /// Damages the metadata, or the current file's name.
 pub fn start(random: &mut Random, run: &mut Run) {
     let m = &mut run.metadata;
-    match random.below(10) {
+    match random.below(12) {
         0 => table(
             random,
             &mut m.snapshots,
@@ -39,8 +39,10 @@ pub fn start(random: &mut Random, run: &mut Run) {
                 o.fields.resize(1, ASCENDING);
             },
         ),
-        4 | 5 => logs(random, run),
-        6 | 7 => current(random, m),
+        4 => statistics(random, &mut m.statistics),
+        5 => statistics(random, &mut m.partition_statistics),
+        6 | 7 => logs(random, run),
+        8 | 9 => current(random, m),
         _ => single_fields(random, m),
     }
 }
@@ -62,10 +64,25 @@ pub fn update(random: &mut Random, update: &mut Update) {
         Update::RemoveSchemas(ids) => removal(random, ids, -1),
         Update::AddSortOrder(o) => order(random, o),
         Update::SetDefaultSortOrder(id) => *id = random.one_of(&[-2, i64::MIN]),
+        Update::SetStatistics(f) | Update::SetPartitionStatistics(f) => statistics_file(random, f),
+        Update::RemoveStatistics(id) | Update::RemovePartitionStatistics(id) => {
+            *id = random.one_of(&[-1, i64::MIN])
+        }
         Update::AssignUuid(_) | Update::UnknownKind(_) => {
-            *update = Update::UnknownKind(random.one_of(&[0, 14, 255]))
+            *update = Update::UnknownKind(random.one_of(&[0, 18, 255]))
         }
     }
+}
+
+/// Either table of statistics files, unless it is empty.
+fn statistics(random: &mut Random, files: &mut Vec<StatisticsFile>) {
+    table(
+        random,
+        files,
+        capacity::STATISTICS,
+        statistics_file,
+        |f, i| f.snapshot_id = i,
+    )
 }
 
 /// Damages a keyed table: its order, the inequality of its keys, its count, or one of its records.
@@ -216,6 +233,14 @@ fn held_order(random: &mut Random, o: &mut Order) {
         0 if o.id == 0 => o.fields.push(ASCENDING),
         0 => o.fields.clear(),
         _ => order(random, o),
+    }
+}
+
+fn statistics_file(random: &mut Random, f: &mut StatisticsFile) {
+    match random.below(3) {
+        0 => f.snapshot_id = random.one_of(&[-1, i64::MIN]),
+        1 => too_long(random, &mut f.path, capacity::FILE_NAME),
+        _ => f.size = random.one_of(&[-1, i64::MIN]),
     }
 }
 

@@ -5,7 +5,7 @@ use super::random::Random;
 use super::start;
 use super::world::World;
 use super::{damage, leaves};
-use crate::case::{Order, Run, Update, capacity};
+use crate::case::{More, Order, Run, Update, capacity};
 use crate::port::{self, Owns};
 use crate::published::from_published as from;
 use crate::spec::table_metadata_builder::TableMetadataBuilder;
@@ -17,24 +17,24 @@ pub struct Draft {
 }
 
 impl Draft {
-    /// A well-formed start with an empty list, of a run with this tolerance. `adjust` may change it, well formed.
+    /// A well-formed start with an empty list, of a run that is given this. `adjust` may change it, well formed.
     pub fn new(
         random: &mut Random,
-        tolerance: i64,
+        more: &More,
         adjust: impl FnOnce(&mut Random, &mut Run),
     ) -> Self {
-        let world = World::new(random, tolerance);
+        let world = World::new(random, more);
         let has_file = random.percent(60);
         let mut run = Run {
-            metadata: start::start(random, &world),
+            metadata: start::start(random, &world, more),
             clock: world.any_time(random),
             file: has_file.then(|| start::file_name(random, 0)),
             limit: leaves::run_limit(random),
             updates: Vec::new(),
         };
         adjust(random, &mut run);
-        let builder =
-            port::begin(&run, tolerance, &mut Owns::new()).expect("a start is well formed");
+        let begun = port::begin(&run, world.tolerance, &mut Owns::new());
+        let builder = begun.expect("a start is well formed");
         Self {
             run,
             world,

@@ -1,5 +1,5 @@
-//! A seeded generator of cases: deep accepted runs, every refusal, boundaries, damaged records, walks, the small entry points, and
-//! tolerances.
+//! A seeded generator of cases: deep accepted runs, every refusal, boundaries, damaged records, walks, the small entry points,
+//! tolerances, and tables of statistics files.
 
 mod damage;
 mod draft;
@@ -9,13 +9,14 @@ mod provoke;
 mod random;
 mod runs;
 mod start;
+mod statistics;
 mod tolerances;
 mod walks;
 mod world;
 
 use std::io::Write;
 
-use crate::case::{Case, DEFAULT_TOLERANCE, Line};
+use crate::case::{Case, Line, More};
 use random::Random;
 
 #[derive(Clone, Copy)]
@@ -24,15 +25,17 @@ pub enum Kind {
     Walk,
     Limit,
     Tolerance,
+    Statistics,
     Mixed,
 }
 
 /// What a mixed lot has, each as often as it is to come.
-const MIXED: [(Kind, usize); 4] = [
+const MIXED: [(Kind, usize); 5] = [
     (Kind::Run, 6),
     (Kind::Walk, 2),
     (Kind::Limit, 2),
     (Kind::Tolerance, 2),
+    (Kind::Statistics, 2),
 ];
 
 pub fn generate(seed: u64, count: u64, kind: Kind, mut output: impl Write) -> std::io::Result<()> {
@@ -45,10 +48,11 @@ pub fn generate(seed: u64, count: u64, kind: Kind, mut output: impl Write) -> st
 
 fn case(random: &mut Random, kind: Kind) -> Case {
     match kind {
-        Kind::Run => Case::Run(Box::new(runs::run(random, DEFAULT_TOLERANCE))),
+        Kind::Run => Case::Run(Box::new(runs::run(random, &More::default()))),
         Kind::Walk => walks::walk(random),
         Kind::Limit => leaves::leaf(random),
         Kind::Tolerance => tolerances::given(random),
+        Kind::Statistics => statistics::given(random),
         Kind::Mixed => {
             let kind = random.weighted(&MIXED);
             case(random, kind)

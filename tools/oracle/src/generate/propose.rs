@@ -3,7 +3,9 @@
 use super::random::Random;
 use super::start;
 use super::world::World;
-use crate::case::{Bytes, Flagged, Metadata, Order, Schema, Snapshot, SortField, Update, capacity};
+use crate::case::{
+    Bytes, Flagged, Metadata, Order, Schema, Snapshot, SortField, StatisticsFile, Update, capacity,
+};
 
 /// What an update is proposed for.
 pub struct Now<'a> {
@@ -15,7 +17,7 @@ pub struct Now<'a> {
 }
 
 /// Updates by kind, each as often as it is to come.
-const KINDS: [(u8, usize); 13] = [
+const KINDS: [(u8, usize); 17] = [
     (1, 2),
     (2, 2),
     (3, 3),
@@ -29,10 +31,17 @@ const KINDS: [(u8, usize); 13] = [
     (11, 5),
     (12, 8),
     (13, 6),
+    (14, 3),
+    (15, 2),
+    (16, 3),
+    (17, 2),
 ];
 
 pub fn propose(random: &mut Random, now: &Now) -> Update {
-    let kind = random.weighted(&KINDS);
+    let kind = match now.world.statistics && random.percent(35) {
+        true => random.one_of(&[14, 14, 15, 16, 16, 17]),
+        false => random.weighted(&KINDS),
+    };
     of_kind(random, now, kind)
 }
 
@@ -51,7 +60,14 @@ pub fn of_kind(random: &mut Random, now: &Now, kind: u8) -> Update {
         10 => Update::SetCurrentSchema(known_or(random, &schema_ids(m), -1)),
         11 => Update::RemoveSchemas(schema_removal(random, m)),
         12 => Update::AddSortOrder(order(random, now)),
-        _ => Update::SetDefaultSortOrder(known_or(random, &order_ids(m), -1)),
+        13 => Update::SetDefaultSortOrder(known_or(random, &order_ids(m), -1)),
+        14 => Update::SetStatistics(statistics_file(random, now, &m.statistics)),
+        15 => Update::RemoveStatistics(statistics_id(random, now, &m.statistics, 65)),
+        16 => Update::SetPartitionStatistics(statistics_file(random, now, &m.partition_statistics)),
+        _ => {
+            let id = statistics_id(random, now, &m.partition_statistics, 65);
+            Update::RemovePartitionStatistics(id)
+        }
     }
 }
 
@@ -202,6 +218,25 @@ fn order(random: &mut Random, now: &Now) -> Order {
     };
     let id = random.one_of(&[0, 0, 1, 7, i64::MAX]);
     Order { id, fields }
+}
+
+/// At times a file of the table again, often another of the same snapshot.
+fn statistics_file(random: &mut Random, now: &Now, files: &[StatisticsFile]) -> StatisticsFile {
+    if let Some(again) = random.any_of(files).filter(|_| random.percent(15)) {
+        return again;
+    }
+    let snapshot_id = statistics_id(random, now, files, 25);
+    start::statistics_file(random, snapshot_id)
+}
+
+/// So many times in a hundred a snapshot that has a file in the table; else one that is held, or one of the pool.
+fn statistics_id(random: &mut Random, now: &Now, files: &[StatisticsFile], share: usize) -> i64 {
+    let ids = match random.percent(share) {
+        true => files.iter().map(|f| f.snapshot_id).collect(),
+        false if random.percent(30) => snapshot_ids(&now.metadata),
+        false => now.world.snapshot_ids.clone(),
+    };
+    random.any_of(&ids).unwrap_or(0)
 }
 
 /// Half of the time `last added`, else one of the ids.

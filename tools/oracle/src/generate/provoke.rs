@@ -4,7 +4,9 @@ use super::damage;
 use super::propose::{self, Now};
 use super::random::Random;
 use super::start;
-use crate::case::{Flagged, Metadata, Order, Run, Schema, Snapshot, TAG, Update};
+use crate::case::{
+    Flagged, Metadata, Order, Run, Schema, Snapshot, StatisticsFile, TAG, Update, capacity,
+};
 
 /// What a start needs for this number and would seldom have by itself.
 pub fn prepare(random: &mut Random, run: &mut Run, number: u8) {
@@ -36,20 +38,39 @@ fn overfill_metadata_log(random: &mut Random, run: &mut Run) {
     run.limit = Some(random.one_of(&limits).into());
 }
 
-/// What may stand before the refused update: for 9 at times a gap in the row ids, so that only the next row id after it is above
-/// what the refused one starts from.
-pub fn lead(random: &mut Random, now: &Now, number: u8) -> Option<Update> {
-    let m = &now.metadata;
-    let wanted = number == 9 && m.version == 3 && random.percent(40);
-    wanted.then(|| {
-        let gap = random.one_of(&[1, 1, 100, u64::MAX / 2]);
-        let first = m.next_row_id.saturating_add(gap);
-        let added = random.one_of(&[0, 1, 50]).min(u64::MAX - first);
-        Update::AddSnapshot(Snapshot {
-            rows: Flagged::of(Some((first, added))),
-            ..propose::snapshot(random, now)
-        })
+/// What may stand before the refused update.
+pub fn lead(random: &mut Random, now: &Now, number: u8) -> Vec<Update> {
+    match number {
+        9 if now.metadata.version == 3 && random.percent(40) => vec![gap(random, now)],
+        19 if random.percent(10) => statistics_files(random),
+        _ => Vec::new(),
+    }
+}
+
+/// A gap in the row ids, so that only the next row id after it is above what an update refused with 9 starts from.
+fn gap(random: &mut Random, now: &Now) -> Update {
+    let gap = random.one_of(&[1, 1, 100, u64::MAX / 2]);
+    let first = now.metadata.next_row_id.saturating_add(gap);
+    let added = random.one_of(&[0, 1, 50]).min(u64::MAX - first);
+    Update::AddSnapshot(Snapshot {
+        rows: Flagged::of(Some((first, added))),
+        ..propose::snapshot(random, now)
     })
+}
+
+/// As many files as a table of them has slots, so that one that was empty is full.
+fn statistics_files(random: &mut Random) -> Vec<Update> {
+    let set = set_statistics(random);
+    let ids = 200..200 + capacity::STATISTICS as i64;
+    ids.map(|id| set(start::statistics_file(random, id)))
+        .collect()
+}
+
+fn set_statistics(random: &mut Random) -> fn(StatisticsFile) -> Update {
+    match random.percent(50) {
+        true => Update::SetStatistics,
+        false => Update::SetPartitionStatistics,
+    }
 }
 
 /// An update that may be refused with this number, 3 to 19; nothing where the metadata forbids it from the outset.
@@ -187,16 +208,18 @@ fn new_schema_or_order(random: &mut Random, m: &Metadata) -> Update {
     }
 }
 
-/// An update that grows a table: with a new snapshot, a new name, an entry of history, a new schema or a new order.
+/// An update that grows a table: with a new snapshot, a new name, an entry of history, a new schema, a new order or a file of a snapshot that
+/// has none.
 fn growth(random: &mut Random, now: &Now) -> Update {
     let m = &now.metadata;
     let new_name = format!("new{}", random.below(9)).into_bytes();
     let held = random.any_of(&propose::snapshot_ids(m)).unwrap_or(0);
-    match random.below(5) {
+    match random.below(7) {
         0 => propose::of_kind(random, now, 4),
         1 => Update::SetBranchSnapshot(new_name, propose::snapshot(random, now)),
         2 => Update::SetRef(start::reference(random, new_name, held)),
         3 => Update::SetRef(start::reference(random, b"main".to_vec(), held)),
-        _ => new_schema_or_order(random, m),
+        4 => new_schema_or_order(random, m),
+        _ => set_statistics(random)(start::statistics_file(random, 500)),
     }
 }

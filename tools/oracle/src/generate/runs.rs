@@ -4,75 +4,75 @@ use super::damage;
 use super::draft::Draft;
 use super::provoke;
 use super::random::Random;
-use crate::case::{Run, Update, capacity};
+use crate::case::{More, Run, Update, capacity};
 use crate::port;
 
 /// So many drafts are tried for a wanted number.
 const TRIES: usize = 60;
 
-/// A run with this tolerance.
-pub fn run(random: &mut Random, tolerance: i64) -> Run {
+/// A run that is given this.
+pub fn run(random: &mut Random, more: &More) -> Run {
     match random.below(100) {
-        0..58 => accepted(random, tolerance),
+        0..58 => accepted(random, more),
         58..90 => {
             let number = 1 + random.below(23) as u8;
-            refused(random, tolerance, number)
+            refused(random, more, number)
         }
-        _ => as_it_comes(random, tolerance),
+        _ => as_it_comes(random, more),
     }
 }
 
-fn accepted(random: &mut Random, tolerance: i64) -> Run {
+fn accepted(random: &mut Random, more: &More) -> Run {
     let sum = match random.below(100) {
         0..25 => random.below(5),
         25..70 => 4 + random.below(12),
         70..95 => 16 + random.below(30),
         _ => capacity::LIST_SUM - random.below(4),
     };
-    let mut draft = Draft::new(random, tolerance, |_, _| ());
+    let mut draft = Draft::new(random, more, |_, _| ());
     draft.grow(random, sum);
     draft.mend(random);
     draft.run
 }
 
-fn as_it_comes(random: &mut Random, tolerance: i64) -> Run {
-    let mut draft = Draft::new(random, tolerance, |_, _| ());
+fn as_it_comes(random: &mut Random, more: &More) -> Run {
+    let mut draft = Draft::new(random, more, |_, _| ());
     let count = random.below(20);
     draft.add_unasked(random, count);
     draft.run
 }
 
 /// A run that is refused with this number, 1 to 23; one that is accepted if no draft allows it.
-pub fn refused(random: &mut Random, tolerance: i64, number: u8) -> Run {
-    let found = (0..TRIES).find_map(|_| refused_if(random, tolerance, number));
-    found.unwrap_or_else(|| accepted(random, tolerance))
+pub fn refused(random: &mut Random, more: &More, number: u8) -> Run {
+    let found = (0..TRIES).find_map(|_| refused_if(random, more, number));
+    found.unwrap_or_else(|| accepted(random, more))
 }
 
 /// The refused run, if the draft allows one. Often there is a second fault, which stands behind.
-fn refused_if(random: &mut Random, tolerance: i64, number: u8) -> Option<Run> {
+fn refused_if(random: &mut Random, more: &More, number: u8) -> Option<Run> {
     let run = match number {
-        1 => ill_formed_start(random, tolerance),
-        2 => too_long(random, tolerance),
-        3..20 => refused_update(random, tolerance, number)?,
-        _ => refused_close(random, tolerance, number)?,
+        1 => ill_formed_start(random, more),
+        2 => too_long(random, more),
+        3..20 => refused_update(random, more, number)?,
+        _ => refused_close(random, more, number)?,
     };
-    let answer = port::run(&run, tolerance).answer;
+    let answer = port::run(&run, more.tolerance()).answer;
     let wanted = matches!(answer, Err((given, _)) if given == number);
     wanted.then_some(run)
 }
 
-fn ill_formed_start(random: &mut Random, tolerance: i64) -> Run {
+fn ill_formed_start(random: &mut Random, more: &More) -> Run {
     let mut run = match random.percent(10) {
-        true => too_long(random, tolerance),
-        false => accepted(random, tolerance),
+        true => too_long(random, more),
+        false => accepted(random, more),
     };
     damage::start(random, &mut run);
     run
 }
 
 /// A sum just above 64, or a count above it; at times the list has ill-formed updates too.
-fn too_long(random: &mut Random, tolerance: i64) -> Run {
-    let mut run = accepted(random, tolerance);
+fn too_long(random: &mut Random, more: &More) -> Run {
+    let mut run = accepted(random, more);
     let mut filler = random
         .any_of(&run.updates)
         .unwrap_or(Update::RemoveSchemas(Vec::new()));
@@ -86,14 +86,14 @@ fn too_long(random: &mut Random, tolerance: i64) -> Run {
     run
 }
 
-/// Some accepted updates, at times one that leads up to it, then the refused one, then some that are never reached.
-fn refused_update(random: &mut Random, tolerance: i64, number: u8) -> Option<Run> {
-    let mut draft = Draft::new(random, tolerance, |random, run| {
+/// Some accepted updates, at times some that lead up to it, then the refused one, then some that are never reached.
+fn refused_update(random: &mut Random, more: &More, number: u8) -> Option<Run> {
+    let mut draft = Draft::new(random, more, |random, run| {
         provoke::prepare(random, run, number)
     });
     let sum = random.below(12);
     draft.grow(random, sum);
-    if let Some(update) = provoke::lead(random, &draft.now(), number) {
+    for update in provoke::lead(random, &draft.now(), number) {
         let _ = draft.offer(update);
     }
     let update = provoke::update(random, &draft.now(), number)?;
@@ -106,8 +106,8 @@ fn refused_update(random: &mut Random, tolerance: i64, number: u8) -> Option<Run
     Some(draft.run)
 }
 
-fn refused_close(random: &mut Random, tolerance: i64, number: u8) -> Option<Run> {
-    let mut draft = Draft::new(random, tolerance, |random, run| {
+fn refused_close(random: &mut Random, more: &More, number: u8) -> Option<Run> {
+    let mut draft = Draft::new(random, more, |random, run| {
         provoke::prepare(random, run, number)
     });
     let sum = random.below(12);

@@ -3,11 +3,12 @@
 use super::random::Random;
 use super::world::World;
 use crate::case::{
-    BRANCH, Bytes, Flagged, Metadata, MetadataLogEntry, Order, Ref, Schema, Snapshot,
-    SnapshotLogEntry, SortField, TAG, capacity,
+    BRANCH, Bytes, Flagged, Metadata, MetadataLogEntry, More, Order, Ref, Schema, Snapshot,
+    SnapshotLogEntry, SortField, StatisticsFile, TAG, capacity,
 };
 
-pub fn start(random: &mut Random, world: &World) -> Metadata {
+/// The start of a run that is given this: a table of statistics files that is not given is empty.
+pub fn start(random: &mut Random, world: &World, more: &More) -> Metadata {
     let snapshots = snapshots(random, world);
     let held: Vec<i64> = snapshots.iter().map(|s| s.id).collect();
     let current = random.any_of(&held).filter(|_| random.percent(80));
@@ -31,6 +32,8 @@ pub fn start(random: &mut Random, world: &World) -> Metadata {
         schemas,
         default_order_id: default_order(random, &orders, &current_schema),
         orders,
+        statistics: statistics(random, world, more.statistics),
+        partition_statistics: statistics(random, world, more.partition_statistics),
     }
 }
 
@@ -55,14 +58,20 @@ fn next_row_id(random: &mut Random) -> u64 {
     random.one_of(&[0, 0, 1, 10, 10, 100, u64::MAX - 10, u64::MAX])
 }
 
-fn snapshots(random: &mut Random, world: &World) -> Vec<Snapshot> {
+/// The keys of a table of so many slots whose keys are snapshot ids.
+fn snapshot_ids(random: &mut Random, world: &World, slots: usize) -> Vec<i64> {
     let mut ids = world.snapshot_ids.clone();
-    ids.extend(100..100 + capacity::SNAPSHOTS as i64);
-    let count = random.fill(capacity::SNAPSHOTS);
-    // The pool comes first, so that few snapshots are mostly those that updates name.
+    ids.extend(100..100 + slots as i64);
+    let count = random.fill(slots);
+    // The pool comes first, so that few ids are mostly those that updates name.
     ids.truncate(count.max(world.snapshot_ids.len()));
     let mut ids = random.some_of(count, &ids);
     ids.sort_unstable();
+    ids
+}
+
+fn snapshots(random: &mut Random, world: &World) -> Vec<Snapshot> {
+    let ids = snapshot_ids(random, world, capacity::SNAPSHOTS);
     let snapshot = |id: &i64| Snapshot {
         id: *id,
         parent: Flagged::of(random.percent(60).then(|| parent(random, world, &ids))),
@@ -274,5 +283,30 @@ fn default_order(random: &mut Random, orders: &[Order], schema: &Schema) -> i64 
     match random.any_of(&borne).filter(|_| random.percent(96)) {
         Some(order) => order.id,
         None => random.one_of(orders).id,
+    }
+}
+
+/// Files of snapshots that are held, and of some that are not.
+fn statistics(random: &mut Random, world: &World, given: bool) -> Vec<StatisticsFile> {
+    if !given {
+        return Vec::new();
+    }
+    let ids = snapshot_ids(random, world, capacity::STATISTICS);
+    ids.into_iter()
+        .map(|id| statistics_file(random, id))
+        .collect()
+}
+
+/// Few paths and sizes, so that equal files meet again; at both ends of their bounds.
+pub fn statistics_file(random: &mut Random, snapshot_id: i64) -> StatisticsFile {
+    let path = match random.below(100) {
+        0..90 => random.one_of(&["", "a", "a", "stats/a.puffin"]).into(),
+        90..99 => vec![b's'; random.one_of(&[capacity::FILE_NAME - 1, capacity::FILE_NAME])],
+        _ => vec![random.one_of(&[0, 128, 255])],
+    };
+    StatisticsFile {
+        snapshot_id,
+        path,
+        size: random.one_of(&[0, 1, 1, 4096, i64::MAX]),
     }
 }

@@ -2,7 +2,7 @@
 
 use super::random::Random;
 use super::runs;
-use crate::case::{Case, DEFAULT_TOLERANCE, More, TOLERANCES};
+use crate::case::{Case, More, TOLERANCES};
 
 pub fn given(random: &mut Random) -> Case {
     match random.percent(75) {
@@ -12,7 +12,7 @@ pub fn given(random: &mut Random) -> Case {
 }
 
 /// Both ends, the default and the numbers beside them, or any.
-fn tolerance(random: &mut Random) -> i64 {
+pub fn tolerance(random: &mut Random) -> i64 {
     let named = [0, 1, 59_999, 60_000, 60_001, 3_599_999, 3_600_000];
     match random.percent(75) {
         true => random.one_of(&named),
@@ -27,25 +27,26 @@ fn outside(random: &mut Random) -> i64 {
 /// One in ten has a tolerance outside the bounds, some with what is refused before that (1, 2) or behind it (3); one in ten is to be
 /// refused with 7 or 8; some are given nothing.
 fn run(random: &mut Random) -> Case {
-    let mut tolerance = random.percent(97).then(|| tolerance(random));
-    let by = tolerance.unwrap_or(DEFAULT_TOLERANCE);
-    let run = match random.below(20) {
+    let mut more = More {
+        tolerance: random.percent(97).then(|| tolerance(random)),
+        ..More::default()
+    };
+    let chance = random.below(20);
+    let run = match chance {
         0 => {
-            tolerance = Some(outside(random));
             let number = random.one_of(&[1, 2, 3]);
-            runs::refused(random, by, number)
-        }
-        1 => {
-            tolerance = Some(outside(random));
-            runs::run(random, by)
+            runs::refused(random, &more, number)
         }
         2 | 3 => {
             let number = random.one_of(&[7, 8]);
-            runs::refused(random, by, number)
+            runs::refused(random, &more, number)
         }
-        _ => runs::run(random, by),
+        _ => runs::run(random, &more),
     };
-    Case::RunGiven(Box::new(run), More { tolerance })
+    if chance < 2 {
+        more.tolerance = Some(outside(random));
+    }
+    Case::RunGiven(Box::new(run), more)
 }
 
 /// A time on the tolerance or a millisecond beside it, also where the sum is no 64-bit number; or any.

@@ -1,7 +1,7 @@
 //! What the records of one case are made of. The pools are small, so that ids, names and fields meet again and again.
 
 use super::random::Random;
-use crate::case::{Bytes, capacity};
+use crate::case::{Bytes, More, capacity};
 
 pub struct World {
     pub time: i64,
@@ -11,13 +11,16 @@ pub struct World {
     pub far: bool,
     /// Row ranges may start above the next row id.
     pub gaps: bool,
+    /// Updates are often of statistics files.
+    pub statistics: bool,
     pub snapshot_ids: Vec<i64>,
     pub ref_names: Vec<Bytes>,
     pub field_ids: Vec<i32>,
 }
 
 impl World {
-    pub fn new(random: &mut Random, tolerance: i64) -> Self {
+    /// The world of a run that is given this.
+    pub fn new(random: &mut Random, more: &More) -> Self {
         let ends = [i64::MAX - 200_000, i64::MIN + 200_000];
         let time = match random.below(100) {
             0..78 => random.one_of(&[100_000, 1_700_000_000_000]),
@@ -26,9 +29,10 @@ impl World {
         };
         Self {
             time,
-            tolerance,
+            tolerance: more.tolerance(),
             far: random.percent(8),
             gaps: random.percent(30),
+            statistics: more.has_tables(),
             snapshot_ids: snapshot_ids(random),
             ref_names: ref_names(random),
             field_ids: field_ids(random),

@@ -1,7 +1,8 @@
 //! Well-formed records: reply 1 for a start, reply 3 for an update.
 
 use crate::case::{
-    BRANCH, Flagged, Metadata, Order, Ref, Run, Schema, Snapshot, SortField, TAG, Update, capacity,
+    BRANCH, Flagged, Metadata, Order, Ref, Run, Schema, Snapshot, SortField, StatisticsFile, TAG,
+    Update, capacity,
 };
 use crate::spec::MAIN_BRANCH;
 
@@ -33,11 +34,13 @@ pub fn update(update: &Update) -> bool {
         Update::RemoveSchemas(ids) => removal(ids),
         Update::AddSortOrder(o) => order(o),
         Update::SetDefaultSortOrder(id) => *id >= -1,
+        Update::SetStatistics(f) | Update::SetPartitionStatistics(f) => statistics_file(f),
+        Update::RemoveStatistics(id) | Update::RemovePartitionStatistics(id) => *id >= 0,
         Update::UnknownKind(_) => false,
     }
 }
 
-fn metadata(m: &Metadata) -> bool {
+pub fn metadata(m: &Metadata) -> bool {
     (1..=3).contains(&m.version)
         && m.location.len() <= capacity::LOCATION
         && m.last_sequence_number >= 0
@@ -45,6 +48,8 @@ fn metadata(m: &Metadata) -> bool {
         && table(&m.refs, capacity::REFS, |r| &r.name, reference)
         && table(&m.schemas, capacity::SCHEMAS, |s| &s.id, schema)
         && table(&m.orders, capacity::ORDERS, |o| &o.id, held_order)
+        && statistics(&m.statistics)
+        && statistics(&m.partition_statistics)
         && logs(m)
         && m.refs.iter().all(|r| holds_snapshot(m, r.snapshot_id))
         && current_is_main(m)
@@ -62,6 +67,16 @@ fn table<R, K: Ord + ?Sized>(
     records.len() <= slots
         && records.is_sorted_by(|a, b| key(a) < key(b))
         && records.iter().all(formed)
+}
+
+/// Either table of statistics files.
+pub fn statistics(files: &[StatisticsFile]) -> bool {
+    table(
+        files,
+        capacity::STATISTICS,
+        |f| &f.snapshot_id,
+        statistics_file,
+    )
 }
 
 /// Both logs keep history order, so only lengths, ids and names are bound.
@@ -126,6 +141,11 @@ fn order(o: &Order) -> bool {
 /// A held order has no fields exactly if its id is 0.
 fn held_order(o: &Order) -> bool {
     order(o) && o.fields.is_empty() == (o.id == 0)
+}
+
+/// The snapshot need not be held.
+fn statistics_file(f: &StatisticsFile) -> bool {
+    f.snapshot_id >= 0 && f.path.len() <= capacity::FILE_NAME && f.size >= 0
 }
 
 fn removal<T: Default + PartialOrd>(ids: &[T]) -> bool {

@@ -38,6 +38,8 @@ pub fn bare() -> Metadata {
             fields: Vec::new(),
         }],
         default_order_id: 0,
+        statistics: Vec::new(),
+        partition_statistics: Vec::new(),
     }
 }
 

@@ -1,20 +1,24 @@
 //! THE WRAPPER: what document 01 asks of the port, and document 02 after it, and the published code does not say. It reads both in
 //! plain Rust around the published builder, and every answer that rests on it says so by an `Own`.
 
+mod current_at;
 mod exact_time;
 mod formed;
 mod leaves;
 mod map_order;
 mod own;
 mod row_gap;
+mod rows_apart;
 mod run;
 mod texts;
 mod tolerance;
 mod walk;
 
-pub use formed::{list_sum, update as update_formed};
+pub use current_at::current_at;
+pub use formed::{list_sum, statistics as statistics_formed, update as update_formed};
 pub use leaves::{bare, limit, row_ids, time_window, trim};
 pub use own::{Own, Owns};
+pub use rows_apart::rows_apart;
 pub use run::{Outcome, Reply, begin, close, run, step};
 pub use tolerance::is_another_tolerance;
 pub use walk::{WalkOutcome, links, published_walk, table, walk, walk_records};

@@ -24,6 +24,8 @@ pub enum Own {
     ShortBuffer,
     /// 26.
     ToleranceOutside,
+    /// The snapshot that was current at a time, and whether row ranges are apart: the published code answers neither.
+    NotPublished,
     /// The published next row id grows by added rows alone, and the answer is another for it.
     NextRowId,
     /// The published tolerance is a minute, and the answer is another for it.
@@ -57,6 +59,7 @@ impl Own {
             Own::Cycle => "24: the published walk never ends",
             Own::ShortBuffer => "25: the published walk has no buffer",
             Own::ToleranceOutside => "26: the published code is given no tolerance",
+            Own::NotPublished => "current at a time, rows apart: the published code has neither",
             Own::NextRowId => "next row id: the published one grows by added rows alone",
             Own::Tolerance => "tolerance: the published one is a minute",
             Own::ExactTime => "exact times: the published time subtraction overflows",

@@ -120,8 +120,8 @@ pub fn step(mut builder: TableMetadataBuilder, update: &Update, owns: &mut Owns)
     step_as_published(builder, update, owns)
 }
 
-/// One update: 3, then the published checks and effect, then 19 if a table has outgrown its capacity. In document 01 too 19 is the
-/// last check of every update that grows a table, so that it may be asked after the effect.
+/// One update: 3, then the published checks and effect, then 19 if a table has outgrown its capacity. In documents 01 and 02
+/// too 19 is the last check of every update that grows a table, so that it may be asked after the effect.
 fn step_as_published(builder: TableMetadataBuilder, update: &Update, owns: &mut Owns) -> Step {
     if !formed::update(update) {
         owns.insert(Own::UpdateNotFormed);
@@ -167,6 +167,8 @@ fn outgrown(m: &TableMetadata) -> bool {
         || m.snapshot_log.len() > capacity::SNAPSHOT_LOG
         || m.schemas.len() > capacity::SCHEMAS
         || m.sort_orders.len() > capacity::ORDERS
+        || m.statistics.len() > capacity::STATISTICS
+        || m.partition_statistics.len() > capacity::STATISTICS
 }
 
 /// 20 and 21 are the published close's; 22 stands after them, and 23 after the metadata log's expiry.

@@ -41,11 +41,11 @@ pub fn call(update: &Update) -> Call {
         Update::RemoveRef(name) => TableUpdate::RemoveSnapshotRef {
             ref_name: to::text(name),
         },
-        update => schema_or_order(update),
+        update => schema_order_or_statistics(update),
     })
 }
 
-fn schema_or_order(update: &Update) -> TableUpdate {
+fn schema_order_or_statistics(update: &Update) -> TableUpdate {
     match update {
         Update::AddSchema(schema) => TableUpdate::AddSchema {
             schema: to::schema(schema),
@@ -58,6 +58,16 @@ fn schema_or_order(update: &Update) -> TableUpdate {
             sort_order: to::sort_order(order),
         },
         Update::SetDefaultSortOrder(id) => TableUpdate::SetDefaultSortOrder { sort_order_id: *id },
+        Update::SetStatistics(file) => TableUpdate::SetStatistics {
+            statistics: to::statistics_file(file),
+        },
+        Update::RemoveStatistics(id) => TableUpdate::RemoveStatistics { snapshot_id: *id },
+        Update::SetPartitionStatistics(file) => TableUpdate::SetPartitionStatistics {
+            partition_statistics: to::statistics_file(file),
+        },
+        Update::RemovePartitionStatistics(id) => {
+            TableUpdate::RemovePartitionStatistics { snapshot_id: *id }
+        }
         _ => not_taken("an unknown kind of update"),
     }
 }
@@ -84,6 +94,14 @@ pub fn apply(builder: TableMetadataBuilder, call: Call) -> Result<TableMetadataB
         RemoveSchemas { schema_ids } => builder.remove_schemas(&schema_ids),
         AddSortOrder { sort_order } => builder.add_sort_order(sort_order),
         SetDefaultSortOrder { sort_order_id } => builder.set_default_sort_order(sort_order_id),
+        SetStatistics { statistics } => Ok(builder.set_statistics(statistics)),
+        RemoveStatistics { snapshot_id } => Ok(builder.remove_statistics(snapshot_id)),
+        SetPartitionStatistics {
+            partition_statistics,
+        } => Ok(builder.set_partition_statistics(partition_statistics)),
+        RemovePartitionStatistics { snapshot_id } => {
+            Ok(builder.remove_partition_statistics(snapshot_id))
+        }
         _ => not_taken("this update"),
     }
 }

@@ -6,8 +6,8 @@ use std::collections::HashMap;
 use crate::TableUpdate;
 use crate::case::{self, Flagged, Update};
 use crate::spec::{
-    MetadataLog, Schema, Snapshot, SnapshotReference, SnapshotRetention, SortOrder, TableMetadata,
-    not_taken,
+    MetadataLog, Schema, Snapshot, SnapshotReference, SnapshotRetention, SortOrder, StatisticsFile,
+    TableMetadata, not_taken,
 };
 
 /// The bytes that `to_published::text` made the characters of.
@@ -68,6 +68,15 @@ fn order(o: &SortOrder) -> case::Order {
     }
 }
 
+/// Of either table.
+fn statistics_file(f: &StatisticsFile) -> case::StatisticsFile {
+    case::StatisticsFile {
+        snapshot_id: f.snapshot_id,
+        path: bytes(&f.statistics_path),
+        size: f.file_size_in_bytes,
+    }
+}
+
 pub fn metadata_log(entries: &[MetadataLog]) -> Vec<case::MetadataLogEntry> {
     let entry = |entry: &MetadataLog| case::MetadataLogEntry {
         file: bytes(&entry.metadata_file),
@@ -105,6 +114,8 @@ pub fn metadata(m: &TableMetadata) -> case::Metadata {
         current_schema_id: m.current_schema_id,
         orders: table(&m.sort_orders, |_, o| order(o)),
         default_order_id: m.default_sort_order_id,
+        statistics: table(&m.statistics, |_, f| statistics_file(f)),
+        partition_statistics: table(&m.partition_statistics, |_, f| statistics_file(f)),
     }
 }
 
@@ -137,6 +148,16 @@ pub fn update(change: &TableUpdate) -> Update {
         TableUpdate::AddSortOrder { sort_order } => Update::AddSortOrder(order(sort_order)),
         TableUpdate::SetDefaultSortOrder { sort_order_id } => {
             Update::SetDefaultSortOrder(*sort_order_id)
+        }
+        TableUpdate::SetStatistics { statistics } => {
+            Update::SetStatistics(statistics_file(statistics))
+        }
+        TableUpdate::RemoveStatistics { snapshot_id } => Update::RemoveStatistics(*snapshot_id),
+        TableUpdate::SetPartitionStatistics {
+            partition_statistics,
+        } => Update::SetPartitionStatistics(statistics_file(partition_statistics)),
+        TableUpdate::RemovePartitionStatistics { snapshot_id } => {
+            Update::RemovePartitionStatistics(*snapshot_id)
         }
         _ => not_taken("this entry of the change log"),
     }

@@ -6,8 +6,8 @@ use std::sync::Arc;
 use crate::case;
 use crate::spec::{
     DEFAULT_PARTITION_SPEC_ID, FormatVersion, MetadataLog, PartitionSpec, Schema, Snapshot,
-    SnapshotLog, SnapshotReference, SnapshotRetention, SortField, SortOrder, StructType,
-    TableMetadata, TableProperties, UNPARTITIONED_LAST_ASSIGNED_ID,
+    SnapshotLog, SnapshotReference, SnapshotRetention, SortField, SortOrder, StatisticsFile,
+    StructType, TableMetadata, TableProperties, UNPARTITIONED_LAST_ASSIGNED_ID,
 };
 use crate::uuid::Uuid;
 
@@ -67,6 +67,15 @@ pub fn sort_order(o: &case::Order) -> SortOrder {
     }
 }
 
+/// Of either table.
+pub fn statistics_file(f: &case::StatisticsFile) -> StatisticsFile {
+    StatisticsFile {
+        snapshot_id: f.snapshot_id,
+        statistics_path: text(&f.path),
+        file_size_in_bytes: f.size,
+    }
+}
+
 fn snapshot_log(entry: &case::SnapshotLogEntry) -> SnapshotLog {
     SnapshotLog {
         snapshot_id: entry.snapshot_id,
@@ -99,6 +108,7 @@ fn table<R, K: std::hash::Hash + Eq, V>(
 }
 
 pub fn metadata(m: &case::Metadata, limit: Option<&[u8]>) -> TableMetadata {
+    let of_snapshot = |f: &case::StatisticsFile| (f.snapshot_id, statistics_file(f));
     TableMetadata {
         format_version: format_version(m.version),
         table_uuid: Uuid(m.uuid),
@@ -123,8 +133,8 @@ pub fn metadata(m: &case::Metadata, limit: Option<&[u8]>) -> TableMetadata {
         sort_orders: table(&m.orders, |o| (o.id, Arc::new(sort_order(o)))),
         default_sort_order_id: m.default_order_id,
         refs: table(&m.refs, |r| (text(&r.name), reference(r))),
-        statistics: HashMap::new(),
-        partition_statistics: HashMap::new(),
+        statistics: table(&m.statistics, of_snapshot),
+        partition_statistics: table(&m.partition_statistics, of_snapshot),
         encryption_keys: HashMap::new(),
         next_row_id: m.next_row_id,
     }

@@ -1,4 +1,4 @@
-//! Stand-ins for `crate::spec`, made for document 01's domain, and the published builder compiled over them.
+//! Stand-ins for `crate::spec`, made for the domain of documents 01 and 02, and the published builder compiled over them.
 
 mod minute;
 mod not_taken;
@@ -6,13 +6,14 @@ mod partition;
 mod schema;
 mod snapshot;
 mod sort;
+mod statistics;
 mod table_metadata;
-// Document 01 takes a part of the published file; the rest is compiled and never called.
+// A part of the published file is taken; the rest is compiled and never called.
 #[allow(dead_code, clippy::all)]
 pub mod table_metadata_builder;
 
 pub use minute::{MINUTE_MS, ONE_MINUTE_MS, set_tolerance};
-pub use not_taken::{EncryptedKey, PartitionStatisticsFile, StatisticsFile, not_taken};
+pub use not_taken::{EncryptedKey, not_taken};
 pub use partition::{
     DEFAULT_PARTITION_SPEC_ID, PartitionSpec, PartitionSpecBuilder, StructType, Transform,
     UNPARTITIONED_LAST_ASSIGNED_ID, UnboundPartitionSpec,
@@ -22,6 +23,7 @@ pub use snapshot::{
     MAIN_BRANCH, Snapshot, SnapshotLog, SnapshotRef, SnapshotReference, SnapshotRetention,
 };
 pub use sort::{SortField, SortOrder, SortOrderRef};
+pub use statistics::{PartitionStatisticsFile, StatisticsFile};
 pub use table_metadata::{
     FormatVersion, INITIAL_ROW_ID, MIN_FORMAT_VERSION_ROW_LINEAGE, MetadataLog, TableMetadata,
     TableMetadataRef, TableProperties,

@@ -1,18 +1,8 @@
-//! What the published builder names and document 01 leaves out: it has to compile, and is never reached.
+//! What the published builder names and is not taken: it has to compile, and is never reached.
 
-/// Stands for the body of a function that document 01's domain never calls.
+/// Stands for the body of a function that is never called in the domain of documents 01 and 02.
 pub fn not_taken(part: &str) -> ! {
-    panic!("document 01 does not take {part}")
-}
-
-#[derive(Debug, Clone, PartialEq)]
-pub struct StatisticsFile {
-    pub snapshot_id: i64,
-}
-
-#[derive(Debug, Clone, PartialEq)]
-pub struct PartitionStatisticsFile {
-    pub snapshot_id: i64,
+    panic!("{part}: not taken")
 }
 
 #[derive(Debug, Clone, PartialEq)]

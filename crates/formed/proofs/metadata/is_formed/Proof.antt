@@ -9,14 +9,32 @@ use Rattle.formed.proofs.metadata.is_formed.Tie as tie
 
 module _ (c : tie.After-fields-formed) where
   abbrev m : TableMetadata
-  m = c .before .before .before .before .before .before .before .before .before .before .before .before .before .before .before .before .args .m
+  m = c .before .before .before .before .before .before .before .before .before .before .before .before .before .before .before .before .before .before .before .before .args .m
 
   -- what the code found of each part
   abbrev ok : Bool
-  ok = c .before .before .before .before .before .before .snapshots-formed .result && c .before .before .before .before .before .refs-formed .result && c .before .before .before .before .snapshot-log-formed .result && c .before .before .before .metadata-log-formed .result && c .before .before .schemas-formed .result && c .before .orders-formed .result && c .fields-formed .result
+  ok =
+      c .before .before .before .before .before .before .before .before .snapshots-formed .result
+      && c .before .before .before .before .before .before .before .refs-formed .result
+      && c .before .before .before .before .before .before .snapshot-log-formed .result
+      && c .before .before .before .before .before .metadata-log-formed .result
+      && c .before .before .before .before .schemas-formed .result
+      && c .before .before .before .orders-formed .result
+      && c .before .before .statistics-formed .result
+      && c .before .statistics-formed2 .result
+      && c .fields-formed .result
 
   found : ok ≡ eachFormed m
-  found = λ i. c .before .before .before .before .before .before .snapshots-formed .ensures i && c .before .before .before .before .before .refs-formed .ensures i && c .before .before .before .before .snapshot-log-formed .ensures i && c .before .before .before .metadata-log-formed .ensures i && c .before .before .schemas-formed .ensures i && c .before .orders-formed .ensures i && c .fields-formed .ensures i
+  found = λ i.
+      c .before .before .before .before .before .before .before .before .snapshots-formed .ensures i
+      && c .before .before .before .before .before .before .before .refs-formed .ensures i
+      && c .before .before .before .before .before .before .snapshot-log-formed .ensures i
+      && c .before .before .before .before .before .metadata-log-formed .ensures i
+      && c .before .before .before .before .schemas-formed .ensures i
+      && c .before .before .before .orders-formed .ensures i
+      && c .before .before .statistics-formed .ensures i
+      && c .before .statistics-formed2 .ensures i
+      && c .fields-formed .ensures i
 
 passed : (c : tie.Then1) → eachFormed (m (c .before)) ≡ true
 passed c = sym (found (c .before)) ∙ c .if1 .taken
@@ -34,6 +52,8 @@ pub is-formed-spec : {M : Type 1} → statement M
 is-formed-spec =
     tie.close
     (tie.spec
+    (λ c κs. search needs)
+    (λ c κs. search needs)
     (λ c κs. search needs)
     (λ c κs. search needs)
     (λ c κs. search needs)

@@ -1,0 +1,33 @@
+-- No more records are written than there are slots.
+use Prim.Native.Nat.{_-_}
+use borrow.Author.Needs.{needs}
+use Rattle.plaintext.proofs.statistics.say_files.Statement.{statement}
+use Rattle.plaintext.proofs.statistics.say_files.Tie as tie
+
+abbrev Inv-loop : tie.InvT-loop
+Inv-loop output₀ end₀ heading table count n i₀ t10 t11 output end i = Unit {0}
+
+abbrev μ-loop : tie.MeasureT-loop
+μ-loop output₀ end₀ heading table count n i₀ t10 t11 output end i = n - i
+
+pub say-files-spec : {M : Type 1} → statement M
+say-files-spec =
+    tie.close
+    (tie.spec
+    Inv-loop
+    μ-loop
+    (λ c κs. search needs)
+    (λ c κs. search needs)
+    (λ c. search needs)
+    (λ c. search needs)
+    (λ c. search needs)
+    (λ c. search needs)
+    (λ c κs. search needs)
+    (λ c κs. search needs)
+    (λ c. search needs)
+    (λ c κs. search needs)
+    (λ c. search needs)
+    (λ c. search needs)
+    (λ c. search needs)
+    (λ c κs. search needs)
+    (λ c. search needs))
