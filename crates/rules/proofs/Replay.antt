@@ -6,7 +6,7 @@ use mathlib.Core.List.{List, [], _∷_}
 use native.Mathlib.Omega.{arith}
 use lib.Dec.{eqb}
 use lib.ListN.{length}
-use borrow.Author.Tests.{eqb-true, le-leb}
+use borrow.Author.Tests.{eqb-true}
 use Rattle.rules.specs.Words.{all, ifSome}
 use Rattle.rules.specs.Capacities.{listRoom}
 use Rattle.rules.specs.Register.{FileEntry, Metadata, Update, Terms, State}

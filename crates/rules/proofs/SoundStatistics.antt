@@ -1,12 +1,11 @@
 -- Setting and removing statistics files keeps metadata sound.
 use Prim.Native.Nat.{_<_}
 use mathlib.Core.Path.{_≡_, refl}
-use mathlib.Core.Bool.{Bool, true, false, not, _&&_}
+use mathlib.Core.Bool.{Bool, true, false, not}
 use mathlib.Core.List.{List}
-use lib.Dec.{leb}
 use lib.IntN.{ℤ}
 use lib.ListN.{length}
-use borrow.Author.Tests.{leb-false, not-false}
+use borrow.Author.Tests.{leb-false}
 use borrow.Table.Steps.{cases}
 use Rattle.rules.specs.Words.{firstOf, keep, put}
 use Rattle.rules.specs.Capacities.{statisticsRoom}
