@@ -1,19 +1,19 @@
 -- The close knows a change log by three facts: what it says of them is what the rules say of the log.
 use mathlib.Core.Path.{_≡_, refl, sym, ap, _∙_}
 use mathlib.Core.Bool.{Bool, true, false, cond, not, _&&_, _||_}
-use mathlib.Core.List.{List, [], _∷_}
+use mathlib.Core.List.{List, []}
 use mathlib.Core.Option.{Option, none, some}
 use borrow.Table.Steps.{cases}
 use lib.IntN.{ℤ}
 use Rattle.records.specs.declared.metadata.SingleFields.{SingleFields}
 use Rattle.records.specs.declared.snapshot.SnapshotLog.{SnapshotLog}
-use Rattle.rules.specs.Words.{ifSome, someWith, any, keep, first, isIn, isEmpty, afterLast}
+use Rattle.rules.specs.Words.{eqZ, ifSome, someWith, any, keep, collect, first, isIn, isEmpty, afterLast}
 use Rattle.rules.specs.Register.{LogEntry, Schema, SortField, SortOrder, Metadata, Update}
-use Rattle.rules.specs.Register.Update.{AssignUuid, UpgradeFormatVersion, SetLocation, AddSnapshot, SetBranchSnapshot, RemoveSnapshots, SetRef, RemoveRef, AddSchema, SetCurrentSchema, RemoveSchemas, AddSortOrder, SetDefaultSortOrder, SetStatistics, RemoveStatistics, NotFormed}
 use Rattle.rules.specs.WellFormed.{hasSchema, hasOrder, fieldIds}
-use Rattle.rules.specs.ChangeLog.{logsAddition, logsMain, logsRemoval}
+use Rattle.rules.specs.ChangeLog.{addition, logsAddition, logsMain, logsRemoval}
 use Rattle.rules.specs.Layout.{readFields, readSnapshotLog, laidSnapshotLog}
 use Rattle.rules.specs.Close.{intermediates, isRebuilt, isMissing, isIntermediate, rebuilt, history, endsAt, endsElsewhere, isDefaultUnfit}
+use Rattle.rules.proofs.ReplayLists.{any-collect}
 use Rattle.rules.proofs.Reread.{reread-snapshot-log}
 use Rattle.close.specs.Facts.{additions, intermediatesOf, isGone, isStaying, Told}
 use Rattle.close.specs.Answers.{HistoryOf, endsOff}
@@ -25,23 +25,7 @@ use Rattle.close.proofs.Scans.{none-after, keep-others}
 -- the log adds a snapshot exactly if it is among its additions
 pub adds-in : (log : List Update) (id : ℤ) → logsAddition log id ≡ isIn (additions log) id
 unfolding logsAddition additions
-adds-in [] id = refl
-adds-in (AssignUuid uuid ∷ log) id = adds-in log id
-adds-in (UpgradeFormatVersion v ∷ log) id = adds-in log id
-adds-in (SetLocation location ∷ log) id = adds-in log id
-adds-in (AddSnapshot s ∷ log) id = rw (eqZ-turned (s .id) id, adds-in log id)
-adds-in (SetBranchSnapshot name s ∷ log) id = adds-in log id
-adds-in (RemoveSnapshots ids ∷ log) id = adds-in log id
-adds-in (SetRef name r ∷ log) id = adds-in log id
-adds-in (RemoveRef name ∷ log) id = adds-in log id
-adds-in (AddSchema s ∷ log) id = adds-in log id
-adds-in (SetCurrentSchema c ∷ log) id = adds-in log id
-adds-in (RemoveSchemas ids ∷ log) id = adds-in log id
-adds-in (AddSortOrder o ∷ log) id = adds-in log id
-adds-in (SetDefaultSortOrder c ∷ log) id = adds-in log id
-adds-in (SetStatistics which f ∷ log) id = adds-in log id
-adds-in (RemoveStatistics which c ∷ log) id = adds-in log id
-adds-in (NotFormed counts ∷ log) id = adds-in log id
+adds-in log id = any-collect (λ x. eqZ x id) addition log ∙ ap (λ (q : ℤ → Bool). any q (collect addition log)) (λ i x. eqZ-turned x id i)
 
 pub intermediates-of : (log : List Update) (current : Option ℤ) → intermediatesOf (additions log) (logsMain log) current ≡ intermediates log current
 unfolding intermediatesOf intermediates

@@ -2,36 +2,16 @@
 use mathlib.Core.Path.{_≡_}
 use mathlib.Core.Bool.{Bool, not, _&&_}
 use mathlib.Core.List.{List, map}
-use mathlib.Core.Option.{Option, none, some}
+use mathlib.Core.Option.{Option}
 use lib.IntN.{ℤ}
 use Rattle.records.specs.declared.metadata.SingleFields.{SingleFields}
 use Rattle.records.specs.declared.snapshot.SnapshotLog.{SnapshotLog}
 use Rattle.rules.specs.Words.{eqZ, someWith, keep, collect, isIn}
 use Rattle.rules.specs.Register.{Snapshot, LogEntry, Metadata, Update}
-use Rattle.rules.specs.Register.Update.{AssignUuid, UpgradeFormatVersion, SetLocation, AddSnapshot, SetBranchSnapshot, RemoveSnapshots, SetRef, RemoveRef, AddSchema, SetCurrentSchema, RemoveSchemas, AddSortOrder, SetDefaultSortOrder, SetStatistics, RemoveStatistics, NotFormed}
-use Rattle.rules.specs.ChangeLog.{logsMain, logsRemoval}
+use Rattle.rules.specs.ChangeLog.{addition, logsMain, logsRemoval}
 use Rattle.rules.specs.Layout.{readFields, readSnapshotLog}
 
 -- ---- the facts
-
--- the snapshot that it adds
-abbrev pub addition : Update → Option ℤ
-addition (AssignUuid uuid) = none
-addition (UpgradeFormatVersion v) = none
-addition (SetLocation location) = none
-addition (AddSnapshot s) = some (s .id)
-addition (SetBranchSnapshot name s) = none
-addition (RemoveSnapshots ids) = none
-addition (SetRef name r) = none
-addition (RemoveRef name) = none
-addition (AddSchema s) = none
-addition (SetCurrentSchema id) = none
-addition (RemoveSchemas ids) = none
-addition (AddSortOrder o) = none
-addition (SetDefaultSortOrder id) = none
-addition (SetStatistics which f) = none
-addition (RemoveStatistics which id) = none
-addition (NotFormed counts) = none
 
 -- the snapshots that the log adds, in its order
 unfoldable pub additions : List Update → List ℤ

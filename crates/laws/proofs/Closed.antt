@@ -19,7 +19,7 @@ use Rattle.rules.specs.Capacities.{metadataLogRoom}
 use Rattle.rules.specs.Register.{State}
 use Rattle.rules.specs.Register.Outcome.{Refused, Accepted}
 use Rattle.rules.specs.WellFormed.{snapshotBelow, metadataLogFormed, fileNameFormed}
-use Rattle.rules.specs.ChangeLog.{logsMain, mainTarget}
+use Rattle.rules.specs.ChangeLog.{addition, logsMain, mainTarget}
 use Rattle.rules.specs.Limit.{limitOf, isNumber, afterPlus}
 use Rattle.rules.proofs.Checks.{by-test, passed}
 use Rattle.rules.specs.Close.{staying, expired, closeChecks, closed}
@@ -37,7 +37,7 @@ use Rattle.tables.specs.Laid.{LaidMetadataLog}
 use Rattle.tables.proofs.Table.{within}
 use Rattle.tables.proofs.Each.{tidy-metadata-log}
 use Rattle.close.specs.declared.history.History.{History}
-use Rattle.close.specs.Facts.{addition, additions, Told}
+use Rattle.close.specs.Facts.{additions, Told}
 use Rattle.close.specs.Answers.{HistoryOf, Handed, joining}
 use Rattle.close.proofs.Join.{Filed, gone-within, stays, expires, stays-length}
 use Rattle.laws.specs.Standing.{Given, Pieces, Represents, termsOf}

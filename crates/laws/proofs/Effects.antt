@@ -12,7 +12,7 @@ use Rattle.rules.specs.Names.{trimmed, isMain}
 use Rattle.rules.specs.Register.{Reference, Snapshot, StatisticsFile, StatisticsTable, Metadata, Update, Terms, State, withFields, withRefs, withSchemas, withOrders, statisticsOf, withStatistics, logged}
 use Rattle.rules.specs.Register.StatisticsTable.{Statistics, PartitionStatistics}
 use Rattle.rules.specs.Register.Update.{AssignUuid, UpgradeFormatVersion, SetLocation, AddSnapshot, SetBranchSnapshot, RemoveSnapshots, SetRef, RemoveRef, AddSchema, SetCurrentSchema, RemoveSchemas, AddSortOrder, SetDefaultSortOrder, SetStatistics, RemoveStatistics, NotFormed}
-use Rattle.rules.specs.ChangeLog.{mainTarget, isSnapshotRemoval}
+use Rattle.rules.specs.ChangeLog.{addition, mainTarget, isSnapshotRemoval}
 use Rattle.rules.specs.SingleUpdates.{assignUuid, upgradeFormatVersion, setLocation}
 use Rattle.rules.specs.SnapshotUpdates.{addSnapshot, removeSnapshots, heldSnapshots}
 use Rattle.rules.specs.RefUpdates.{setRef, setBranchSnapshot, removeRef, isHeldRef, putRef, refNamed, committed}
@@ -22,7 +22,6 @@ use Rattle.rules.specs.StatisticsUpdates.{hasFileOf, setStatistics, removeStati
 use Rattle.rules.specs.Updates.{effect}
 use Rattle.rules.specs.Run.{weight}
 use Rattle.rules.proofs.Checks.{by-test, by-option}
-use Rattle.close.specs.Facts.{addition}
 use Rattle.laws.proofs.Slots.{last-cancels, no-longer}
 
 -- ---- what no update changes, and how much one logs

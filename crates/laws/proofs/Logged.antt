@@ -4,7 +4,6 @@ use native.Mathlib.Omega.{arith}
 use mathlib.Core.Path.{_≡_, refl, sym, ap, _∙_}
 use mathlib.Core.Bool.{Bool, true, false, _||_}
 use mathlib.Core.List.{List, [], _∷_, _++_, map, map-append}
-use mathlib.Core.Option.{Option, none, some}
 use lib.IntN.{ℤ, pos}
 use lib.ListN.{length, set, length-append, length-map}
 use Rattle.records.specs.Blanks.{noUpdate}
@@ -12,12 +11,12 @@ use Rattle.records.specs.declared.update.TableUpdate.{TableUpdate}
 use Rattle.rules.specs.Words.{any, collect, eqZ}
 use Rattle.rules.specs.Names.{isMain}
 use Rattle.rules.specs.Register.{Snapshot, Reference, Update}
-use Rattle.rules.specs.Register.Update.{AssignUuid, UpgradeFormatVersion, SetLocation, AddSnapshot, SetBranchSnapshot, RemoveSnapshots, SetRef, RemoveRef, AddSchema, SetCurrentSchema, RemoveSchemas, AddSortOrder, SetDefaultSortOrder, SetStatistics, RemoveStatistics, NotFormed}
-use Rattle.rules.specs.ChangeLog.{isAddition, logsAddition, mainTarget, logsMain, isSnapshotRemoval, logsRemoval}
+use Rattle.rules.specs.Register.Update.{AddSnapshot, RemoveSnapshots, SetRef}
+use Rattle.rules.specs.ChangeLog.{addition, logsAddition, mainTarget, logsMain, isSnapshotRemoval, logsRemoval}
 use Rattle.rules.specs.Layout.{pad}
 use Rattle.rules.specs.Kinds.{laidUpdate}
-use Rattle.rules.proofs.ReplayLists.{any-append}
-use Rattle.close.specs.Facts.{addition, additions}
+use Rattle.rules.proofs.ReplayLists.{any-append, any-collect}
+use Rattle.close.specs.Facts.{additions}
 use Rattle.laws.specs.Standing.{Changes, entered, withAddition, withMain, withRemoval, Logs}
 use Rattle.laws.proofs.Slots.{pad-push, collect-length, collect-none, collect-some}
 use Rattle.laws.proofs.Effects.{Quiet}
@@ -105,32 +104,6 @@ module _ {l : List Update} {c : Changes} (g : Logs l c) (h : length l < 64) wher
 
 -- ---- the snapshots that a log adds
 
-adds-it : (id : ℤ) (u : Update) → isAddition id u ≡ elim (addition u) [ none ↦ false | some x ↦ eqZ x id ]
-adds-it id (AssignUuid uuid) = refl
-adds-it id (UpgradeFormatVersion v) = refl
-adds-it id (SetLocation location) = refl
-adds-it id (AddSnapshot s) = refl
-adds-it id (SetBranchSnapshot name s) = refl
-adds-it id (RemoveSnapshots ids) = refl
-adds-it id (SetRef name r) = refl
-adds-it id (RemoveRef name) = refl
-adds-it id (AddSchema s) = refl
-adds-it id (SetCurrentSchema c) = refl
-adds-it id (RemoveSchemas ids) = refl
-adds-it id (AddSortOrder o) = refl
-adds-it id (SetDefaultSortOrder c) = refl
-adds-it id (SetStatistics which f) = refl
-adds-it id (RemoveStatistics which c) = refl
-adds-it id (NotFormed counts) = refl
-
-any-collected : (id : ℤ) (l : List Update) → any (λ x. eqZ x id) (collect addition l) ≡ any (isAddition id) l
-any-collected id [] = refl
-any-collected id (u ∷ l) = rw (adds-it id u) (go (addition u) (any-collected id l))
-  where
-    go : (o : Option ℤ) → any (λ x. eqZ x id) (collect addition l) ≡ any (isAddition id) l → any (λ x. eqZ x id) (elim o [ none ↦ collect addition l | some y ↦ y ∷ collect addition l ]) ≡ (elim o [ none ↦ false | some x ↦ eqZ x id ] || any (isAddition id) l)
-    go none q = q
-    go (some y) q = rw q
-
 pub logs-addition : (id : ℤ) (l : List Update) → any (λ x. eqZ x id) (additions l) ≡ logsAddition l id
 unfolding additions logsAddition
-logs-addition id l = any-collected id l
+logs-addition id l = sym (any-collect (λ x. eqZ x id) addition l)

@@ -2,19 +2,19 @@
 -- entries of snapshots to which a logged `main` ref went, and of the start's snapshots the log adds only those that it removed.
 use Prim.Native.Nat.{ℕ}
 use mathlib.Core.Path.{_≡_, refl, sym, ap, _∙_}
-use mathlib.Core.Bool.{Bool, true, false, _||_, false≢true}
+use mathlib.Core.Bool.{Bool, true, false, _||_, false≢true, true≢false}
 use mathlib.Core.List.{List, [], _∷_, _++_, append-nil, append-assoc}
 use mathlib.Core.Option.{Option, none, some}
 use lib.Dec.{eqb}
 use lib.IntN.{ℤ}
 use borrow.Author.Tests.{not-false}
-use Rattle.rules.specs.Words.{eqZ, isSome, someWith, all, any, isEmpty, isIn, put, collect, sameBytes, firstOf}
+use Rattle.rules.specs.Words.{eqZ, isSome, orElse, someWith, all, any, isEmpty, isIn, put, sameBytes, firstOf}
 use Rattle.rules.specs.Names.{isMain, trimmed}
 use Rattle.rules.specs.Register.{Snapshot, Reference, LogEntry, Metadata, Update, Terms, State}
 use Rattle.rules.specs.Register.Update.{AssignUuid, UpgradeFormatVersion, SetLocation, AddSnapshot, SetBranchSnapshot, RemoveSnapshots, SetRef, RemoveRef, AddSchema, SetCurrentSchema, RemoveSchemas, AddSortOrder, SetDefaultSortOrder, SetStatistics, RemoveStatistics, NotFormed}
 use Rattle.rules.specs.WellFormed.{snapshotBelow, holdsSnapshot}
-use Rattle.rules.specs.ChangeLog.{isAddition, logsAddition, mainTarget, logsMain, isSnapshotRemoval, logsRemoval}
-use Rattle.rules.specs.Moment.{removedIds, logsRemoved}
+use Rattle.rules.specs.ChangeLog.{isAddition, logsAddition, mainTarget, logsMain, removal, isSnapshotRemoval, removedIds, logsRemoval}
+use Rattle.rules.specs.Moment.{logsRemoved}
 use Rattle.rules.specs.SingleUpdates.{assignUuid, upgradeFormatVersion, setLocation}
 use Rattle.rules.specs.SnapshotUpdates.{addSnapshotChecks, addSnapshot, heldSnapshots, otherSnapshots, removeSnapshots}
 use Rattle.rules.specs.RefUpdates.{refNamed, isHeldRef, setRefChecks, setRef, committed, setBranchSnapshot, removeRef}
@@ -31,7 +31,7 @@ use Rattle.rules.proofs.Tables.{all-then, all-append, any-put}
 use Rattle.rules.proofs.SoundSnapshots.{add-snapshot-numbered, add-new}
 use Rattle.rules.proofs.SoundUpdates.{accepted-checks}
 use Rattle.rules.proofs.SoundRun.{run-keeps}
-use Rattle.rules.proofs.ReplayLists.{any-append}
+use Rattle.rules.proofs.ReplayLists.{any-append, collect-append}
 use Rattle.rules.proofs.ReplayKeys.{none-held}
 use Rattle.rules.proofs.ReplayLog.{additions-append}
 use Rattle.rules.proofs.ReplayRefs.{commit-checks}
@@ -53,13 +53,7 @@ removed-append (u ∷ a) b = rw (removed-append a b) (sym (append-assoc (removed
 
 mains-append : (a b : List Update) → logsMain (a ++ b) ≡ logsMain a ++ logsMain b
 unfolding logsMain
-mains-append [] b = refl
-mains-append (u ∷ a) b = go (mainTarget u) (mains-append a b)
-  where
-    go : (o : Option ℤ) → collect mainTarget (a ++ b) ≡ collect mainTarget a ++ collect mainTarget b
-        → elim o [ none ↦ collect mainTarget (a ++ b) | some y ↦ y ∷ collect mainTarget (a ++ b) ] ≡ elim o [ none ↦ collect mainTarget a | some y ↦ y ∷ collect mainTarget a ] ++ collect mainTarget b
-    go none ih = ih
-    go (some y) ih = rw ih
+mains-append a b = collect-append mainTarget a b
 
 -- setting `main` logs its target
 main-logged : (log : List Update) (name : List ℕ) (r : Reference) → isMain name ≡ true → isIn (logsMain (log ++ (SetRef name r ∷ []))) (r .snapshot) ≡ true
@@ -73,22 +67,11 @@ main-logged log name r e =
 
 -- an update that is no removal of snapshots removes none
 removes-none : (u : Update) → isSnapshotRemoval u ≡ false → removedIds u ≡ []
-removes-none (AssignUuid uuid) e = refl
-removes-none (UpgradeFormatVersion v) e = refl
-removes-none (SetLocation location) e = refl
-removes-none (AddSnapshot s) e = refl
-removes-none (SetBranchSnapshot name s) e = refl
-removes-none (RemoveSnapshots ids) e = absurd (false≢true (sym e))
-removes-none (SetRef name r) e = refl
-removes-none (RemoveRef name) e = refl
-removes-none (AddSchema s) e = refl
-removes-none (SetCurrentSchema id) e = refl
-removes-none (RemoveSchemas ids) e = refl
-removes-none (AddSortOrder o) e = refl
-removes-none (SetDefaultSortOrder id) e = refl
-removes-none (SetStatistics which f) e = refl
-removes-none (RemoveStatistics which id) e = refl
-removes-none (NotFormed counts) e = refl
+removes-none u = go (removal u)
+  where
+    go : (o : Option (List ℤ)) → isSome o ≡ false → orElse o [] ≡ []
+    go none e = refl
+    go (some ids) e = absurd (true≢false e)
 
 -- a log with no removal removes none
 pub no-removal : (log : List Update) → logsRemoval log ≡ false → logsRemoved log ≡ []

@@ -5,7 +5,7 @@ use mathlib.Core.Bool.{Bool, true, false, cond, _||_}
 use mathlib.Core.List.{List, [], _∷_, _++_}
 use mathlib.Core.Option.{Option, none, some}
 use native.Mathlib.Omega.{arith}
-use Rattle.rules.specs.Words.{all, any, keep, total, collect}
+use Rattle.rules.specs.Words.{someWith, all, any, keep, total, collect}
 use Rattle.rules.proofs.Tables.{all-head, all-tail}
 
 module _ {A : Type 0} where
@@ -45,6 +45,15 @@ module _ {A : Type 0} where
       given o zs = elim o [ none ↦ zs | some y ↦ y ∷ zs ]
 
       go : (o : Option B) → collect f (xs ++ ys) ≡ collect f xs ++ collect f ys → given o (collect f (xs ++ ys)) ≡ given o (collect f xs) ++ collect f ys
+      go none ih = ih
+      go (some y) ih = rw ih
+
+  -- a test of what each gives, where it gives something, is a test of what is collected
+  pub any-collect : {B : Type 0} (p : B → Bool) (f : A → Option B) (l : List A) → any (λ x. someWith p (f x)) l ≡ any p (collect f l)
+  any-collect p f [] = refl
+  any-collect {B} p f (x ∷ l) = go (f x) (any-collect p f l)
+    where
+      go : (o : Option B) → any (λ x. someWith p (f x)) l ≡ any p (collect f l) → someWith p o || any (λ x. someWith p (f x)) l ≡ any p (elim o [ none ↦ collect f l | some y ↦ y ∷ collect f l ])
       go none ih = ih
       go (some y) ih = rw ih
 

@@ -6,65 +6,39 @@ use mathlib.Core.Option.{none}
 use lib.IntN.{ℤ}
 use Rattle.rules.specs.Register.{Update}
 use Rattle.rules.specs.Register.Update.{AssignUuid, UpgradeFormatVersion, SetLocation, AddSnapshot, SetBranchSnapshot, RemoveSnapshots, SetRef, RemoveRef, AddSchema, SetCurrentSchema, RemoveSchemas, AddSortOrder, SetDefaultSortOrder, SetStatistics, RemoveStatistics, NotFormed}
-use Rattle.rules.specs.ChangeLog.{isAddition, logsAddition, mainTarget, logsMain, isSnapshotRemoval, logsRemoval}
+use Rattle.rules.specs.ChangeLog.{ofSnapshots, addition, isAddition, logsAddition, mainTarget, logsMain, removal, isSnapshotRemoval, logsRemoval}
+use Rattle.rules.specs.ChangeLog.OfSnapshots.{Nothing}
 use Rattle.rules.specs.Replay.{isEmptySchemaRemoval, strip}
 use Rattle.rules.proofs.ReplayLists.{keep-append, keep-keep, any-append, any-kept, collect-kept}
 
--- ---- what is dropped adds no snapshot, sets no `main` and removes no snapshot
+-- ---- what is dropped says nothing of snapshots
+
+dropped-says-nothing : (u : Update) → not (isEmptySchemaRemoval u) ≡ false → ofSnapshots u ≡ Nothing
+dropped-says-nothing (AssignUuid uuid) e = refl
+dropped-says-nothing (UpgradeFormatVersion v) e = refl
+dropped-says-nothing (SetLocation location) e = refl
+dropped-says-nothing (AddSnapshot s) e = absurd (true≢false e)
+dropped-says-nothing (SetBranchSnapshot name s) e = absurd (true≢false e)
+dropped-says-nothing (RemoveSnapshots ids) e = absurd (true≢false e)
+dropped-says-nothing (SetRef name r) e = absurd (true≢false e)
+dropped-says-nothing (RemoveRef name) e = refl
+dropped-says-nothing (AddSchema s) e = refl
+dropped-says-nothing (SetCurrentSchema c) e = refl
+dropped-says-nothing (RemoveSchemas ids) e = refl
+dropped-says-nothing (AddSortOrder o) e = refl
+dropped-says-nothing (SetDefaultSortOrder c) e = refl
+dropped-says-nothing (SetStatistics which f) e = refl
+dropped-says-nothing (RemoveStatistics which id) e = refl
+dropped-says-nothing (NotFormed counts) e = refl
 
 dropped-adds-none : (id : ℤ) (u : Update) → not (isEmptySchemaRemoval u) ≡ false → isAddition id u ≡ false
-dropped-adds-none id (AssignUuid uuid) e = refl
-dropped-adds-none id (UpgradeFormatVersion v) e = refl
-dropped-adds-none id (SetLocation location) e = refl
-dropped-adds-none id (AddSnapshot s) e = absurd (true≢false e)
-dropped-adds-none id (SetBranchSnapshot name s) e = refl
-dropped-adds-none id (RemoveSnapshots ids) e = refl
-dropped-adds-none id (SetRef name r) e = refl
-dropped-adds-none id (RemoveRef name) e = refl
-dropped-adds-none id (AddSchema s) e = refl
-dropped-adds-none id (SetCurrentSchema c) e = refl
-dropped-adds-none id (RemoveSchemas ids) e = refl
-dropped-adds-none id (AddSortOrder o) e = refl
-dropped-adds-none id (SetDefaultSortOrder c) e = refl
-dropped-adds-none id (SetStatistics which f) e = refl
-dropped-adds-none id (RemoveStatistics which c) e = refl
-dropped-adds-none id (NotFormed counts) e = refl
+dropped-adds-none id u e = rw (dropped-says-nothing u e, addition)
 
 dropped-sets-no-main : (u : Update) → not (isEmptySchemaRemoval u) ≡ false → mainTarget u ≡ none
-dropped-sets-no-main (AssignUuid uuid) e = refl
-dropped-sets-no-main (UpgradeFormatVersion v) e = refl
-dropped-sets-no-main (SetLocation location) e = refl
-dropped-sets-no-main (AddSnapshot s) e = refl
-dropped-sets-no-main (SetBranchSnapshot name s) e = refl
-dropped-sets-no-main (RemoveSnapshots ids) e = refl
-dropped-sets-no-main (SetRef name r) e = absurd (true≢false e)
-dropped-sets-no-main (RemoveRef name) e = refl
-dropped-sets-no-main (AddSchema s) e = refl
-dropped-sets-no-main (SetCurrentSchema c) e = refl
-dropped-sets-no-main (RemoveSchemas ids) e = refl
-dropped-sets-no-main (AddSortOrder o) e = refl
-dropped-sets-no-main (SetDefaultSortOrder c) e = refl
-dropped-sets-no-main (SetStatistics which f) e = refl
-dropped-sets-no-main (RemoveStatistics which id) e = refl
-dropped-sets-no-main (NotFormed counts) e = refl
+dropped-sets-no-main u e = rw (dropped-says-nothing u e, mainTarget)
 
 dropped-removes-none : (u : Update) → not (isEmptySchemaRemoval u) ≡ false → isSnapshotRemoval u ≡ false
-dropped-removes-none (AssignUuid uuid) e = refl
-dropped-removes-none (UpgradeFormatVersion v) e = refl
-dropped-removes-none (SetLocation location) e = refl
-dropped-removes-none (AddSnapshot s) e = refl
-dropped-removes-none (SetBranchSnapshot name s) e = refl
-dropped-removes-none (RemoveSnapshots ids) e = absurd (true≢false e)
-dropped-removes-none (SetRef name r) e = refl
-dropped-removes-none (RemoveRef name) e = refl
-dropped-removes-none (AddSchema s) e = refl
-dropped-removes-none (SetCurrentSchema c) e = refl
-dropped-removes-none (RemoveSchemas ids) e = refl
-dropped-removes-none (AddSortOrder o) e = refl
-dropped-removes-none (SetDefaultSortOrder c) e = refl
-dropped-removes-none (SetStatistics which f) e = refl
-dropped-removes-none (RemoveStatistics which id) e = refl
-dropped-removes-none (NotFormed counts) e = refl
+dropped-removes-none u e = rw (dropped-says-nothing u e, removal)
 
 -- ---- the three facts
 

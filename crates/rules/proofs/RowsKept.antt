@@ -26,7 +26,8 @@ use Rattle.rules.specs.OrderUpdates.{reusedOrder, addSortOrder, setDefau
 use Rattle.rules.specs.Register.StatisticsTable.{Statistics, PartitionStatistics}
 use Rattle.rules.specs.StatisticsUpdates.{hasFileOf, setStatistics, removeStatistics}
 use Rattle.rules.specs.Updates.{checks, updateNumber, effect}
-use Rattle.rules.specs.Rows.{newSnapshot, newSnapshots, endOf}
+use Rattle.rules.specs.ChangeLog.{newSnapshot}
+use Rattle.rules.specs.Rows.{newSnapshots, endOf}
 use Rattle.rules.proofs.Checks.{by-test, by-option, and-right, passed, passed-before, passed-after}
 use Rattle.rules.proofs.SoundSnapshots.{add-snapshot-numbered}
 use Rattle.rules.proofs.SoundUpdates.{accepted-form, accepted-checks}

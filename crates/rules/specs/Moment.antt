@@ -8,9 +8,8 @@ use lib.ListN.{length}
 use lib.Signed.{leZ}
 use Rattle.rules.specs.Words.{all, any, keep, lastOf, afterLast}
 use Rattle.rules.specs.Register.{LogEntry, Metadata, Update}
-use Rattle.rules.specs.Register.Update.{AssignUuid, UpgradeFormatVersion, SetLocation, AddSnapshot, SetBranchSnapshot, RemoveSnapshots, SetRef, RemoveRef, AddSchema, SetCurrentSchema, RemoveSchemas, AddSortOrder, SetDefaultSortOrder, SetStatistics, RemoveStatistics, NotFormed}
 use Rattle.rules.specs.WellFormed.{holdsSnapshot}
-use Rattle.rules.specs.ChangeLog.{logsAddition}
+use Rattle.rules.specs.ChangeLog.{removedIds, logsAddition}
 
 -- ---- the answer
 
@@ -31,25 +30,6 @@ entriesRead time log = cond (any (isBy time) log) (length (afterLast (isBy time)
 -- every snapshot that the history names is held
 unfoldable pub isWhole : Metadata → Bool
 isWhole m = all (λ e. holdsSnapshot (m .snapshots) (e .snapshot)) (m .snapshotLog)
-
--- the snapshots that an update removes
-abbrev pub removedIds : Update → List ℤ
-removedIds (AssignUuid uuid) = []
-removedIds (UpgradeFormatVersion v) = []
-removedIds (SetLocation location) = []
-removedIds (AddSnapshot s) = []
-removedIds (SetBranchSnapshot name s) = []
-removedIds (RemoveSnapshots ids) = ids
-removedIds (SetRef name r) = []
-removedIds (RemoveRef name) = []
-removedIds (AddSchema s) = []
-removedIds (SetCurrentSchema id) = []
-removedIds (RemoveSchemas ids) = []
-removedIds (AddSortOrder o) = []
-removedIds (SetDefaultSortOrder id) = []
-removedIds (SetStatistics which f) = []
-removedIds (RemoveStatistics which id) = []
-removedIds (NotFormed counts) = []
 
 -- the snapshots that a change log removes
 abbrev pub logsRemoved : List Update → List ℤ

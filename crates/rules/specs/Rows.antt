@@ -5,7 +5,6 @@ use Prim.Native.Nat.{ℕ, _≤_, _<_}
 use mathlib.Core.Path.{_≡_}
 use mathlib.Core.Bool.{Bool, true, _&&_, _||_}
 use mathlib.Core.List.{List, [], _∷_, _++_}
-use mathlib.Core.Option.{Option, none, some}
 use lib.Dec.{eqb, leb, ltb}
 use lib.ListN.{length, getD}
 use Rattle.rules.specs.Words.{isSome, ifSome, all, collect, ascending}
@@ -13,32 +12,13 @@ use Rattle.rules.specs.Capacities.{largestRowId}
 use Rattle.rules.specs.RowIds.{rangeEnd}
 use Rattle.rules.specs.Register.{RowRange, Snapshot, Metadata, Update, Terms, Outcome}
 use Rattle.rules.specs.Register.Outcome.{Refused, Accepted}
-use Rattle.rules.specs.Register.Update.{AssignUuid, UpgradeFormatVersion, SetLocation, AddSnapshot, SetBranchSnapshot, RemoveSnapshots, SetRef, RemoveRef, AddSchema, SetCurrentSchema, RemoveSchemas, AddSortOrder, SetDefaultSortOrder, SetStatistics, RemoveStatistics, NotFormed}
+use Rattle.rules.specs.ChangeLog.{newSnapshot}
 use Rattle.rules.specs.SnapshotUpdates.{isVersion3}
 use Rattle.rules.specs.Run.{run}
 
 -- ---- the snapshots and the ranges that a sequence of runs adds
 
--- the snapshot that an update is to add: a log has no branch commits, a list may
-abbrev pub newSnapshot : Update → Option Snapshot
-newSnapshot (AssignUuid uuid) = none
-newSnapshot (UpgradeFormatVersion v) = none
-newSnapshot (SetLocation location) = none
-newSnapshot (AddSnapshot s) = some s
-newSnapshot (SetBranchSnapshot name s) = some s
-newSnapshot (RemoveSnapshots ids) = none
-newSnapshot (SetRef name r) = none
-newSnapshot (RemoveRef name) = none
-newSnapshot (AddSchema s) = none
-newSnapshot (SetCurrentSchema id) = none
-newSnapshot (RemoveSchemas ids) = none
-newSnapshot (AddSortOrder o) = none
-newSnapshot (SetDefaultSortOrder id) = none
-newSnapshot (SetStatistics which f) = none
-newSnapshot (RemoveStatistics which id) = none
-newSnapshot (NotFormed counts) = none
-
--- those of a list of updates, or of a change log, in order
+-- those that a list of updates, or a change log, is to add, in order
 unfoldable pub newSnapshots : List Update → List Snapshot
 newSnapshots us = collect newSnapshot us
 
