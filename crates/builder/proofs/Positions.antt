@@ -13,7 +13,7 @@ use lib.Signed.{ltZ}
 use Rattle.rules.specs.Words.{eqZ, lastOf, isIn, ascending}
 use Rattle.rules.specs.Register.{Snapshot}
 use Rattle.rules.specs.WellFormed.{hasSnapshot, holdsSnapshot, snapshotBelow}
-use Rattle.rules.proofs.Tables.{ascending-read}
+use Rattle.rules.proofs.Tables.{pairs-read}
 use Rattle.search.specs.Places.{indexOf}
 use Rattle.search.proofs.Places.{index-below, eqZ-turned}
 use Rattle.builder.specs.Pieces.{idsOf}
@@ -37,7 +37,7 @@ in-held (s ∷ l) id = rw (eqZ-turned id (s .id), in-held l id)
 
 -- the ids of a table ascend
 pub ids-ascend : (l : List Snapshot) → ascending snapshotBelow l ≡ true → ascending ltZ (idsOf l) ≡ true
-ids-ascend l h = ascending-read (λ (s : Snapshot). s .id) ltZ l ∙ h
+ids-ascend l h = pairs-read (λ (s : Snapshot). s .id) ltZ l ∙ h
 
 -- ---- the last
 

@@ -10,7 +10,7 @@ use lib.Seq.{drop-cons, length-take-le, getD-take}
 use Rattle.rules.specs.Words.{ascending}
 use Rattle.rules.specs.Layout.{counted}
 use Rattle.rules.proofs.Orders.{Ordered}
-use Rattle.rules.proofs.Tables.{byKey, ascending-read, ascending-two}
+use Rattle.rules.proofs.Tables.{byKey, pairs-read, ascending-two}
 use Rattle.formed.proofs.Scans.{Scanned, scan-start, scan-on}
 use Rattle.formed.proofs.Counted.{read-taken}
 
@@ -54,4 +54,4 @@ module _ {A B K : Type 0} {lt : K → K → Bool} {key : B → K} {rd : A → B}
         let below : A → A → Bool = byKey lt (λ (x : A). key (rd x)) in
         let f : ascending below (drop (i - 1) l) ≡ true = few below (drop (i - 1) l) (rw (length-drop, m) (omega (arith, s .after))) in
         let r : ok ≡ ascending below l = sym (s .upto .so ∙ rw f (and-true ok)) in
-        r ∙ sym (rw (read-taken rd b items n (s .fits)) (ascending-read rd (byKey lt key) l))
+        r ∙ sym (rw (read-taken rd b items n (s .fits)) (pairs-read rd (byKey lt key) l))

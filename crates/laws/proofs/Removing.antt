@@ -22,7 +22,7 @@ use Rattle.rules.specs.Layout.{pad, readSnapshots, laidSnapshots, readRefs, lai
 use Rattle.rules.specs.Kinds.{readUpdates}
 use Rattle.rules.proofs.Checks.{by-test}
 use Rattle.rules.proofs.Reread.{reread-snapshots}
-use Rattle.rules.proofs.Tables.{keep-length, ascending-keep}
+use Rattle.rules.proofs.Tables.{keep-length, pairs-keep}
 use Rattle.tables.specs.Laid.{LaidSnapshots}
 use Rattle.builder.specs.declared.decision.Decision.{Decision}
 use Rattle.builder.specs.Pieces.{laidBuilder, idsOf}
@@ -77,7 +77,7 @@ module _ {g : Given} {i : ℕ} {p : Pieces} (S : Standing g i p) (v : Update) (a
   left-lent {t} {is} x y =
       let q : readSnapshots t ≡ kept = rw x (reread-snapshots kept) in
       let z : is ≡ pad 64 (pos 0) (idsOf kept) = y ∙ rw q in
-      (lent-within kept x z kept-fit, lent-slice kept x z, lent-ascends kept x z (ascending-keep snapshotBelow (λ s. not (isIn xs (s .id))) (readSnapshots (p .held .snapshots)) (snapshots-ascend (S .stands))))
+      (lent-within kept x z kept-fit, lent-slice kept x z, lent-ascends kept x z (pairs-keep snapshotBelow (λ s. not (isIn xs (s .id))) (readSnapshots (p .held .snapshots)) (snapshots-ascend (S .stands))))
 
   -- the tables after it, whether it is logged or not
   tables : {t : Snapshots} {is : List ℤ} {r : Refs} → t ≡ laidSnapshots (otherSnapshots xs (readSnapshots (p .held .snapshots))) → is ≡ pad 64 (pos 0) (idsOf (readSnapshots t)) → r ≡ laidRefs (keep (λ y. isIn (take (t .count) is) (y .reference .snapshot)) (readRefs (p .held .refs)))

@@ -11,13 +11,13 @@ use lib.Dec.{leb}
 use lib.ListN.{length, getD, drop, take, drop-of-length-le}
 use lib.Seq.{drop-cons, take-all}
 use Rattle.rules.specs.Words.{all}
-use Rattle.rules.specs.Capacities.{largestRowId}
+use Rattle.rules.specs.Capacities.{largestUnsigned}
 use Rattle.rules.specs.Limit.{afterPlus, isDigit, decimal, defaultLimit}
 use Rattle.leaves.specs.Limit.{digitsLimit}
 
 -- the limit that the number so far and the digits after it write
 unfoldable pub limitFrom : ℕ → List ℕ → ℕ
-limitFrom v bs = cond (all isDigit bs && leb (decimal v bs) largestRowId) (max 1 (decimal v bs)) defaultLimit
+limitFrom v bs = cond (all isDigit bs && leb (decimal v bs) largestUnsigned) (max 1 (decimal v bs)) defaultLimit
 
 pub no-digits : (bs : List ℕ) → length bs ≡ 0 → digitsLimit bs ≡ defaultLimit
 unfolding digitsLimit
@@ -29,9 +29,9 @@ unfolding digitsLimit limitFrom
 at-first [] h = absurd (h refl)
 at-first (b ∷ bs) h = refl
 
-pub at-last : (v : ℕ) (bs : List ℕ) (i : ℕ) → v ≤ largestRowId → length bs ≤ i → limitFrom v (drop i bs) ≡ max 1 v
+pub at-last : (v : ℕ) (bs : List ℕ) (i : ℕ) → v ≤ largestUnsigned → length bs ≤ i → limitFrom v (drop i bs) ≡ max 1 v
 unfolding limitFrom
-at-last v bs i h e = rw (drop-of-length-le bs e, le-leb v largestRowId h)
+at-last v bs i h e = rw (drop-of-length-le bs e, le-leb v largestUnsigned h)
 
 module _ (v : ℕ) (bs : List ℕ) (i : ℕ) (h : i < length bs) where
   pub not-digit : isDigit (getD bs i 0) ≡ false → limitFrom v (drop i bs) ≡ defaultLimit
@@ -47,10 +47,10 @@ grows : (v : ℕ) (bs : List ℕ) → v ≤ decimal v bs
 grows v [] = omega arith
 grows v (b ∷ bs) = omega (arith, grows (v * 10 + (b - 48)) bs)
 
-pub too-large : (v : ℕ) (bs : List ℕ) → largestRowId < v → limitFrom v bs ≡ defaultLimit
+pub too-large : (v : ℕ) (bs : List ℕ) → largestUnsigned < v → limitFrom v bs ≡ defaultLimit
 unfolding limitFrom
 too-large v bs h =
-    rw (lt-leb (decimal v bs) largestRowId (omega (arith, grows v bs))) (cases (all isDigit bs) (λ t. rw t) (λ f. rw f))
+    rw (lt-leb (decimal v bs) largestUnsigned (omega (arith, grows v bs))) (cases (all isDigit bs) (λ t. rw t) (λ f. rw f))
 
 -- a digit lies from `0` to `9`
 pub digit-from : (b : ℕ) → isDigit b ≡ true → (48 ≤ b) × (b ≤ 57)

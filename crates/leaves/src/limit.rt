@@ -2,7 +2,7 @@
 ghost use mathlib.Core.Path.{_≡_};
 ghost use Prim.Native.Nat.{_+_, _*_};
 ghost use lib.Dec.{leb};
-ghost use Rattle.rules.specs.Capacities.{largestRowId};
+ghost use Rattle.rules.specs.Capacities.{largestUnsigned};
 ghost use Rattle.rules.specs.Limit.{afterPlus, isDigit, limitOf};
 ghost use Rattle.leaves.specs.Limit.{digitsLimit};
 
@@ -22,7 +22,7 @@ fn wide(byte: u8) -> u64
 
 // Whether the number with one more digit is at most 2^64 - 1.
 fn has_room(number: u64, digit: u64) -> bool
-    ensures { λ r. ⌜ r ≡ leb (number * 10 + digit) largestRowId ⌝ }
+    ensures { λ r. ⌜ r ≡ leb (number * 10 + digit) largestUnsigned ⌝ }
 {
     if number > u64::MAX / 10 {
         return false;

@@ -11,7 +11,7 @@ use borrow.Table.Steps.{cases}
 use lib.Dec.{eqb, leb, ltb}
 use lib.ListN.{length, length-append}
 use Rattle.rules.specs.Words.{all}
-use Rattle.rules.specs.Capacities.{largestRowId}
+use Rattle.rules.specs.Capacities.{largestUnsigned}
 use Rattle.rules.specs.Limit.{limitOf, isDigit, isNumber, decimal, afterPlus, defaultLimit}
 use Rattle.longtext.specs.LimitText.{isZero, isSpare, keepByte, keepBytes}
 
@@ -76,7 +76,7 @@ too-large a b t e h =
     let q = both (isDigit b) (all isDigit t) (p .1) in
     let v = (a - 48) * 10 + (b - 48) in
     let w : 0 * 10 + (a - 48) ≡ a - 48 = omega arith in
-    rw (d, w, lt-leb (decimal v t) largestRowId (omega (arith, reaches 20 0 v t (worth a b (p .0) (q .0) e) h))))
+    rw (d, w, lt-leb (decimal v t) largestUnsigned (omega (arith, reaches 20 0 v t (worth a b (p .0) (q .0) e) h))))
     (λ n. rw n)
 
 -- ---- what is kept never begins with two zeros, after a `+` or not

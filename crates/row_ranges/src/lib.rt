@@ -1,16 +1,13 @@
 // Whether the row ranges that metadata holds are apart. Where they are, no run gives out a row id twice from then on, so an archive asks once.
-// Document 02, request (xiii), as the crate `rules` writes it in Rows.
+// Document 02, request (xiii), speaks of the ranges that runs add. The test of those that are held is this project's own: the crate `rules` writes it in Rows.
 ghost use mathlib.Core.Path.{_≡_};
-ghost use mathlib.Core.Bool.{_&&_};
 ghost use Prim.Native.Nat.{_≤_};
 ghost use lib.Dec.{leb};
 ghost use lib.ListN.{drop};
-ghost use Rattle.rules.specs.Words.{all, ascending};
-ghost use Rattle.rules.specs.WellFormed.{metadataFormed};
-ghost use Rattle.rules.specs.Blanks.{isTidyMetadata};
-ghost use Rattle.rules.specs.Layout.{readSnapshot, readSnapshots, readMetadata};
+ghost use Rattle.rules.specs.Words.{all, eachPair};
+ghost use Rattle.rules.specs.Layout.{readSnapshot, readSnapshots};
 ghost use Rattle.rules.specs.RowIds.{rangeEnd};
-ghost use Rattle.rules.specs.Rows.{rowsApart, rowsEndBy, isApart};
+ghost use Rattle.rules.specs.Rows.{rowsDisjoint, rowsEndBy, isFormedAndApart};
 ghost use Rattle.tables.specs.Laid.{LaidSnapshots};
 use records::counters::RowId;
 use records::metadata::TableMetadata;
@@ -20,7 +17,7 @@ use records::snapshot::Snapshots;
 // The format version from which on row ids are given out.
 const ROWS_FROM: u8 = 3;
 
-// The range ends at the bound or before it; its end may be above the largest row id.
+// The range ends at the bound or before it; its end may be above 2^64 - 1.
 fn ends_by(first: RowId, added: u64, bound: RowId) -> bool
     ensures { λ r. ⌜ r ≡ leb (rangeEnd first added) (bound .0) ⌝ }
 {
@@ -39,8 +36,8 @@ fn rows_end_by(s: Snapshot, next: RowId) -> bool
 }
 
 // No row id lies in both ranges, where both have one.
-fn are_apart(a: Snapshot, b: Snapshot) -> bool
-    ensures { λ r. ⌜ r ≡ rowsApart (readSnapshot a) (readSnapshot b) ⌝ }
+fn rows_disjoint(a: Snapshot, b: Snapshot) -> bool
+    ensures { λ r. ⌜ r ≡ rowsDisjoint (readSnapshot a) (readSnapshot b) ⌝ }
 {
     let none = !a.has_rows | !b.has_rows;
     let empty = (a.added_rows == 0) | (b.added_rows == 0);
@@ -51,26 +48,26 @@ fn are_apart(a: Snapshot, b: Snapshot) -> bool
     none | (empty | (before | after))
 }
 
-// A snapshot's range is apart from those of the table from a place on.
-fn is_apart_from(a: Snapshot, t: Snapshots, from: usize) -> bool
+// A snapshot's range is disjoint from those of the table from a place on.
+fn disjoint_from(a: Snapshot, t: Snapshots, from: usize) -> bool
     requires { ⌜ LaidSnapshots t ⌝ }
     requires { ⌜ from ≤ t .count ⌝ }
-    ensures { λ r. ⌜ r ≡ all (rowsApart (readSnapshot a)) (drop from (readSnapshots t)) ⌝ }
+    ensures { λ r. ⌜ r ≡ all (rowsDisjoint (readSnapshot a)) (drop from (readSnapshots t)) ⌝ }
 {
     let n = t.count;
     let mut ok = true;
     let mut i = from;
     while i < n {
         let b = t.items[i];
-        ok = ok & are_apart(a, b);
+        ok = ok & rows_disjoint(a, b);
         i += 1;
     }
     ok
 }
 
-fn all_apart(t: Snapshots) -> bool
+fn all_disjoint(t: Snapshots) -> bool
     requires { ⌜ LaidSnapshots t ⌝ }
-    ensures { λ r. ⌜ r ≡ ascending rowsApart (readSnapshots t) ⌝ }
+    ensures { λ r. ⌜ r ≡ eachPair rowsDisjoint (readSnapshots t) ⌝ }
 {
     let n = t.count;
     let mut ok = true;
@@ -78,7 +75,7 @@ fn all_apart(t: Snapshots) -> bool
     while i < n {
         let a = t.items[i];
         i += 1;
-        ok = ok & is_apart_from(a, t, i);
+        ok = ok & disjoint_from(a, t, i);
     }
     ok
 }
@@ -98,9 +95,9 @@ fn all_end_by(t: Snapshots, next: RowId) -> bool
     ok
 }
 
-// Well formed, version 3, the held ranges apart from each other and each ended by the next row id.
+// Well formed, version 3, each two held ranges disjoint, and each ended by the next row id.
 pub fn rows_apart(m: TableMetadata) -> bool
-    ensures { λ r. ⌜ r ≡ (isTidyMetadata m && metadataFormed (readMetadata m) && isApart (readMetadata m)) ⌝ }
+    ensures { λ r. ⌜ r ≡ isFormedAndApart m ⌝ }
 {
     let fields = m.fields;
     let next = fields.next_row_id;
@@ -109,5 +106,5 @@ pub fn rows_apart(m: TableMetadata) -> bool
     if !formed::metadata::is_formed(m) {
         return false;
     }
-    (version == ROWS_FROM) & (all_apart(snapshots) & all_end_by(snapshots, next))
+    (version == ROWS_FROM) & (all_disjoint(snapshots) & all_end_by(snapshots, next))
 }

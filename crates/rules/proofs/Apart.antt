@@ -8,7 +8,7 @@ use mathlib.Core.Option.{Option, none, some}
 use lib.Dec.{eqb, leb}
 use lib.IntN.{ℤ}
 use borrow.Author.Tests.{leb-true, le-leb, eqb-true, eq-eqb}
-use Rattle.rules.specs.Words.{ifSome, all, isIn, ascending}
+use Rattle.rules.specs.Words.{ifSome, all, isIn, eachPair}
 use Rattle.rules.specs.Replies.{accepted}
 use Rattle.rules.specs.Register.{RowRange, Snapshot, FileEntry, Metadata, Update, Terms, State}
 use Rattle.rules.specs.Register.Outcome.{Accepted}
@@ -18,9 +18,9 @@ use Rattle.rules.specs.Updates.{updateNumber, effect}
 use Rattle.rules.specs.Close.{closed}
 use Rattle.rules.specs.Run.{runFrom, started, run}
 use Rattle.rules.specs.Run.Ran.{Reached}
-use Rattle.rules.specs.Rows.{nextRowOf, endOf, apart, rowsApart, rowsEndBy, isApart}
+use Rattle.rules.specs.Rows.{nextRowOf, endOf, areDisjoint, rowsDisjoint, rowsEndBy, isApart}
 use Rattle.rules.proofs.Checks.{only-then, or-left, or-right, Hold, parts, whole}
-use Rattle.rules.proofs.Tables.{all-then, all-keep, all-put, ascending-keep, all-stand-put}
+use Rattle.rules.proofs.Tables.{all-then, all-keep, all-put, pairs-keep, pairs-put}
 use Rattle.rules.proofs.AcceptedRun.{Ends, run-accepted}
 use Rattle.rules.proofs.SoundRun.{not-reached, same-state}
 use Rattle.rules.proofs.RowsKept.{View, Keeps, Ranged, add-ranged, add-reaches, Step, leaves, removes, adds, effect-step}
@@ -28,12 +28,12 @@ use Rattle.rules.proofs.RowsKept.{View, Keeps, Ranged, add-ranged, add-
 -- the test passed, part by part
 pub record Passes (m : Metadata) : Type 0 where
   pub version : m .fields .version ≡ 3
-  pub ranges : ascending rowsApart (m .snapshots) ≡ true
+  pub ranges : eachPair rowsDisjoint (m .snapshots) ≡ true
   pub ends : all (rowsEndBy (nextRowOf m)) (m .snapshots) ≡ true
 
 -- the parts of the test after the first
 abbrev furtherParts : Metadata → List Bool
-furtherParts m = ascending rowsApart (m .snapshots) ∷ all (rowsEndBy (nextRowOf m)) (m .snapshots) ∷ []
+furtherParts m = eachPair rowsDisjoint (m .snapshots) ∷ all (rowsEndBy (nextRowOf m)) (m .snapshots) ∷ []
 
 pub apart-passes : (m : Metadata) → isApart m ≡ true → Passes m
 unfolding isApart
@@ -49,7 +49,7 @@ apart-kept : (a b : State) → Keeps a b → Passes (a .metadata) → Passes (b 
 apart-kept a b k p =
     record {
       version = ap (λ (v : View). v .version) k ∙ p .version;
-      ranges = subst (λ (v : View). ascending rowsApart (v .held) ≡ true) (sym k) (p .ranges);
+      ranges = subst (λ (v : View). eachPair rowsDisjoint (v .held) ≡ true) (sym k) (p .ranges);
       ends = subst (λ (v : View). all (rowsEndBy (v .nextRow .0)) (v .held) ≡ true) (sym k) (p .ends);
     }
 
@@ -59,25 +59,25 @@ without-apart : (ids : List ℤ) (st : State) → Passes (st .metadata) → Pass
 without-apart ids st p =
     let m : Metadata = st .metadata in
     let stays : Snapshot → Bool = λ s. not (isIn ids (s .id)) in
-    record { version = p .version; ranges = ascending-keep rowsApart stays (m .snapshots) (p .ranges); ends = all-keep (rowsEndBy (nextRowOf m)) stays (m .snapshots) (p .ends) }
+    record { version = p .version; ranges = pairs-keep rowsDisjoint stays (m .snapshots) (p .ranges); ends = all-keep (rowsEndBy (nextRowOf m)) stays (m .snapshots) (p .ends) }
 
 -- ---- an addition
 
--- a range that ends by the beginning of another is apart from it, either way round
-after-apart : (a b : RowRange) → endOf a ≤ b .first .0 → (apart a b ≡ true) × (apart b a ≡ true)
-after-apart a b h =
+-- a range that ends by the beginning of another is disjoint from it, either way round
+after-disjoint : (a b : RowRange) → endOf a ≤ b .first .0 → (areDisjoint a b ≡ true) × (areDisjoint b a ≡ true)
+after-disjoint a b h =
     let e : leb (endOf a) (b .first .0) ≡ true = le-leb (endOf a) (b .first .0) h in
     (or-left (leb (endOf b) (a .first .0)) (or-right (eqb (a .added) 0 || eqb (b .added) 0) e), or-right (eqb (b .added) 0 || eqb (a .added) 0 || leb (endOf b) (a .first .0)) e)
 
 module _ (s : Snapshot) (next : ℕ) (k : Ranged s next) where
   -- the new snapshot and a held one, whose range ends by next row id
-  new-apart : (t : Snapshot) → rowsEndBy next t ≡ true → (rowsApart s t ≡ true) × (rowsApart t s ≡ true)
-  new-apart t h = rw (k .has) (by-rows (t .rows) h)
+  new-disjoint : (t : Snapshot) → rowsEndBy next t ≡ true → (rowsDisjoint s t ≡ true) × (rowsDisjoint t s ≡ true)
+  new-disjoint t h = rw (k .has) (by-rows (t .rows) h)
     where
       by-rows : (o : Option RowRange) → ifSome (λ (a : RowRange). leb (endOf a) next) o ≡ true
-          → (ifSome (apart (k .range)) o ≡ true) × (ifSome (λ (a : RowRange). ifSome (apart a) (some (k .range))) o ≡ true)
+          → (ifSome (areDisjoint (k .range)) o ≡ true) × (ifSome (λ (a : RowRange). ifSome (areDisjoint a) (some (k .range))) o ≡ true)
       by-rows none h = (refl, refl)
-      by-rows (some a) h = let p = after-apart a (k .range) (omega (arith, leb-true (endOf a) next h, k .begins)) in (p .1, p .0)
+      by-rows (some a) h = let p = after-disjoint a (k .range) (omega (arith, leb-true (endOf a) next h, k .begins)) in (p .1, p .0)
 
   -- a held range ends by the new next row id too
   ends-later : (t : Snapshot) → rowsEndBy next t ≡ true → rowsEndBy (endOf (k .range)) t ≡ true
@@ -98,9 +98,9 @@ add-apart s st k p =
     record {
       version = p .version;
       ranges =
-          all-stand-put rowsApart snapshotBelow s l
-          (all-then (rowsEndBy next) (rowsApart s) (λ t h. new-apart s next k t h .0) l (p .ends))
-          (all-then (rowsEndBy next) (λ t. rowsApart t s) (λ t h. new-apart s next k t h .1) l (p .ends))
+          pairs-put rowsDisjoint snapshotBelow s l
+          (all-then (rowsEndBy next) (rowsDisjoint s) (λ t h. new-disjoint s next k t h .0) l (p .ends))
+          (all-then (rowsEndBy next) (λ t. rowsDisjoint t s) (λ t h. new-disjoint s next k t h .1) l (p .ends))
           (p .ranges);
       ends =
           rw (add-reaches s st (k .range) (p .version) (k .has))

@@ -10,15 +10,15 @@ use lib.Dec.{leb}
 use lib.IntN.{pos}
 use lib.ListN.{length, getD}
 use borrow.Author.Tests.{leb-true, le-leb}
-use Rattle.rules.specs.Words.{ifSome, all, collect, ascending}
+use Rattle.rules.specs.Words.{ifSome, all, collect, eachPair}
 use Rattle.rules.specs.Register.{RowRange, Snapshot, Metadata}
 use Rattle.rules.specs.Run.{run}
-use Rattle.rules.specs.Rows.{rangesOf, Given, answeredFrom, addedOver, nextRowOf, endOf, hasRow, rangeAt, NoRowTwice, Disjoint, apart, rowsApart, isApart, Apart}
+use Rattle.rules.specs.Rows.{rangesOf, Given, answeredFrom, addedOver, nextRowOf, endOf, hasRow, rangeAt, NoRowTwice, Disjoint, areDisjoint, rowsDisjoint, isApart, MeansApart}
 use Rattle.rules.specs.Examples.{snapRows, register, ranged}
 use Rattle.rules.proofs.Examples.{computed}
 use Rattle.rules.proofs.Checks.{both}
-use Rattle.rules.proofs.Tables.{all-at, ascending-head, ascending-tail}
-use Rattle.rules.proofs.Ranges.{row-placed, earlier-later, apart-shares-none, shares-none-apart}
+use Rattle.rules.proofs.Tables.{all-at, pairs-head, pairs-tail}
+use Rattle.rules.proofs.Ranges.{row-placed, earlier-later, disjoint-shares-none, shares-none-disjoint}
 use Rattle.rules.proofs.Rows.{rows-disjoint, from10, threeRuns}
 use Rattle.rules.proofs.Apart.{Passes, apart-passes, passes-apart}
 
@@ -44,33 +44,33 @@ all-collect {A} {B} f p (x ∷ l) = go (f x) (all-collect f p l)
 
 -- ---- the ranges of the snapshots are asked as the snapshots are
 
-ranges-apart : (l : List Snapshot) → ascending apart (rangesOf l) ≡ ascending rowsApart l
-ranges-apart [] = refl
-ranges-apart (s ∷ l) = go (s .rows) (ranges-apart l)
+ranges-disjoint : (l : List Snapshot) → eachPair areDisjoint (rangesOf l) ≡ eachPair rowsDisjoint l
+ranges-disjoint [] = refl
+ranges-disjoint (s ∷ l) = go (s .rows) (ranges-disjoint l)
   where
-    go : (o : Option RowRange) → ascending apart (rangesOf l) ≡ ascending rowsApart l
-        → ascending apart (elim o [ none ↦ rangesOf l | some r ↦ r ∷ rangesOf l ]) ≡ (all (λ (t : Snapshot). ifSome (λ (a : RowRange). ifSome (apart a) (t .rows)) o) l && ascending rowsApart l)
+    go : (o : Option RowRange) → eachPair areDisjoint (rangesOf l) ≡ eachPair rowsDisjoint l
+        → eachPair areDisjoint (elim o [ none ↦ rangesOf l | some r ↦ r ∷ rangesOf l ]) ≡ (all (λ (t : Snapshot). ifSome (λ (a : RowRange). ifSome (areDisjoint a) (t .rows)) o) l && eachPair rowsDisjoint l)
     go none ih = rw (all-true l) ih
-    go (some r) ih = rw (ih, all-collect (λ (t : Snapshot). t .rows) (apart r) l)
+    go (some r) ih = rw (ih, all-collect (λ (t : Snapshot). t .rows) (areDisjoint r) l)
 
 -- ---- ranges by position
 
 -- an earlier range is apart from a later one
-apart-at : (rs : List RowRange) → ascending apart rs ≡ true → (i j : ℕ) → i < j → j < length rs → apart (rangeAt rs i) (rangeAt rs j) ≡ true
-apart-at [] h i j k l = absurd (omega arith)
-apart-at (r ∷ rs) h i zero k l = absurd (omega arith)
-apart-at (r ∷ rs) h zero (suc j) k l = all-at (apart r) _ rs (ascending-head apart r rs h) j (omega arith)
-apart-at (r ∷ rs) h (suc i) (suc j) k l = apart-at rs (ascending-tail apart r rs h) i j (omega arith) (omega arith)
+disjoint-at : (rs : List RowRange) → eachPair areDisjoint rs ≡ true → (i j : ℕ) → i < j → j < length rs → areDisjoint (rangeAt rs i) (rangeAt rs j) ≡ true
+disjoint-at [] h i j k l = absurd (omega arith)
+disjoint-at (r ∷ rs) h i zero k l = absurd (omega arith)
+disjoint-at (r ∷ rs) h zero (suc j) k l = all-at (areDisjoint r) _ rs (pairs-head areDisjoint r rs h) j (omega arith)
+disjoint-at (r ∷ rs) h (suc i) (suc j) k l = disjoint-at rs (pairs-tail areDisjoint r rs h) i j (omega arith) (omega arith)
 
-apart-no-row-twice : (rs : List RowRange) → ascending apart rs ≡ true → NoRowTwice rs
-apart-no-row-twice rs h = earlier-later rs (λ i j row k l. apart-shares-none (rangeAt rs i) (rangeAt rs j) (apart-at rs h i j k l) row)
+disjoint-no-row-twice : (rs : List RowRange) → eachPair areDisjoint rs ≡ true → NoRowTwice rs
+disjoint-no-row-twice rs h = earlier-later rs (λ i j row k l. disjoint-shares-none (rangeAt rs i) (rangeAt rs j) (disjoint-at rs h i j k l) row)
 
-no-row-twice-apart : (rs : List RowRange) → NoRowTwice rs → ascending apart rs ≡ true
-no-row-twice-apart [] f = refl
-no-row-twice-apart (r ∷ rs) f =
+no-row-twice-disjoint : (rs : List RowRange) → NoRowTwice rs → eachPair areDisjoint rs ≡ true
+no-row-twice-disjoint [] f = refl
+no-row-twice-disjoint (r ∷ rs) f =
     both
-    (at-all (apart r) _ rs (λ j k. shares-none-apart r (rangeAt rs j) (λ row p q. let z : _≡_ {A = ℕ} 0 (suc j) = f 0 (suc j) row p q in omega arith)))
-    (no-row-twice-apart rs (λ i j row p q. let e : suc i ≡ suc j = f (suc i) (suc j) row p q in omega arith))
+    (at-all (areDisjoint r) _ rs (λ j k. shares-none-disjoint r (rangeAt rs j) (λ row p q. let z : _≡_ {A = ℕ} 0 (suc j) = f 0 (suc j) row p q in omega arith)))
+    (no-row-twice-disjoint rs (λ i j row p q. let e : suc i ≡ suc j = f (suc i) (suc j) row p q in omega arith))
 
 -- ---- the test
 
@@ -78,23 +78,23 @@ module _ (m : Metadata) where
   abbrev endsBy : RowRange → Bool
   endsBy r = leb (endOf r) (nextRowOf m)
 
-  pub apart-means : isApart m ≡ true → Apart m
+  pub apart-means : isApart m ≡ true → MeansApart m
   apart-means h =
       let k : Passes m = apart-passes m h in
       let rs : List RowRange = rangesOf (m .snapshots) in
       record {
         version = k .version;
-        no-row-twice = apart-no-row-twice rs (ranges-apart (m .snapshots) ∙ k .ranges);
+        no-row-twice = disjoint-no-row-twice rs (ranges-disjoint (m .snapshots) ∙ k .ranges);
         ends = λ i l. leb-true (endOf (rangeAt rs i)) (nextRowOf m) (all-at endsBy _ rs (all-collect (λ (s : Snapshot). s .rows) endsBy (m .snapshots) ∙ k .ends) i l);
       }
 
-  pub means-apart : Apart m → isApart m ≡ true
+  pub means-apart : MeansApart m → isApart m ≡ true
   means-apart a =
       let rs : List RowRange = rangesOf (m .snapshots) in
       passes-apart m
       (record {
         version = a .version;
-        ranges = sym (ranges-apart (m .snapshots)) ∙ no-row-twice-apart rs (a .no-row-twice);
+        ranges = sym (ranges-disjoint (m .snapshots)) ∙ no-row-twice-disjoint rs (a .no-row-twice);
         ends = sym (all-collect (λ (s : Snapshot). s .rows) endsBy (m .snapshots)) ∙ at-all endsBy _ rs (λ i l. le-leb (endOf (rangeAt rs i)) (nextRowOf m) (a .ends i l));
       })
 

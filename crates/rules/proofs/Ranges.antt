@@ -7,9 +7,9 @@ use mathlib.Core.List.{List, [], _∷_, _++_}
 use lib.Dec.{eqb, leb, ltb}
 use lib.ListN.{length}
 use borrow.Author.Tests.{ltb-true, ltb-false, leb-true, leb-false, eqb-true, eqb-false, le-leb, lt-ltb}
-use Rattle.rules.specs.Capacities.{largestRowId}
+use Rattle.rules.specs.Capacities.{largestUnsigned}
 use Rattle.rules.specs.Register.{RowRange, Snapshot}
-use Rattle.rules.specs.Rows.{rangesOf, endOf, hasRow, rangeAt, climbs, Ascend, NoRowTwice, Disjoint, apart}
+use Rattle.rules.specs.Rows.{rangesOf, endOf, hasRow, rangeAt, climbs, Ascend, NoRowTwice, Disjoint, areDisjoint}
 use Rattle.rules.proofs.Checks.{Hold, both, and-left, and-right, by-either, neither, parts}
 use Rattle.rules.proofs.ReplayLists.{collect-append}
 
@@ -28,14 +28,14 @@ reached-append n [] ts = refl
 reached-append n (r ∷ rs) ts = reached-append (endOf r) rs ts
 
 module _ (n : ℕ) (r : RowRange) (rs : List RowRange) (h : climbs n (r ∷ rs) ≡ true) where
-  climb-parts : Hold (leb n (r .first .0) ∷ leb (endOf r) largestRowId ∷ climbs (endOf r) rs ∷ [])
-  climb-parts = parts (leb n (r .first .0)) (leb (endOf r) largestRowId ∷ climbs (endOf r) rs ∷ []) h
+  climb-parts : Hold (leb n (r .first .0) ∷ leb (endOf r) largestUnsigned ∷ climbs (endOf r) rs ∷ [])
+  climb-parts = parts (leb n (r .first .0)) (leb (endOf r) largestUnsigned ∷ climbs (endOf r) rs ∷ []) h
 
   head-begins : n ≤ r .first .0
   head-begins = leb-true n (r .first .0) (climb-parts .0)
 
-  head-ends : endOf r ≤ largestRowId
-  head-ends = leb-true (endOf r) largestRowId (climb-parts .1 .0)
+  head-ends : endOf r ≤ largestUnsigned
+  head-ends = leb-true (endOf r) largestUnsigned (climb-parts .1 .0)
 
   tail-climbs : climbs (endOf r) rs ≡ true
   tail-climbs = climb-parts .1 .1 .0
@@ -62,8 +62,8 @@ begins-after-earlier n (r ∷ rs) h i zero k l = absurd (omega arith)
 begins-after-earlier n (r ∷ rs) h zero (suc j) k l = begins-after (endOf r) rs (tail-climbs n r rs h) j (omega arith)
 begins-after-earlier n (r ∷ rs) h (suc i) (suc j) k l = begins-after-earlier (endOf r) rs (tail-climbs n r rs h) i j (omega arith) (omega arith)
 
--- and ends by the largest row id
-ends-by-largest : (n : ℕ) (rs : List RowRange) → climbs n rs ≡ true → (j : ℕ) → j < length rs → endOf (rangeAt rs j) ≤ largestRowId
+-- and ends by 2^64 - 1
+ends-by-largest : (n : ℕ) (rs : List RowRange) → climbs n rs ≡ true → (j : ℕ) → j < length rs → endOf (rangeAt rs j) ≤ largestUnsigned
 ends-by-largest n [] h j l = absurd (omega arith)
 ends-by-largest n (r ∷ rs) h zero l = head-ends n r rs h
 ends-by-largest n (r ∷ rs) h (suc j) l = ends-by-largest (endOf r) rs (tail-climbs n r rs h) j (omega arith)
@@ -100,10 +100,10 @@ ascend-disjoint n rs a = record {
 
 -- ---- two ranges
 
--- ranges are apart exactly if no row id lies in both
+-- ranges are disjoint exactly if no row id lies in both
 module _ (a b : RowRange) where
-  pub apart-shares-none : apart a b ≡ true → (row : ℕ) → hasRow a row ≡ true → hasRow b row ≡ true → ⊥
-  apart-shares-none h row p q =
+  pub disjoint-shares-none : areDisjoint a b ≡ true → (row : ℕ) → hasRow a row ≡ true → hasRow b row ≡ true → ⊥
+  disjoint-shares-none h row p q =
       let k = row-lies a row p in
       let l = row-lies b row q in
       by-either (eqb (a .added) 0 || eqb (b .added) 0 || leb (endOf a) (b .first .0)) (leb (endOf b) (a .first .0))
@@ -113,8 +113,8 @@ module _ (a b : RowRange) where
       (λ e. omega (arith, leb-true (endOf b) (a .first .0) e))
       h
 
-  pub shares-none-apart : ((row : ℕ) → hasRow a row ≡ true → hasRow b row ≡ true → ⊥) → apart a b ≡ true
-  shares-none-apart f = go (apart a b) refl
+  pub shares-none-disjoint : ((row : ℕ) → hasRow a row ≡ true → hasRow b row ≡ true → ⊥) → areDisjoint a b ≡ true
+  shares-none-disjoint f = go (areDisjoint a b) refl
     where
       lies : (r : RowRange) (row : ℕ) → r .first .0 ≤ row → row < endOf r → hasRow r row ≡ true
       lies r row p q = both (le-leb (r .first .0) row p) (lt-ltb row (endOf r) q)
@@ -124,7 +124,7 @@ module _ (a b : RowRange) where
       meets p q x y true e = f (b .first .0) (lies a (b .first .0) (leb-true (a .first .0) (b .first .0) e) q) (lies b (b .first .0) (omega arith) (omega arith))
       meets p q x y false e = f (a .first .0) (lies a (a .first .0) (omega arith) (omega arith)) (lies b (a .first .0) (omega (arith, leb-false (a .first .0) (b .first .0) e)) p)
 
-      go : (d : Bool) → apart a b ≡ d → d ≡ true
+      go : (d : Bool) → areDisjoint a b ≡ d → d ≡ true
       go true e = refl
       go false e =
           let k = neither (eqb (a .added) 0 || eqb (b .added) 0 || leb (endOf a) (b .first .0)) (leb (endOf b) (a .first .0)) e in

@@ -12,7 +12,7 @@ use borrow.Author.Tests.{ltb-false, leb-true, eqb-false, eq-eqb}
 use Rattle.records.specs.declared.counters.RowId.{RowId}
 use Rattle.rules.specs.Words.{eqZ, isSome, someWith, isEmpty, collect, sameBytes, firstOf, Check}
 use Rattle.rules.specs.Replies.{commitOnTag}
-use Rattle.rules.specs.Capacities.{largestRowId}
+use Rattle.rules.specs.Capacities.{largestUnsigned}
 use Rattle.rules.specs.RowIds.{isBehind, overflows}
 use Rattle.rules.specs.Names.{isMain, trimmed}
 use Rattle.rules.specs.Register.{RowRange, Snapshot, Reference, Schema, SortOrder, StatisticsFile, StatisticsTable, Update, Terms, State, logged}
@@ -143,12 +143,12 @@ remove-snapshots-keeps ids st =
 
 -- ---- an addition at version 3
 
--- its snapshot has a range (else 10), which begins at or after next row id (else 9) and ends by the largest row id (else 11)
+-- its snapshot has a range (else 10), which begins at or after next row id (else 9) and ends by 2^64 - 1 (else 11)
 pub record Ranged (s : Snapshot) (next : ℕ) : Type 0 where
   pub range : RowRange
   pub has : s .rows ≡ some range
   pub begins : next ≤ range .first .0
-  pub ends : endOf range ≤ largestRowId
+  pub ends : endOf range ≤ largestUnsigned
 
 pub add-ranged : (tolerance : ℤ) (s : Snapshot) (st : State) → st .metadata .fields .version ≡ 3 → firstOf (addSnapshotChecks tolerance s st) ≡ 0 → Ranged s (st .metadata .fields .nextRow .0)
 unfolding addSnapshotChecks
@@ -160,7 +160,7 @@ add-ranged tolerance s st v e =
     by-rows : (o : Option RowRange) → s .rows ≡ o → not (isSome o) ≡ false → someWith (λ (r : RowRange). isBehind (st .metadata .fields .nextRow) (r .first)) o ≡ false
         → someWith (λ (r : RowRange). overflows (r .first) (r .added)) o ≡ false → Ranged s (st .metadata .fields .nextRow .0)
     by-rows none q a b c = absurd (true≢false a)
-    by-rows (some r) q a b c = record { range = r; has = q; begins = ltb-false (r .first .0) (st .metadata .fields .nextRow .0) b; ends = ltb-false largestRowId (endOf r) c }
+    by-rows (some r) q a b c = record { range = r; has = q; begins = ltb-false (r .first .0) (st .metadata .fields .nextRow .0) b; ends = ltb-false largestUnsigned (endOf r) c }
 
 -- and next row id becomes its end
 pub add-reaches : (s : Snapshot) (st : State) (r : RowRange) → st .metadata .fields .version ≡ 3 → s .rows ≡ some r → addSnapshot s st .metadata .fields .nextRow .0 ≡ endOf r

@@ -9,7 +9,7 @@ use lib.Dec.{leb}
 use lib.ListN.{length, getD, drop, length-append}
 use borrow.Author.Tests.{leb-true, le-leb}
 use borrow.Table.Steps.{cases}
-use Rattle.rules.specs.Words.{isSome, ifSome, all, any, keep, first, afterLast, ascending, put}
+use Rattle.rules.specs.Words.{isSome, ifSome, all, any, keep, first, afterLast, eachPair, ascending, put}
 use Rattle.rules.proofs.Checks.{by-test, both, and-left, and-right, or-left, or-right, by-either}
 use Rattle.rules.proofs.Orders.{Ordered, Tells}
 
@@ -99,9 +99,9 @@ module _ {A B : Type 0} (f : A → B) where
   all-read p [] = refl
   all-read p (x ∷ l) = ap (λ (z : Bool). p (f x) && z) (all-read p l)
 
-  pub ascending-read : (below : B → B → Bool) (l : List A) → ascending below (map f l) ≡ ascending (λ (x y : A). below (f x) (f y)) l
-  ascending-read below [] = refl
-  ascending-read below (x ∷ l) = ap₂ _&&_ (all-read (below (f x)) l) (ascending-read below l)
+  pub pairs-read : (r : B → B → Bool) (l : List A) → eachPair r (map f l) ≡ eachPair (λ (x y : A). r (f x) (f y)) l
+  pairs-read r [] = refl
+  pairs-read r (x ∷ l) = ap₂ _&&_ (all-read (r (f x)) l) (pairs-read r l)
 
 -- ---- tables, whatever their order
 
@@ -121,30 +121,32 @@ module _ {A : Type 0} (below : A → A → Bool) where
       let P : List A → Type 0 = λ r. length r ≤ suc (suc (length l)) in
       by-test P (below a x) (λ e. omega arith) (λ e. by-test P (below x a) (λ f. omega arith) (λ f. omega arith))
 
-  -- the first of a table is below the others, which are a table
-  pub ascending-head : (x : A) (l : List A) → ascending below (x ∷ l) ≡ true → all (below x) l ≡ true
-  ascending-head x l = and-left (all (below x) l) (ascending below l)
+-- ---- each two of a list
 
-  pub ascending-tail : (x : A) (l : List A) → ascending below (x ∷ l) ≡ true → ascending below l ≡ true
-  ascending-tail x l = and-right (all (below x) l) (ascending below l)
+module _ {A : Type 0} (r : A → A → Bool) where
+  pub pairs-head : (x : A) (l : List A) → eachPair r (x ∷ l) ≡ true → all (r x) l ≡ true
+  pairs-head x l = and-left (all (r x) l) (eachPair r l)
 
-  pub ascending-keep : (p : A → Bool) (l : List A) → ascending below l ≡ true → ascending below (keep p l) ≡ true
-  ascending-keep p [] h = refl
-  ascending-keep p (x ∷ l) h =
-      let ih : ascending below (keep p l) ≡ true = ascending-keep p l (ascending-tail x l h) in
-      by-test (λ (r : List A). ascending below r ≡ true) (p x) (λ e. both (all-keep (below x) p l (ascending-head x l h)) ih) (λ e. ih)
+  pub pairs-tail : (x : A) (l : List A) → eachPair r (x ∷ l) ≡ true → eachPair r l ≡ true
+  pairs-tail x l = and-right (all (r x) l) (eachPair r l)
 
--- each element of a list has some relation to all that follow it; this stays so when an element is put in that has it to all others, and they to it
-pub all-stand-put : {A : Type 0} (stands below : A → A → Bool) (a : A) (l : List A) → all (stands a) l ≡ true → all (λ (x : A). stands x a) l ≡ true → ascending stands l ≡ true → ascending stands (put below a l) ≡ true
-all-stand-put stands below a [] h k s = refl
-all-stand-put {A} stands below a (x ∷ l) h k s =
-    let P : List A → Type 0 = λ r. ascending stands r ≡ true in
-    let to : A → Bool = λ y. stands y a in
-    by-test P (below a x)
-    (λ e. both h s)
-    (λ e. by-test P (below x a)
-    (λ f. both (all-put below (stands x) a l (all-head to x l k) (ascending-head stands x l s)) (all-stand-put stands below a l (all-tail (stands a) x l h) (all-tail to x l k) (ascending-tail stands x l s)))
-    (λ f. both (all-tail (stands a) x l h) (ascending-tail stands x l s)))
+  pub pairs-keep : (p : A → Bool) (l : List A) → eachPair r l ≡ true → eachPair r (keep p l) ≡ true
+  pairs-keep p [] h = refl
+  pairs-keep p (x ∷ l) h =
+      let ih : eachPair r (keep p l) ≡ true = pairs-keep p l (pairs-tail x l h) in
+      by-test (λ (k : List A). eachPair r k ≡ true) (p x) (λ e. both (all-keep (r x) p l (pairs-head x l h)) ih) (λ e. ih)
+
+  -- an element is put in of which it holds with all others, either way round
+  pub pairs-put : (below : A → A → Bool) (a : A) (l : List A) → all (r a) l ≡ true → all (λ (x : A). r x a) l ≡ true → eachPair r l ≡ true → eachPair r (put below a l) ≡ true
+  pairs-put below a [] h k s = refl
+  pairs-put below a (x ∷ l) h k s =
+      let P : List A → Type 0 = λ k. eachPair r k ≡ true in
+      let to : A → Bool = λ y. r y a in
+      by-test P (below a x)
+      (λ e. both h s)
+      (λ e. by-test P (below x a)
+      (λ f. both (all-put below (r x) a l (all-head to x l k) (pairs-head x l s)) (pairs-put below a l (all-tail (r a) x l h) (all-tail to x l k) (pairs-tail x l s)))
+      (λ f. both (all-tail (r a) x l h) (pairs-tail x l s)))
 
 -- ---- tables in the order of a key
 
@@ -154,11 +156,11 @@ byKey lt key a b = lt (key a) (key b)
 module _ {A K : Type 0} {lt : K → K → Bool} (o : Ordered lt) (key : A → K) where
   -- what is below the first of a table is below all of it
   below-all : (a x : A) (l : List A) → lt (key a) (key x) ≡ true → ascending (byKey lt key) (x ∷ l) ≡ true → all (byKey lt key a) (x ∷ l) ≡ true
-  below-all a x l e h = both e (all-then (byKey lt key x) (byKey lt key a) (λ y. o .transitive (key a) (key x) (key y) e) l (ascending-head (byKey lt key) x l h))
+  below-all a x l e h = both e (all-then (byKey lt key x) (byKey lt key a) (λ y. o .transitive (key a) (key x) (key y) e) l (pairs-head (byKey lt key) x l h))
 
   -- so is what has the key of the first, but for the first itself
   like-below-all : (a x : A) (l : List A) → lt (key a) (key x) ≡ false → lt (key x) (key a) ≡ false → ascending (byKey lt key) (x ∷ l) ≡ true → all (byKey lt key a) l ≡ true
-  like-below-all a x l e f h = subst (λ (k : K). all (λ (y : A). lt k (key y)) l ≡ true) (o .connected (key x) (key a) f e) (ascending-head (byKey lt key) x l h)
+  like-below-all a x l e f h = subst (λ (k : K). all (λ (y : A). lt k (key y)) l ≡ true) (o .connected (key x) (key a) f e) (pairs-head (byKey lt key) x l h)
 
   -- the first is below all others if it is below the next
   pub ascending-two : (x y : A) (l : List A) → ascending (byKey lt key) (x ∷ y ∷ l) ≡ (lt (key x) (key y) && ascending (byKey lt key) (y ∷ l))
@@ -176,8 +178,8 @@ module _ {A K : Type 0} {lt : K → K → Bool} (o : Ordered lt) (key : A → K)
       by-test P (lt (key a) (key x))
       (λ e. both (below-all a x l e h) h)
       (λ e. by-test P (lt (key x) (key a))
-      (λ f. both (all-put (byKey lt key) (byKey lt key x) a l f (ascending-head (byKey lt key) x l h)) (ascending-put a l (ascending-tail (byKey lt key) x l h)))
-      (λ f. both (like-below-all a x l e f h) (ascending-tail (byKey lt key) x l h)))
+      (λ f. both (all-put (byKey lt key) (byKey lt key x) a l f (pairs-head (byKey lt key) x l h)) (ascending-put a l (pairs-tail (byKey lt key) x l h)))
+      (λ f. both (like-below-all a x l e f h) (pairs-tail (byKey lt key) x l h)))
 
   -- a test of the key that holds for one of a table holds for one after any put
   pub any-put : (q : K → Bool) (a : A) (l : List A) → any (λ (x : A). q (key x)) l ≡ true → any (λ (x : A). q (key x)) (put (byKey lt key) a l) ≡ true
@@ -211,7 +213,7 @@ module _ {A K : Type 0} {lt : K → K → Bool} (o : Ordered lt) (key : A → K)
         (λ f. by-test P (lt (key x) (key a))
         (λ g. by-either (same (key x) (key a)) (any (λ (y : A). same (key y) (key a)) l)
         (λ i. absurd (false≢true (sym (o .irreflexive (key a)) ∙ (rw (t .equal (key x) (key a) i) at g))))
-        (λ i. ap suc (put-length-held a l (ascending-tail (byKey lt key) x l h) i)) e)
+        (λ i. ap suc (put-length-held a l (pairs-tail (byKey lt key) x l h) i)) e)
         (λ g. refl))
 
 -- ---- well-formed logs: a count and a test of each entry
@@ -254,7 +256,7 @@ module _ {A : Type 0} (room : ℕ) (formed : A → Bool) (below : A → A → Bo
   table-keep p l h =
       both
       (log-keep room formed p l (and-left (logFormed room formed l) (ascending below l) h))
-      (ascending-keep below p l (and-right (logFormed room formed l) (ascending below l) h))
+      (pairs-keep below p l (and-right (logFormed room formed l) (ascending below l) h))
 
 module _ {A K : Type 0} {lt : K → K → Bool} (o : Ordered lt) (key : A → K) (room : ℕ) (formed : A → Bool) where
   put-formed : (a : A) (l : List A) → length (put (byKey lt key) a l) ≤ room → formed a ≡ true → tableFormed room formed (byKey lt key) l ≡ true

@@ -47,9 +47,9 @@ fileNameRoom = 96
 abbrev pub listRoom : ℕ
 listRoom = 64
 
--- "2^64 - 1": the largest row id, and the largest number of the limit text
-abbrev pub largestRowId : ℕ
-largestRowId = 18446744073709551615
+-- "2^64 - 1": the largest end of a row range, and the largest number of the limit text
+abbrev pub largestUnsigned : ℕ
+largestUnsigned = 18446744073709551615
 
 -- "the type's largest": in the Rust schema ids are i32 and sort-order ids i64
 abbrev pub largestSchemaId : ℤ

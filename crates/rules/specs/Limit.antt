@@ -5,7 +5,7 @@ use mathlib.Core.List.{List, [], _∷_}
 use mathlib.Core.Option.{Option, none, some}
 use lib.Dec.{eqb, leb}
 use Rattle.rules.specs.Words.{all, isEmpty}
-use Rattle.rules.specs.Capacities.{largestRowId}
+use Rattle.rules.specs.Capacities.{largestUnsigned}
 
 abbrev pub isDigit : ℕ → Bool
 isDigit b = leb 48 b && leb b 57
@@ -17,7 +17,7 @@ decimal v (b ∷ bs) = decimal (v * 10 + (b - 48)) bs
 
 -- "at least one digit, nothing else, at most 2^64 - 1"
 abbrev pub isNumber : List ℕ → Bool
-isNumber bs = not (isEmpty bs) && all isDigit bs && leb (decimal 0 bs) largestRowId
+isNumber bs = not (isEmpty bs) && all isDigit bs && leb (decimal 0 bs) largestUnsigned
 
 -- "optional `+`"
 abbrev pub afterPlus : List ℕ → List ℕ

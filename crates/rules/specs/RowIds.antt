@@ -6,7 +6,7 @@ use mathlib.Core.List.{[], _∷_}
 use Rattle.records.specs.declared.counters.RowId.{RowId}
 use Rattle.rules.specs.Words.{firstOf}
 use Rattle.rules.specs.Replies.{accepted, firstRowBehind, rowsOverflow}
-use Rattle.rules.specs.Capacities.{largestRowId}
+use Rattle.rules.specs.Capacities.{largestUnsigned}
 
 -- "first row id below next row id"
 abbrev pub isBehind : RowId → RowId → Bool
@@ -18,7 +18,7 @@ rangeEnd first added = first .0 + added
 
 -- 02 (iv): "11 is given if that sum passes 2^64 - 1"
 abbrev pub overflows : RowId → ℕ → Bool
-overflows first added = ltb largestRowId (rangeEnd first added)
+overflows first added = ltb largestUnsigned (rangeEnd first added)
 
 -- the row-id check: 9 before 11
 unfoldable pub rowNumber : RowId → RowId → ℕ → ℕ

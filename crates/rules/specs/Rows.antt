@@ -7,14 +7,18 @@ use mathlib.Core.Bool.{Bool, true, _&&_, _||_}
 use mathlib.Core.List.{List, [], _∷_, _++_}
 use lib.Dec.{eqb, leb, ltb}
 use lib.ListN.{length, getD}
-use Rattle.rules.specs.Words.{isSome, ifSome, all, collect, ascending}
-use Rattle.rules.specs.Capacities.{largestRowId}
+use Rattle.records.specs.declared.metadata.TableMetadata.{TableMetadata}
+use Rattle.rules.specs.Words.{isSome, ifSome, all, collect, eachPair}
+use Rattle.rules.specs.Capacities.{largestUnsigned}
 use Rattle.rules.specs.RowIds.{rangeEnd}
 use Rattle.rules.specs.Register.{RowRange, Snapshot, Metadata, Update, Terms, Outcome}
 use Rattle.rules.specs.Register.Outcome.{Refused, Accepted}
 use Rattle.rules.specs.ChangeLog.{newSnapshot}
 use Rattle.rules.specs.SnapshotUpdates.{isVersion3}
 use Rattle.rules.specs.Run.{run}
+use Rattle.rules.specs.WellFormed.{metadataFormed}
+use Rattle.rules.specs.Blanks.{isTidyMetadata}
+use Rattle.rules.specs.Layout.{readMetadata}
 
 -- ---- the snapshots and the ranges that a sequence of runs adds
 
@@ -67,16 +71,16 @@ hasRow r row = leb (r .first .0) row && ltb row (endOf r)
 abbrev pub rangeAt : List RowRange → ℕ → RowRange
 rangeAt rs i = getD rs i (record { first = record { 0 = 0 }; added = 0 })
 
--- each range begins at or after the number reached, ends by the largest row id, and the rest climbs from its end
+-- each range begins at or after the number reached, ends by 2^64 - 1, and the rest climbs from its end
 abbrev pub climbs : ℕ → List RowRange → Bool
 climbs reached [] = true
-climbs reached (r ∷ rs) = leb reached (r .first .0) && leb (endOf r) largestRowId && climbs (endOf r) rs
+climbs reached (r ∷ rs) = leb reached (r .first .0) && leb (endOf r) largestUnsigned && climbs (endOf r) rs
 
 -- the same in words of positions: begins at or after the starting number and the end of every earlier range, and ends by 2^64 - 1
 pub record Ascend (start : ℕ) (rs : List RowRange) : Type 0 where
   pub from-start : (j : ℕ) → j < length rs → start ≤ rangeAt rs j .first .0
   pub from-earlier : (i j : ℕ) → i < j → j < length rs → endOf (rangeAt rs i) ≤ rangeAt rs j .first .0
-  pub ends : (j : ℕ) → j < length rs → endOf (rangeAt rs j) ≤ largestRowId
+  pub ends : (j : ℕ) → j < length rs → endOf (rangeAt rs j) ≤ largestUnsigned
 
 -- no row id lies in ranges at two positions
 abbrev pub NoRowTwice : List RowRange → Type 0
@@ -87,25 +91,29 @@ pub record Disjoint (start : ℕ) (rs : List RowRange) : Type 0 where
   pub from-others : NoRowTwice rs
   pub from-below : (r : RowRange) → endOf r ≤ start → (i row : ℕ) → hasRow (rangeAt rs i) row ≡ true → hasRow r row ≡ true → ⊥
 
--- ---- metadata whose held ranges are apart
+-- ---- metadata that is apart
 
 -- no row id lies in both
-abbrev pub apart : RowRange → RowRange → Bool
-apart a b = eqb (a .added) 0 || eqb (b .added) 0 || leb (endOf a) (b .first .0) || leb (endOf b) (a .first .0)
+abbrev pub areDisjoint : RowRange → RowRange → Bool
+areDisjoint a b = eqb (a .added) 0 || eqb (b .added) 0 || leb (endOf a) (b .first .0) || leb (endOf b) (a .first .0)
 
--- the ranges of both, where both have one, are apart
-abbrev pub rowsApart : Snapshot → Snapshot → Bool
-rowsApart s t = ifSome (λ (a : RowRange). ifSome (apart a) (t .rows)) (s .rows)
+-- the ranges of both, where both have one, are disjoint
+abbrev pub rowsDisjoint : Snapshot → Snapshot → Bool
+rowsDisjoint s t = ifSome (λ (a : RowRange). ifSome (areDisjoint a) (t .rows)) (s .rows)
 
 abbrev pub rowsEndBy : ℕ → Snapshot → Bool
 rowsEndBy next s = ifSome (λ (r : RowRange). leb (endOf r) next) (s .rows)
 
--- version 3, each held range is apart from all that follow it, and each ends by next row id
+-- version 3, each two held ranges are disjoint, and each ends by next row id
 unfoldable pub isApart : Metadata → Bool
-isApart m = isVersion3 (m .fields) && ascending rowsApart (m .snapshots) && all (rowsEndBy (nextRowOf m)) (m .snapshots)
+isApart m = isVersion3 (m .fields) && eachPair rowsDisjoint (m .snapshots) && all (rowsEndBy (nextRowOf m)) (m .snapshots)
 
 -- the same in words of positions: version 3, no row id in two held ranges, and each ends by next row id
-pub record Apart (m : Metadata) : Type 0 where
+pub record MeansApart (m : Metadata) : Type 0 where
   pub version : m .fields .version ≡ 3
   pub no-row-twice : NoRowTwice (rangesOf (m .snapshots))
   pub ends : (i : ℕ) → i < length (rangesOf (m .snapshots)) → endOf (rangeAt (rangesOf (m .snapshots)) i) ≤ nextRowOf m
+
+-- what `row_ranges::rows_apart` answers: its unused places are blank, it is well formed, and it is apart
+abbrev pub isFormedAndApart : TableMetadata → Bool
+isFormedAndApart m = isTidyMetadata m && metadataFormed (readMetadata m) && isApart (readMetadata m)

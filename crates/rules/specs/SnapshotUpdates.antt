@@ -37,8 +37,8 @@ isVersion3 f = eqb (f .version) 3
 abbrev pub firstBehind : Snapshot → SingleFields → Bool
 firstBehind s f = someWith (λ (r : RowRange). isBehind (f .nextRow) (r .first)) (s .rows)
 
-abbrev pub rowsPass : Snapshot → Bool
-rowsPass s = someWith (λ (r : RowRange). overflows (r .first) (r .added)) (s .rows)
+abbrev pub rangeOverflows : Snapshot → Bool
+rangeOverflows s = someWith (λ (r : RowRange). overflows (r .first) (r .added)) (s .rows)
 
 -- "checks in this order: 5; 6; 7; 8; version 3 only: 10, 9, 11; then 19"
 unfoldable pub addSnapshotChecks : ℤ → Snapshot → State → List Check
@@ -49,7 +49,7 @@ addSnapshotChecks tolerance s st =
     ∷ (isBefore tolerance (s .time) (latest st), beforeLastUpdate)
     ∷ (isVersion3 (st .metadata .fields) && not (isSome (s .rows)), noRowRange)
     ∷ (isVersion3 (st .metadata .fields) && firstBehind s (st .metadata .fields), firstRowBehind)
-    ∷ (isVersion3 (st .metadata .fields) && rowsPass s, rowsOverflow)
+    ∷ (isVersion3 (st .metadata .fields) && rangeOverflows s, rowsOverflow)
     ∷ (leb snapshotRoom (length (st .metadata .snapshots)), tableFull)
     ∷ []
 

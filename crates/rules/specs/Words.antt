@@ -90,6 +90,11 @@ module _ {A : Type 0} where
   sameList same (x ∷ xs) [] = false
   sameList same (x ∷ xs) (y ∷ ys) = same x y && sameList same xs ys
 
+  -- the test holds of each two, the earlier of them given first
+  abbrev pub eachPair : (A → A → Bool) → List A → Bool
+  eachPair r [] = true
+  eachPair r (x ∷ xs) = all (r x) xs && eachPair r xs
+
   -- the sum of what each counts
   abbrev pub total : (A → ℕ) → List A → ℕ
   total f [] = 0
@@ -123,8 +128,7 @@ highest (x ∷ xs) = larger x (highest xs)
 module _ {A : Type 0} (below : A → A → Bool) where
   -- each element is below all that follow it, so no key stands twice
   abbrev pub ascending : List A → Bool
-  ascending [] = true
-  ascending (x ∷ xs) = all (below x) xs && ascending xs
+  ascending l = eachPair below l
 
   -- the element in its place; it takes the place of one with its key
   abbrev pub put : A → List A → List A

@@ -7,7 +7,7 @@ use lib.IntN.{ℤ}
 use Rattle.rules.specs.Words.{isSome, isEmpty, firstOf, Check}
 use Rattle.rules.specs.Replies.{noRowRange, firstRowBehind, rowsOverflow, commitOnTag}
 use Rattle.rules.specs.Register.{Snapshot, SingleFields, State, AddSnapshot, RemoveSnapshots}
-use Rattle.rules.specs.SnapshotUpdates.{isVersion3, firstBehind, rowsPass, addSnapshotChecks, addSnapshot, heldSnapshots}
+use Rattle.rules.specs.SnapshotUpdates.{isVersion3, firstBehind, rangeOverflows, addSnapshotChecks, addSnapshot, heldSnapshots}
 use Rattle.rules.specs.Kinds.{laidUpdate}
 use Rattle.builder.specs.declared.decision.Decision.{Decision}
 use Rattle.builder.specs.Pieces.{laidBuilder}
@@ -17,7 +17,7 @@ abbrev pub rowChecks : Snapshot → SingleFields → List Check
 rowChecks s f =
     (isVersion3 f && not (isSome (s .rows)), noRowRange)
     ∷ (isVersion3 f && firstBehind s f, firstRowBehind)
-    ∷ (isVersion3 f && rowsPass s, rowsOverflow)
+    ∷ (isVersion3 f && rangeOverflows s, rowsOverflow)
     ∷ []
 
 -- an addition, decided: 13 on a tag, then the rule's checks; the builder after it, and what is logged

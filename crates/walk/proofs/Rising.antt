@@ -13,7 +13,7 @@ use lib.Signed.{ltZ, nonNeg}
 use Rattle.rules.specs.Words.{ascending, unequal}
 use Rattle.rules.proofs.Checks.{both}
 use Rattle.rules.proofs.Orders.{numbers-ordered}
-use Rattle.rules.proofs.Tables.{all-then, ascending-head, ascending-tail, ascending-two}
+use Rattle.rules.proofs.Tables.{all-then, pairs-head, pairs-tail, ascending-two}
 use Rattle.walk.specs.Lists.{idsFormed, rising}
 use Rattle.walk.proofs.Scans.{not-in}
 
@@ -31,7 +31,7 @@ module _ (ids : List ℤ) (i : ℕ) (last : ℤ) where
 ascending-unequal : (l : List ℤ) → ascending ltZ l ≡ true → unequal l ≡ true
 ascending-unequal [] h = refl
 ascending-unequal (x ∷ l) h =
-    rw (not-in (ltZ x) x l (numbers-ordered .irreflexive x) (ascending-head ltZ x l h)) (ascending-unequal l (ascending-tail ltZ x l h))
+    rw (not-in (ltZ x) x l (numbers-ordered .irreflexive x) (pairs-head ltZ x l h)) (ascending-unequal l (pairs-tail ltZ x l h))
 
 above-none : (x : ℤ) → ltZ (negsuc 0) x ≡ true → nonNeg x ≡ true
 above-none (pos n) h = refl
@@ -39,9 +39,9 @@ above-none (negsuc n) h = absurd (omega (arith, ltb-true n 0 h))
 
 pub rising-ascends : (ids : List ℤ) → rising ids ≡ true → ascending ltZ ids ≡ true
 unfolding rising
-rising-ascends ids = ascending-tail ltZ (negsuc 0) ids
+rising-ascends ids = pairs-tail ltZ (negsuc 0) ids
 
 pub rising-formed : (ids : List ℤ) → rising ids ≡ true → idsFormed ids ≡ true
 unfolding rising idsFormed
 rising-formed ids h =
-    both (ascending-unequal ids (rising-ascends ids h)) (all-then (ltZ (negsuc 0)) nonNeg above-none ids (ascending-head ltZ (negsuc 0) ids h))
+    both (ascending-unequal ids (rising-ascends ids h)) (all-then (ltZ (negsuc 0)) nonNeg above-none ids (pairs-head ltZ (negsuc 0) ids h))

@@ -5,12 +5,12 @@ use borrow.Author.Needs.{needs}
 use borrow.Author.Tests.{not-true, not-false}
 use lib.Dec.{eqb}
 use Rattle.records.specs.declared.metadata.TableMetadata.{TableMetadata}
-use Rattle.rules.specs.Words.{all, ascending}
+use Rattle.rules.specs.Words.{all, eachPair}
 use Rattle.rules.specs.Capacities.{snapshotRoom}
 use Rattle.rules.specs.WellFormed.{snapshotFormed, snapshotBelow, snapshotsFormed, metadataFormed}
 use Rattle.rules.specs.Blanks.{isTidyMetadata}
 use Rattle.rules.specs.Layout.{readSnapshots, readMetadata, laidMetadata}
-use Rattle.rules.specs.Rows.{rowsApart, rowsEndBy, isApart}
+use Rattle.rules.specs.Rows.{rowsDisjoint, rowsEndBy, isApart}
 use Rattle.rules.proofs.Checks.{and-left, and-right}
 use Rattle.rules.proofs.Tables.{table-parts}
 use Rattle.rules.proofs.Relaid.{relaid}
@@ -29,7 +29,7 @@ module _ (m : TableMetadata) (e : (isTidyMetadata m && metadataFormed (readMetad
         fits = table-parts snapshotRoom snapshotFormed snapshotBelow (readSnapshots (m .snapshots)) (formed-sound (readMetadata m) f .snapshots) .0;
       }
 
-  apart-is : {a b : Bool} → a ≡ ascending rowsApart (readSnapshots (m .snapshots)) → b ≡ all (rowsEndBy (m .fields .«next_row_id» .0)) (readSnapshots (m .snapshots))
+  apart-is : {a b : Bool} → a ≡ eachPair rowsDisjoint (readSnapshots (m .snapshots)) → b ≡ all (rowsEndBy (m .fields .«next_row_id» .0)) (readSnapshots (m .snapshots))
       → (eqb (m .fields .«format_version») 3 && (a && b)) ≡ (isTidyMetadata m && metadataFormed (readMetadata m) && isApart (readMetadata m))
   unfolding isApart
   apart-is p q = rw (e, p, q) (sym (and-assoc (eqb (m .fields .«format_version») 3) _ _))
@@ -42,4 +42,4 @@ rows-apart-spec =
     (λ c. rw (sym (c .before .is-formed .ensures) ∙ not-true _ (c .if1 .taken)))
     (λ c κs. laid (c .before .before .before .before .before .args .m) (sym (c .before .is-formed .ensures) ∙ not-false _ (c .if1 .left)))
     (λ c κs. laid (c .before .before .before .before .before .before .args .m) (sym (c .before .before .is-formed .ensures) ∙ not-false _ (c .before .if1 .left)))
-    (λ c. apart-is (c .before .before .before .before .before .before .before .args .m) (sym (c .before .before .before .is-formed .ensures) ∙ not-false _ (c .before .before .if1 .left)) (c .before .all-apart .ensures) (c .all-end-by .ensures)))
+    (λ c. apart-is (c .before .before .before .before .before .before .before .args .m) (sym (c .before .before .before .is-formed .ensures) ∙ not-false _ (c .before .before .if1 .left)) (c .before .all-disjoint .ensures) (c .all-end-by .ensures)))

@@ -7,7 +7,7 @@ use native.Mathlib.Omega.{arith}
 use borrow.Author.Needs.{needs}
 use borrow.Author.Tests.{not-true, not-false, leb-true, leb-false}
 use lib.ListN.{length, drop, getD}
-use Rattle.rules.specs.Capacities.{largestRowId}
+use Rattle.rules.specs.Capacities.{largestUnsigned}
 use Rattle.rules.specs.Limit.{isDigit}
 use Rattle.leaves.specs.Limit.{digitsLimit}
 use Rattle.leaves.proofs.Digits.{limitFrom, no-digits, at-first, at-last, not-digit, one-digit, too-large, digit-from}
@@ -16,7 +16,7 @@ use Rattle.leaves.proofs.limit.digits_limit.Tie as tie
 
 abbrev Inv-loop : tie.InvT-loop
 Inv-loop digits number₀ i₀ number i =
-    (i ≤ length digits) × (number ≤ largestRowId) × (digitsLimit digits ≡ limitFrom number (drop i digits))
+    (i ≤ length digits) × (number ≤ largestUnsigned) × (digitsLimit digits ≡ limitFrom number (drop i digits))
 
 abbrev μ-loop : tie.MeasureT-loop
 μ-loop digits number₀ i₀ number i = length digits - i
@@ -54,7 +54,7 @@ module _ (c : tie.After-wide Inv-loop μ-loop) where
   read : digitsLimit (bs k) ≡ limitFrom (number k * 10 + c .wide .result) (drop (i k + 1) (bs k))
   read = at-loop k .loop .inv .2 ∙ one-digit (number k) (bs k) (i k) (within k) (c .wide .result) (c .wide .ensures) (is-digit (c .before))
 
-room : (c : tie.Else3 Inv-loop μ-loop) → number (k (c .before .before)) * 10 + c .before .before .wide .result ≤ largestRowId
+room : (c : tie.Else3 Inv-loop μ-loop) → number (k (c .before .before)) * 10 + c .before .before .wide .result ≤ largestUnsigned
 room c = leb-true _ _ (sym (c .before .has-room .ensures) ∙ not-false _ (c .if3 .left))
 
 -- past the last byte

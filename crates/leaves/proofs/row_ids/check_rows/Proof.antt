@@ -3,7 +3,7 @@ use Prim.Native.Nat.{_+_}
 use native.Mathlib.Omega.{arith}
 use borrow.Author.Needs.{needs}
 use borrow.Author.Tests.{lt-ltb, le-ltb}
-use Rattle.rules.specs.Capacities.{largestRowId}
+use Rattle.rules.specs.Capacities.{largestUnsigned}
 use Rattle.rules.specs.RowIds.{rowNumber, rowNext}
 use Rattle.leaves.specs.Answers.{rowsChecked}
 use Rattle.leaves.proofs.row_ids.check_rows.Statement.{statement}
@@ -17,7 +17,7 @@ check-rows-spec =
     (λ c. rw (lt-ltb _ _ (c .if1 .taken)))
     (λ c. search needs)
     (λ c. let a = c .before .before .before .before .before .args in
-    rw (le-ltb (a .first .0) (a .next .0) (omega arith), lt-ltb largestRowId (a .first .0 + a .added) (omega arith)))
+    rw (le-ltb (a .first .0) (a .next .0) (omega arith), lt-ltb largestUnsigned (a .first .0 + a .added) (omega arith)))
     (λ c. search needs)
     (λ c. let a = c .before .before .before .before .before .before .args in
-    rw (le-ltb (a .first .0) (a .next .0) (omega arith), le-ltb largestRowId (a .first .0 + a .added) (omega arith))))
+    rw (le-ltb (a .first .0) (a .next .0) (omega arith), le-ltb largestUnsigned (a .first .0 + a .added) (omega arith))))

@@ -6,21 +6,21 @@ use mathlib.Core.Bool.{true}
 use borrow.Author.Needs.{needs}
 use Rattle.rules.specs.Register as plain
 use Rattle.rules.specs.Layout.{readSnapshot, readSnapshots}
-use Rattle.rules.specs.Rows.{rowsApart}
+use Rattle.rules.specs.Rows.{rowsDisjoint}
 use Rattle.tables.proofs.Table.{read-length, at, within}
 use Rattle.tables.proofs.Each.{tidy-snapshots}
 use Rattle.formed.proofs.Scans.{Scanned, scan-start, each, each-on, each-end}
-use Rattle.row_ranges.proofs.is_apart_from.Statement.{statement}
-use Rattle.row_ranges.proofs.is_apart_from.Tie as tie
+use Rattle.row_ranges.proofs.disjoint_from.Statement.{statement}
+use Rattle.row_ranges.proofs.disjoint_from.Tie as tie
 
 abbrev Inv-loop : tie.InvT-loop
-Inv-loop a from t n ok₀ i₀ ok i = (i ≤ n) × Scanned (each (rowsApart (readSnapshot a))) (readSnapshots t) from i true ok
+Inv-loop a from t n ok₀ i₀ ok i = (i ≤ n) × Scanned (each (rowsDisjoint (readSnapshot a))) (readSnapshots t) from i true ok
 
 abbrev μ-loop : tie.MeasureT-loop
 μ-loop a from t n ok₀ i₀ ok i = n - i
 
-pub is-apart-from-spec : {M : Type 1} → statement M
-is-apart-from-spec =
+pub disjoint-from-spec : {M : Type 1} → statement M
+disjoint-from-spec =
     tie.close
     (tie.spec
     Inv-loop
@@ -33,5 +33,5 @@ is-apart-from-spec =
     (λ c. search needs)
     (λ c. let l = c .before .before .before in
     let h = tidy-snapshots (l .before .pre .0) in
-    (omega arith, each-on (l .loop .inv .1) _ (omega (arith, read-length h)) (c .are-apart .ensures ∙ ap (rowsApart (readSnapshot (l .before .args .a))) (sym (at h (l .loop .i) _ (omega arith))))))
+    (omega arith, each-on (l .loop .inv .1) _ (omega (arith, read-length h)) (c .rows-disjoint .ensures ∙ ap (rowsDisjoint (readSnapshot (l .before .args .a))) (sym (at h (l .loop .i) _ (omega arith))))))
     (λ c. each-end (c .before .loop .inv .1) (omega (arith, read-length (tidy-snapshots (c .before .before .pre .0))))))
