@@ -1,4 +1,4 @@
-// Which snapshot was current at a time: the last entry of the snapshot log whose time is at most the given one, and how many entries were read.
+// Which snapshot was current at a time: the last entry of the snapshot log whose time is at most the given one, and how many entries a reading from the end reads for it.
 // Refuses a log that counts above its slots with 1; what stands in the slots past the count is not looked at.
 // Document 02, request (i), decides, as the crate `rules` writes it in Moment.
 ghost use mathlib.Core.Path.{_≡_};

@@ -1,7 +1,7 @@
 -- No row id twice, of records: what an answer's changes add, and that metadata which is apart is answered by metadata which is apart.
 use Prim.Native.Nat.{ℕ}
 use mathlib.Core.Path.{_≡_, refl}
-use mathlib.Core.Bool.{Bool, true, false}
+use mathlib.Core.Bool.{Bool, true, false, _&&_}
 use mathlib.Core.List.{List, []}
 use lib.Dec.{eqb}
 use borrow.Author.Tests.{eqb-true, eqb-false}
@@ -11,13 +11,16 @@ use Rattle.records.specs.declared.update.UpdateList.{UpdateList}
 use Rattle.records.specs.declared.run.RunTerms.{RunTerms}
 use Rattle.records.specs.declared.run.Answer.{Answer}
 use Rattle.rules.specs.Register.{Snapshot}
+use Rattle.rules.specs.WellFormed.{metadataFormed}
+use Rattle.rules.specs.Blanks.{isTidyMetadata}
 use Rattle.rules.specs.Layout.{readMetadata}
 use Rattle.rules.specs.Kinds.{readUpdates}
 use Rattle.rules.specs.Answer.{readTerms, answer}
-use Rattle.rules.specs.Rows.{newSnapshots, isApart}
-use Rattle.rules.proofs.Rows.{Adds, adds-none, run-adds}
+use Rattle.rules.specs.Rows.{newSnapshots, isApart, isFormedAndApart}
+use Rattle.rules.proofs.Checks.{both, and-right}
+use Rattle.rules.proofs.Rows.{Adds, adds-none, logs-new, run-adds}
 use Rattle.rules.proofs.Apart.{apart-stays}
-use Rattle.rules.proofs.AnswerLaws.{Unchanged, answer-read, answer-refused}
+use Rattle.rules.proofs.AnswerLaws.{Formed, Unchanged, answer-formed, answer-read, answer-refused}
 
 -- the snapshots that an answer's changes add
 abbrev pub newIn : Answer → List Snapshot
@@ -40,6 +43,10 @@ accepted-or-not {P} number f g = go (eqb number 0) refl
     go false e = g (eqb-false number 0 e)
 
 module _ (m : TableMetadata) (us : UpdateList) (terms : RunTerms) (limit : List ℕ) where
+  -- from version 3 an accepted answer's changes add what the additions and branch commits of its list are to add, in order
+  pub answer-logs-new : readMetadata m .fields .version ≡ 3 → answer m us terms limit .number ≡ 0 → newIn (answer m us terms limit) ≡ newSnapshots (readUpdates us)
+  answer-logs-new v e = logs-new (readTerms terms limit) (readMetadata m) (readUpdates us) _ _ _ (answer-read m us terms limit e) v
+
   -- from version 3 an answer, accepted or not, leads to its metadata by what its changes add
   pub answer-adds : readMetadata m .fields .version ≡ 3 → Adds (readMetadata m) (readMetadata (answer m us terms limit .metadata)) (newIn (answer m us terms limit))
   answer-adds v =
@@ -52,4 +59,12 @@ module _ (m : TableMetadata) (us : UpdateList) (terms : RunTerms) (limit : List 
   answer-apart-stays h =
       accepted-or-not (answer m us terms limit .number)
       (λ e. apart-stays (readTerms terms limit) (readMetadata m) (readUpdates us) _ _ _ (answer-read m us terms limit e) h)
+      (λ n. rw (answer-refused m us terms limit n .metadata) h)
+
+  -- and so is metadata of which `row_ranges::rows_apart` is true, well formed with blank unused places: an accepted answer is, and a refused one is the start
+  pub answer-rows-apart-stays : isFormedAndApart m ≡ true → isFormedAndApart (answer m us terms limit .metadata) ≡ true
+  answer-rows-apart-stays h =
+      accepted-or-not (answer m us terms limit .number)
+      (λ e. let f : Formed (answer m us terms limit .metadata) = answer-formed m us terms limit e in
+      both (both (f .tidy) (f .formed)) (answer-apart-stays (and-right (isTidyMetadata m && metadataFormed (readMetadata m)) (isApart (readMetadata m)) h)))
       (λ n. rw (answer-refused m us terms limit n .metadata) h)

@@ -20,6 +20,7 @@ pub mod RowsKept
 pub mod Rows
 pub mod Apart
 pub mod ApartExactly
+pub mod Above
 pub mod ReplayKeys
 pub mod ReplayLog
 pub mod ReplaySteps

@@ -9,7 +9,7 @@ use lib.ListN.{length}
 use borrow.Author.Tests.{ltb-true, ltb-false, leb-true, leb-false, eqb-true, eqb-false, le-leb, lt-ltb}
 use Rattle.rules.specs.Capacities.{largestUnsigned}
 use Rattle.rules.specs.Register.{RowRange, Snapshot}
-use Rattle.rules.specs.Rows.{rangesOf, endOf, hasRow, rangeAt, climbs, Ascend, NoRowTwice, Disjoint, areDisjoint}
+use Rattle.rules.specs.Rows.{rangesOf, endOf, hasRow, rangeAt, climbs, Ascend, NoRowTwice, Disjoint, Above, areDisjoint}
 use Rattle.rules.proofs.Checks.{Hold, both, and-left, and-right, by-either, neither, parts}
 use Rattle.rules.proofs.ReplayLists.{collect-append}
 
@@ -71,6 +71,16 @@ ends-by-largest n (r ∷ rs) h (suc j) l = ends-by-largest (endOf r) rs (tail-cl
 pub climbs-ascend : (n : ℕ) (rs : List RowRange) → climbs n rs ≡ true → Ascend n rs
 climbs-ascend n rs h = record { from-start = begins-after n rs h; from-earlier = begins-after-earlier n rs h; ends = ends-by-largest n rs h }
 
+-- what they reach is at or after where they begin, and each ends by it
+pub reached-grows : (n : ℕ) (rs : List RowRange) → climbs n rs ≡ true → n ≤ reached n rs
+reached-grows n [] h = omega arith
+reached-grows n (r ∷ rs) h = omega (arith, head-begins n r rs h, reached-grows (endOf r) rs (tail-climbs n r rs h))
+
+pub ends-by-reached : (n : ℕ) (rs : List RowRange) → climbs n rs ≡ true → (j : ℕ) → j < length rs → endOf (rangeAt rs j) ≤ reached n rs
+ends-by-reached n [] h j l = absurd (omega arith)
+ends-by-reached n (r ∷ rs) h zero l = reached-grows (endOf r) rs (tail-climbs n r rs h)
+ends-by-reached n (r ∷ rs) h (suc j) l = ends-by-reached (endOf r) rs (tail-climbs n r rs h) j (omega arith)
+
 -- ---- row ids
 
 pub row-lies : (r : RowRange) (row : ℕ) → hasRow r row ≡ true → (r .first .0 ≤ row) × (row < endOf r)
@@ -82,6 +92,10 @@ pub row-placed : (rs : List RowRange) (i row : ℕ) → hasRow (rangeAt rs i) ro
 row-placed [] i row h = absurd (let k = row-lies (rangeAt [] i) row h in omega arith)
 row-placed (r ∷ rs) zero row h = omega arith
 row-placed (r ∷ rs) (suc i) row h = let ih : i < length rs = row-placed rs i row h in omega arith
+
+-- a number by which every range ends is above every row id of them
+pub ends-above : (number : ℕ) (rs : List RowRange) → ((j : ℕ) → j < length rs → endOf (rangeAt rs j) ≤ number) → Above number rs
+ends-above number rs f i row h = omega (arith, row-lies (rangeAt rs i) row h .1, f i (row-placed rs i row h))
 
 -- it is enough that an earlier range shares no row with a later one
 pub earlier-later : (rs : List RowRange) → ((i j row : ℕ) → i < j → j < length rs → hasRow (rangeAt rs i) row ≡ true → hasRow (rangeAt rs j) row ≡ true → ⊥) → NoRowTwice rs

@@ -2,49 +2,52 @@
 -- becomes its end; so over any sequence of runs the ranges that are added climb, and no row id lies in two of them.
 use Prim.Native.Nat.{ℕ, suc, _<_}
 use mathlib.Core.Path.{_≡_, refl, sym, ap, _∙_, subst}
-use mathlib.Core.Bool.{true}
+use mathlib.Core.Bool.{Bool, true, not}
 use mathlib.Core.List.{List, [], _∷_, _++_, append-nil, append-assoc}
 use mathlib.Core.Option.{some}
 use lib.Dec.{eqb}
 use lib.IntN.{ℤ, pos}
 use borrow.Author.Tests.{eqb-true, le-leb}
-use Rattle.rules.specs.Words.{all}
+use Rattle.rules.specs.Words.{all, isIn}
 use Rattle.rules.specs.Replies.{accepted}
 use Rattle.rules.specs.RowIds.{rangeEnd}
 use Rattle.rules.specs.Register.{RowRange, Snapshot, FileEntry, Metadata, Update, Terms, State, Outcome}
 use Rattle.rules.specs.Register.Outcome.{Refused, Accepted}
 use Rattle.rules.specs.Register.Update.{UpgradeFormatVersion, AddSnapshot, SetBranchSnapshot, RemoveSnapshots}
+use Rattle.rules.specs.WellFormed.{snapshotBelow}
 use Rattle.rules.specs.SnapshotUpdates.{addSnapshot, withoutSnapshots}
 use Rattle.rules.specs.Updates.{updateNumber, effect}
 use Rattle.rules.specs.Close.{closed}
 use Rattle.rules.specs.Run.{runFrom, started, run}
 use Rattle.rules.specs.Run.Ran.{Reached}
-use Rattle.rules.specs.Rows.{newSnapshots, hasRows, rangesOf, Given, answeredFrom, addedBy, addedOver, nextRowOf, endOf, climbs, Ascend, Disjoint}
+use Rattle.rules.specs.Rows.{newSnapshots, hasRows, rangesOf, Given, answeredFrom, addedBy, addedOver, endOver, nextRowOf, endOf, climbs, Ascend, Disjoint}
 use Rattle.rules.specs.Examples.{snapRows, draft, clockAt, terms, fileTerms, empty}
 use Rattle.rules.proofs.Examples.{computed}
 use Rattle.rules.proofs.Checks.{only-then}
-use Rattle.rules.proofs.Tables.{all-append}
+use Rattle.rules.proofs.Tables.{all-head, all-append, all-parts, all-keep, all-put}
 use Rattle.rules.proofs.AcceptedRun.{Ends, run-accepted}
 use Rattle.rules.proofs.SoundRun.{not-reached, same-state}
 use Rattle.rules.proofs.Ranges.{reached, ranges-append, reached-append, climbs-append, climbs-ascend, ascend-disjoint}
 use Rattle.rules.proofs.RowsKept.{View, Keeps, new-none, new-append, Ranged, add-ranged, add-reaches, Step, leaves, removes, adds, effect-step}
 
--- after an addition next row id is above every row id of the range: the public format's "higher than all assigned row IDs"
+-- after an addition next row id is above every row id of its range; of other ranges this says nothing (`next-above-all` does, of metadata that is apart)
 pub next-above-range : (s : Snapshot) (st : State) (r : RowRange) → st .metadata .fields .version ≡ 3 → s .rows ≡ some r
     → (row : ℕ) → row < rangeEnd (r .first) (r .added) → row < addSnapshot s st .metadata .fields .nextRow .0
 next-above-range s st r v e row h = rw (add-reaches s st r v e) h
 
 -- ---- from metadata to metadata, with snapshots added
 
--- it ends at version 3, each snapshot has a range, the ranges climb from the first next row id, and the last next row id is the number that they reach
+-- it ends at version 3, each snapshot has a range, the ranges climb from the first next row id, and the last next row id is the number that they reach;
+-- what holds of each snapshot held before and of each that is added holds of each held after, so nothing else is held
 pub record Adds (m m′ : Metadata) (new : List Snapshot) : Type 0 where
   pub version : m′ .fields .version ≡ 3
   pub ranged : all hasRows new ≡ true
   pub climb : climbs (nextRowOf m) (rangesOf new) ≡ true
   pub next : nextRowOf m′ ≡ reached (nextRowOf m) (rangesOf new)
+  pub holds : (p : Snapshot → Bool) → all p (m .snapshots) ≡ true → all p new ≡ true → all p (m′ .snapshots) ≡ true
 
 pub adds-none : (m : Metadata) → m .fields .version ≡ 3 → Adds m m []
-adds-none m v = record { version = v; ranged = refl; climb = refl; next = refl }
+adds-none m v = record { version = v; ranged = refl; climb = refl; next = refl; holds = λ p h n. h }
 
 -- one after the other
 pub adds-on : (a b c : Metadata) (xs ys : List Snapshot) → Adds a b xs → Adds b c ys → Adds a c (xs ++ ys)
@@ -54,6 +57,7 @@ adds-on a b c xs ys p q =
       ranged = all-append hasRows xs ys (p .ranged) (q .ranged);
       climb = rw (ranges-append xs ys) (climbs-append (nextRowOf a) (rangesOf xs) (rangesOf ys) (p .climb) (rw (p .next) at (q .climb)));
       next = q .next ∙ ap (λ (n : ℕ). reached n (rangesOf ys)) (p .next) ∙ sym (ap (reached (nextRowOf a)) (ranges-append xs ys) ∙ reached-append (nextRowOf a) (rangesOf xs) (rangesOf ys));
+      holds = λ t h n. let k = all-parts t xs ys n in q .holds t (p .holds t h (k .0)) (k .1);
     }
 
 -- ---- from state to state, the snapshots logged
@@ -81,6 +85,7 @@ takes-kept a b c new p k =
         ranged = p .adds .ranged;
         climb = p .adds .climb;
         next = ap (λ (v : View). v .nextRow .0) k ∙ p .adds .next;
+        holds = λ t h n. subst (λ (v : View). all t (v .held) ≡ true) (sym k) (p .adds .holds t h n);
       };
       logged = ap (λ (v : View). v .added) k ∙ p .logged;
     }
@@ -88,7 +93,11 @@ takes-kept a b c new p k =
 -- ---- the updates
 
 without-takes : (ids : List ℤ) (st : State) → st .metadata .fields .version ≡ 3 → Takes st (withoutSnapshots ids st) []
-without-takes ids st v = record { adds = record { version = v; ranged = refl; climb = refl; next = refl }; logged = sym (append-nil (newSnapshots (st .log))) }
+without-takes ids st v =
+    record {
+      adds = record { version = v; ranged = refl; climb = refl; next = refl; holds = λ p h n. all-keep p (λ s. not (isIn ids (s .id))) (st .metadata .snapshots) h };
+      logged = sym (append-nil (newSnapshots (st .log)));
+    }
 
 ranged-takes : (s : Snapshot) (st : State) → st .metadata .fields .version ≡ 3 → Ranged s (nextRowOf (st .metadata)) → Takes st (addSnapshot s st) (s ∷ [])
 unfolding addSnapshot newSnapshots
@@ -100,6 +109,7 @@ ranged-takes s st v k =
         ranged = rw (k .has);
         climb = rw (k .has, le-leb (nextRowOf (st .metadata)) (r .first .0) (k .begins), le-leb (endOf r) _ (k .ends));
         next = add-reaches s st r v (k .has) ∙ (rw (k .has));
+        holds = λ p h n. all-put snapshotBelow p s (st .metadata .snapshots) (all-head p s [] n) h;
       };
       logged = new-append (st .log) (AddSnapshot s ∷ []);
     }
@@ -124,7 +134,7 @@ run-takes terms (u ∷ us) place st st′ e v =
 -- the close leaves version and next row id
 closed-adds : (terms : Terms) (m : Metadata) (st : State) (new : List Snapshot) → Adds m (st .metadata) new → Adds m (closed terms (st .log) st) new
 unfolding closed
-closed-adds terms m st new a = record { version = a .version; ranged = a .ranged; climb = a .climb; next = a .next }
+closed-adds terms m st new a = record { version = a .version; ranged = a .ranged; climb = a .climb; next = a .next; holds = a .holds }
 
 module _ (terms : Terms) (m : Metadata) (us : List Update) (m′ : Metadata) (log : List Update) (expired : List FileEntry) (e : run terms m us ≡ Accepted m′ log expired) (v : m .fields .version ≡ 3) where
   ends : Ends terms m′ log expired m us
@@ -134,45 +144,42 @@ module _ (terms : Terms) (m : Metadata) (us : List Update) (m′ : Metadata) (lo
   taken = run-takes terms us 0 (started m) (ends .end) (ends .reached) v
 
   -- the snapshots that an accepted run logs are those of the additions and branch commits of its list, in order
-  pub run-logs-new : newSnapshots log ≡ newSnapshots us
-  run-logs-new = ap newSnapshots (sym (ends .closes .logged)) ∙ taken .logged ∙ ap (λ (l : List Snapshot). l ++ newSnapshots us) new-none
+  pub logs-new : newSnapshots log ≡ newSnapshots us
+  logs-new = ap newSnapshots (sym (ends .closes .logged)) ∙ taken .logged ∙ ap (λ (l : List Snapshot). l ++ newSnapshots us) new-none
 
   -- and these it adds
   pub run-adds : Adds m m′ (newSnapshots log)
-  run-adds = rw run-logs-new (subst (λ (x : Metadata). Adds m x (newSnapshots us)) (ends .closes .metadata) (closed-adds terms m (ends .end) (newSnapshots us) (taken .adds)))
+  run-adds = rw logs-new (subst (λ (x : Metadata). Adds m x (newSnapshots us)) (ends .closes .metadata) (closed-adds terms m (ends .end) (newSnapshots us) (taken .adds)))
 
 -- ---- a sequence of runs
-
--- some metadata is reached, with these snapshots added
-pub record Reaches (m : Metadata) (new : List Snapshot) : Type 0 where
-  pub end : Metadata
-  pub adds : Adds m end new
-
-pub reaches-on : (a b : Metadata) (xs ys : List Snapshot) → Adds a b xs → Reaches b ys → Reaches a (xs ++ ys)
-reaches-on a b xs ys p q = record { end = q .end; adds = adds-on a b (q .end) xs ys p (q .adds) }
 
 -- an accepted run adds what it logs; a refused one adds none and answers its start
 answered-adds : (terms : Terms) (m : Metadata) (us : List Update) (o : Outcome) → run terms m us ≡ o → m .fields .version ≡ 3 → Adds m (answeredFrom m o) (addedBy o)
 answered-adds terms m us (Refused number place) e v = adds-none m v
 answered-adds terms m us (Accepted m′ log expired) e v = run-adds terms m us m′ log expired e v
 
-over-reaches : (m : Metadata) (gs : List Given) → m .fields .version ≡ 3 → Reaches m (addedOver m gs)
-unfolding addedOver
-over-reaches m [] v = record { end = m; adds = adds-none m v }
-over-reaches m (g ∷ gs) v =
+pub over-adds : (m : Metadata) (gs : List Given) → m .fields .version ≡ 3 → Adds m (endOver m gs) (addedOver m gs)
+unfolding addedOver endOver
+over-adds m [] v = adds-none m v
+over-adds m (g ∷ gs) v =
     let o : Outcome = run (g .terms) m (g .updates) in
-    let a : Adds m (answeredFrom m o) (addedBy o) = answered-adds (g .terms) m (g .updates) o refl v in
-    reaches-on m (answeredFrom m o) (addedBy o) (addedOver (answeredFrom m o) gs) a (over-reaches (answeredFrom m o) gs (a .version))
+    let next : Metadata = answeredFrom m o in
+    let a : Adds m next (addedBy o) = answered-adds (g .terms) m (g .updates) o refl v in
+    adds-on m next (endOver next gs) (addedBy o) (addedOver next gs) a (over-adds next gs (a .version))
 
 -- Over any sequence of runs from a start of version 3:
 module _ (m : Metadata) (gs : List Given) (v : m .fields .version ≡ 3) where
+  -- what holds of each snapshot that is held at the start and of each that is added holds of each that is held at the end: nothing else is held,
+  pub held-or-added : (p : Snapshot → Bool) → all p (m .snapshots) ≡ true → all p (addedOver m gs) ≡ true → all p (endOver m gs .snapshots) ≡ true
+  held-or-added = over-adds m gs v .holds
+
   -- every snapshot that is added has a row range,
   pub rows-given : all hasRows (addedOver m gs) ≡ true
-  rows-given = over-reaches m gs v .adds .ranged
+  rows-given = over-adds m gs v .ranged
 
   -- the ranges climb from the starting next row id: each begins at or after it and the end of every earlier one, and ends by 2^64 - 1,
   pub rows-climb : climbs (nextRowOf m) (rangesOf (addedOver m gs)) ≡ true
-  rows-climb = over-reaches m gs v .adds .climb
+  rows-climb = over-adds m gs v .climb
 
   pub rows-ascend : Ascend (nextRowOf m) (rangesOf (addedOver m gs))
   rows-ascend = climbs-ascend (nextRowOf m) (rangesOf (addedOver m gs)) rows-climb

@@ -42,6 +42,11 @@ module _ {A : Type 0} (p : A → Bool) where
   all-append [] r h k = k
   all-append (x ∷ l) r h k = both (all-head x l h) (all-append l r (all-tail x l h) k)
 
+  -- and the other way round
+  pub all-parts : (l r : List A) → all p (l ++ r) ≡ true → (all p l ≡ true) × (all p r ≡ true)
+  all-parts [] r h = (refl, h)
+  all-parts (x ∷ l) r h = let k = all-parts l r (all-tail x (l ++ r) h) in (both (all-head x (l ++ r) h) (k .0), k .1)
+
   pub all-drop : (n : ℕ) (l : List A) → all p l ≡ true → all p (drop n l) ≡ true
   all-drop zero l h = h
   all-drop (suc n) [] h = refl

@@ -1,4 +1,4 @@
--- Which snapshot was current at a time, and what a run may do to the answer: document 02, request (i).
+-- Which snapshot was current at a time: document 02, request (i). Of what a run may do to the answer the request says nothing: the two conditions below are this project's own.
 use Prim.Native.Nat.{ℕ, _+_}
 use mathlib.Core.Bool.{Bool, cond}
 use mathlib.Core.List.{List, [], _∷_, _++_}

@@ -55,6 +55,11 @@ addedOver m (g ∷ gs) =
     let o : Outcome = run (g .terms) m (g .updates) in
     addedBy o ++ addedOver (answeredFrom m o) gs
 
+-- what the last of the runs answers, or the start where there is none
+unfoldable pub endOver : Metadata → List Given → Metadata
+endOver m [] = m
+endOver m (g ∷ gs) = endOver (answeredFrom m (run (g .terms) m (g .updates))) gs
+
 -- ---- row ids
 
 abbrev pub nextRowOf : Metadata → ℕ
@@ -91,7 +96,17 @@ pub record Disjoint (start : ℕ) (rs : List RowRange) : Type 0 where
   pub from-others : NoRowTwice rs
   pub from-below : (r : RowRange) → endOf r ≤ start → (i row : ℕ) → hasRow (rangeAt rs i) row ≡ true → hasRow r row ≡ true → ⊥
 
--- ---- metadata that is apart
+-- the number is above every row id of the ranges
+abbrev pub Above : ℕ → List RowRange → Type 0
+Above number rs = (i row : ℕ) → hasRow (rangeAt rs i) row ≡ true → row < number
+
+-- above every row id that was held at the start, was added, or is held at the end: the public format's "higher than all assigned row IDs"
+pub record AboveAll (next : ℕ) (start added end : List RowRange) : Type 0 where
+  pub of-start : Above next start
+  pub of-added : Above next added
+  pub of-end : Above next end
+
+-- ---- metadata that is apart: this project's own condition on what is held at the start, of which request (xiii) asks nothing
 
 -- no row id lies in both
 abbrev pub areDisjoint : RowRange → RowRange → Bool

@@ -48,7 +48,7 @@ module _ (c : Call) where
   pub says : c .answered ≡ answer start updates terms text
   says = c .allowed
 
--- the same start, clock, file name and limit text
+-- the same start, the same terms (clock reading, tolerance and file name) and the same limit text
 pub record Alike (c d : Call) : Type 0 where
   pub start : start d ≡ start c
   pub terms : terms d ≡ terms c
@@ -66,7 +66,7 @@ run-asks-nothing M 𝓤 H A mem run κs a = (tt, id⊢ 𝓤 (emp 𝓤))
 pub run-unique : (c d : Call) → Alike c d → updates d ≡ updates c → d .answered ≡ c .answered
 run-unique c d a u = says d ∙ alike (a .start) u (a .terms) (a .text) ∙ sym (says c)
 
--- the number is at most 23; 0, 1 and 2 come with the place 0, 3 to 19 with that of an update, 20 to 23 with the count of the list
+-- the number is one of 0 to 23 and 26; 0, 1, 2 and 26 come with the place 0, 3 to 19 with that of an update of the list, 20 to 23 with the count of the list
 pub run-reply : (c : Call) → Reply (updates c .count) (c .answered .number) (c .answered .place)
 run-reply c = subst (λ (x : Answer). Reply (updates c .count) (x .number) (x .place)) (sym (says c)) (answer-reply (start c) (updates c) (terms c) (text c))
 
