@@ -6,8 +6,11 @@ use mathlib.Core.Bool.{true}
 use mathlib.Core.List.{List, [], _∷_}
 use Rattle.rules.specs.Register.{Snapshot, Metadata, Update, Terms, Outcome}
 use Rattle.rules.specs.Register.Outcome.{Refused, Accepted}
+use Rattle.rules.specs.Register.Update.{AddSnapshot}
 use Rattle.rules.specs.Run.{run}
-use Rattle.rules.specs.Rows.{rangesOf, Given, answeredFrom, addedOver, endOver, nextRowOf, AboveAll, isApart}
+use Rattle.rules.specs.Rows.{rangesOf, Given, answeredFrom, addedOver, endOver, nextRowOf, hasRow, rangeAt, AboveAll, isApart}
+use Rattle.rules.specs.Examples.{snapRows, terms, ranged}
+use Rattle.rules.proofs.Examples.{computed}
 use Rattle.rules.proofs.Ranges.{reached-grows, ends-by-reached, ends-above}
 use Rattle.rules.proofs.Rows.{Adds, over-adds}
 use Rattle.rules.proofs.Apart.{apart-stays}
@@ -37,3 +40,13 @@ over-apart m (g ∷ gs) h = over-apart (answeredFrom m (run (g .terms) m (g .upd
 pub next-above-all : (m : Metadata) (gs : List Given) → isApart m ≡ true
     → AboveAll (nextRowOf (endOver m gs)) (rangesOf (m .snapshots)) (rangesOf (addedOver m gs)) (rangesOf (endOver m gs .snapshots))
 next-above-all m gs h = adds-above m (endOver m gs) (addedOver m gs) h (over-apart m gs h) (over-adds m gs (apart-means m h .version))
+
+-- ---- it needs metadata that is apart
+
+-- next row id is 0 and rows 0 to 3 are held: row 0 is given out again, next row id is then 1, and row 3 is still held
+abbrev oneRow : List Given
+oneRow = record { terms = terms; updates = AddSnapshot (snapRows 2 0 1) ∷ [] } ∷ []
+
+pub not-above-held : (nextRowOf (endOver (ranged 3 0) oneRow) ≡ 1) × (hasRow (rangeAt (rangesOf (endOver (ranged 3 0) oneRow .snapshots)) 0) 3 ≡ true)
+unfolding computed endOver
+not-above-held = (refl, refl)
