@@ -48,7 +48,9 @@ chain-adds m (c ∷ cs) h v =
 
 -- the changes of an accepted call add what the additions and branch commits of its list are to add, in order, so what is added is what the lists ask for
 pub run-logs-new : (c : Call) → start c .fields .«format_version» ≡ 3 → c .answered .number ≡ 0 → newIn (c .answered) ≡ newSnapshots (readUpdates (updates c))
-run-logs-new c v e = rw (says c) (answer-logs-new (start c) (updates c) (terms c) (text c) v (rw (says c) at e))
+run-logs-new c v e =
+    subst (λ (x : Answer). newIn x ≡ newSnapshots (readUpdates (updates c))) (sym (says c))
+    (answer-logs-new (start c) (updates c) (terms c) (text c) v (sym (ap (λ (x : Answer). x .number) (says c)) ∙ e))
 
 -- Over any chain of calls from a start of version 3:
 module _ (m : TableMetadata) (cs : List Call) (h : Chain m cs) (v : m .fields .«format_version» ≡ 3) where
