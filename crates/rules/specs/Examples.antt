@@ -3,28 +3,36 @@
 -- That the rules give these replies is one statement over the list (`examples-hold`, in proofs/Examples).
 use Prim.Native.Nat.{ℕ, zero, suc}
 use mathlib.Core.Bool.{Bool, true, false}
-use mathlib.Core.List.{List, [], _∷_, _++_}
+use mathlib.Core.List.{List, [], _∷_, _++_, map}
 use mathlib.Core.Option.{Option, none, some}
 use lib.IntN.{ℤ, pos, negsuc}
-use lib.ListN.{replicate}
+use lib.ListN.{length, replicate}
 use Rattle.records.specs.declared.counters.SequenceNumber.{SequenceNumber}
 use Rattle.records.specs.declared.counters.RowId.{RowId}
+use Rattle.rules.specs.Words.{eqZ, total}
 use Rattle.rules.specs.Names.{mainName}
 use Rattle.rules.specs.Window.{defaultTolerance}
-use Rattle.rules.specs.Register.{Snapshot, Reference, NamedRef, LogEntry, FileEntry, Schema, SortOrder, StatisticsFile, StatisticsTable, Metadata, Update, Terms, Outcome, statisticsOf}
+use Rattle.rules.specs.Register.{RowRange, Snapshot, Reference, NamedRef, LogEntry, FileEntry, Schema, SortField, SortOrder, StatisticsFile, StatisticsTable, Metadata, Update, Terms, Outcome, statisticsOf, withFields, withSnapshots, withRefs, withSnapshotLog, withMetadataLog, withSchemas, withOrders, withStatistics, withVersion, withLocation, withLastSequence, withCurrentSchema, withDefaultOrder}
 use Rattle.rules.specs.Register.StatisticsTable.{Statistics, PartitionStatistics}
 use Rattle.rules.specs.Register.Outcome.{Refused, Accepted}
-use Rattle.rules.specs.Register.Update.{AssignUuid, UpgradeFormatVersion, SetLocation, AddSnapshot, SetBranchSnapshot, RemoveSnapshots, SetRef, RemoveRef, AddSchema, SetCurrentSchema, RemoveSchemas, AddSortOrder, SetDefaultSortOrder, SetStatistics, RemoveStatistics}
+use Rattle.rules.specs.Register.Update.{AssignUuid, UpgradeFormatVersion, SetLocation, AddSnapshot, SetBranchSnapshot, RemoveSnapshots, SetRef, RemoveRef, AddSchema, SetCurrentSchema, RemoveSchemas, AddSortOrder, SetDefaultSortOrder, SetStatistics, RemoveStatistics, NotFormed}
 use Rattle.rules.specs.Limit.{limitGiven}
-use Rattle.rules.specs.Walk.{Walk, Listed, Twice, Bad, ancestors, recordAncestors}
+use Rattle.rules.specs.RowIds.{rowNumber, rowNext}
+use Rattle.rules.specs.Walk.{Walk, Listed, Twice, Bad, ancestors, recordAncestors, walkNumber, walkCount, walkBuffer}
+use Rattle.rules.specs.WellFormed.{metadataFormed, updateFormed}
 use Rattle.rules.specs.Moment.{currentAt, entriesRead, isWhole, removesAndAdds}
-use Rattle.rules.specs.Run.{run}
+use Rattle.rules.specs.Run.{listSum, run}
+use Rattle.rules.specs.Rows.{newSnapshots, hasRows, rangesOf, endOf, hasRow, climbs, isApart}
+use Rattle.rules.specs.Replay.{strip}
+use Rattle.rules.specs.Kinds.{kindWeight}
 
 -- ---- questions and replies
 
 -- what of an accepted run an example looks at
 pub data Look : Type 0 where
-  AtHistory AtSnapshots AtSequence AtNextRow AtColumn AtUpdated AtLog AtFiles AtRemovedAndAdded : Look
+  AtHistory AtSnapshots AtRefs AtSequence AtNextRow AtColumn AtUpdated AtLog AtFiles AtRemovedAndAdded : Look
+  -- the whole outcome
+  AtAll : Look
   -- which snapshot was current at a time
   AtMoment : ℤ → Look
   -- a table of statistics files
@@ -44,12 +52,20 @@ pub data Question : Type 0 where
   OfMoment : ℤ → List LogEntry → Question
   -- a history names held snapshots alone
   OfWhole : Metadata → Question
+  -- the same walk into a buffer: number, count, what is then in the buffer
+  OfBuffer : List ℤ → List ℤ → List ℤ → ℤ → Option ℤ → Question
+  -- the row-id check of next row id, first row id, added rows: number, and next row id
+  OfRows : ℕ → ℕ → ℕ → Question
+  -- what a definition says of each of some
+  OfTests : List Bool → Question
+  OfNumbers : List ℕ → Question
 
 pub data Reply : Type 0 where
   -- number and place
   Refusal : ℕ → ℕ → Reply
   History : List LogEntry → Reply
   Snapshots : List Snapshot → Reply
+  Refs : List NamedRef → Reply
   Sequence : SequenceNumber → Reply
   NextRow : RowId → Reply
   Column : ℤ → Reply
@@ -65,6 +81,11 @@ pub data Reply : Type 0 where
   Whole : Bool → Reply
   -- a snapshot is both removed and added by the log
   RemovedAndAdded : Bool → Reply
+  Answered : Outcome → Reply
+  Filled : ℕ → ℕ → List ℤ → Reply
+  Rows : ℕ → RowId → Reply
+  Tests : List Bool → Reply
+  Numbers : List ℕ → Reply
 
 abbrev pub moment : ℤ → List LogEntry → Reply
 moment time log = Current (currentAt time log) (entriesRead time log)
@@ -73,6 +94,7 @@ abbrev pub look : Look → Outcome → Reply
 look at (Refused number place) = Refusal number place
 look AtHistory (Accepted m log expired) = History (m .snapshotLog)
 look AtSnapshots (Accepted m log expired) = Snapshots (m .snapshots)
+look AtRefs (Accepted m log expired) = Refs (m .refs)
 look AtSequence (Accepted m log expired) = Sequence (m .fields .lastSequence)
 look AtNextRow (Accepted m log expired) = NextRow (m .fields .nextRow)
 look AtColumn (Accepted m log expired) = Column (m .fields .lastColumn)
@@ -80,12 +102,16 @@ look AtUpdated (Accepted m log expired) = Updated (m .fields .lastUpdated)
 look AtLog (Accepted m log expired) = Log log
 look AtFiles (Accepted m log expired) = Files expired (m .metadataLog)
 look AtRemovedAndAdded (Accepted m log expired) = RemovedAndAdded (removesAndAdds log)
+look AtAll (Accepted m log expired) = Answered (Accepted m log expired)
 look (AtMoment time) (Accepted m log expired) = moment time (m .snapshotLog)
 look (AtStatistics which) (Accepted m log expired) = Attached (statisticsOf which m)
 
 abbrev pub rerun : Terms → Metadata → Outcome → Outcome
 rerun terms m (Refused number place) = Refused number place
 rerun terms m (Accepted m′ log expired) = run terms m log
+
+abbrev pub filled : List ℤ → Walk → Reply
+filled buffer w = Filled (walkNumber (length buffer) w) (walkCount (length buffer) w) (walkBuffer buffer w)
 
 abbrev pub replyTo : Question → Reply
 replyTo (OfRun at terms m us) = look at (run terms m us)
@@ -95,6 +121,10 @@ replyTo (OfWalk ids parents start excluded) = Walked (ancestors ids parents star
 replyTo (OfRecords snapshots start excluded) = Walked (recordAncestors snapshots start excluded)
 replyTo (OfMoment time log) = moment time log
 replyTo (OfWhole m) = Whole (isWhole m)
+replyTo (OfBuffer buffer ids parents start excluded) = filled buffer (ancestors ids parents start excluded)
+replyTo (OfRows next first added) = Rows (rowNumber (record { 0 = next }) (record { 0 = first }) added) (rowNext (record { 0 = next }) (record { 0 = first }) added)
+replyTo (OfTests tests) = Tests tests
+replyTo (OfNumbers numbers) = Numbers numbers
 
 -- ---- what the examples are made of
 
@@ -259,6 +289,158 @@ attaching id size = SetStatistics Statistics (attached id size)
 abbrev pub attachings : ℕ → List Update
 attachings zero = []
 attachings (suc n) = attaching n 1 ∷ attachings n
+
+abbrev pub range : ℕ → ℕ → RowRange
+range first added = record { first = record { 0 = first }; added = added }
+
+-- a schema of some fields, with an id
+abbrev pub schemaWith : List ℤ → ℕ → Schema
+schemaWith fields id = record { id = pos id; fields = map (λ (f : ℤ). record { id = f }) fields }
+
+-- a sort field; 0 ascending, 1 descending; 0 nulls first, 1 last
+abbrev pub by : ℤ → ℕ → ℕ → SortField
+by source direction nulls = record { source = source; direction = direction; nulls = nulls }
+
+abbrev pub orderBy : ℕ → List SortField → SortOrder
+orderBy id fields = record { id = pos id; fields = fields }
+
+-- a ref with its retention numbers: fewest snapshots, snapshot age, ref age
+abbrev pub keeping : ℤ → ℕ → Option ℤ → Option ℤ → Option ℤ → Reference
+keeping id kind fewest age refAge = record { snapshot = id; kind = kind; minSnapshots = fewest; maxSnapshotAge = age; maxRefAge = refAge }
+
+-- a ref of a name of some bytes, to snapshot 1
+abbrev pub named : List ℕ → NamedRef
+named name = record { name = name; reference = branchTo 1 }
+
+abbrev pub partitionFile : ℕ → ℕ → Update
+partitionFile id size = SetStatistics PartitionStatistics (attached id size)
+
+-- 0 up to a number
+abbrev pub below : ℕ → List ℕ
+below zero = []
+below (suc n) = below n ++ (n ∷ [])
+
+abbrev pub many : {A : Type 0} → ℕ → (ℕ → A) → List A
+many n make = map make (below n)
+
+abbrev pub backwards : {A : Type 0} → List A → List A
+backwards [] = []
+backwards (x ∷ xs) = backwards xs ++ (x ∷ [])
+
+-- version 1, with something in every part and in every table
+abbrev pub stocked : Metadata
+stocked =
+    record {
+      fields = record {
+        version = 1;
+        uuid = replicate 16 1;
+        location = 116 ∷ [];
+        lastUpdated = pos 450000;
+        lastSequence = record { 0 = pos 5 };
+        nextRow = record { 0 = 7 };
+        lastColumn = pos 9;
+        current = some (pos 1);
+        currentSchema = pos 1;
+        defaultOrder = pos 1;
+      };
+      snapshots = snap 1 none 1 (pos 100000) ∷ snap 2 none 2 (pos 200000) ∷ [];
+      refs = named draft ∷ named mainName ∷ [];
+      snapshotLog = entry 1 100000 ∷ [];
+      metadataLog = file 97 1 ∷ [];
+      schemas = schemaOf 1 0 ∷ schemaOf 2 1 ∷ schemaWith (pos 2 ∷ pos 3 ∷ []) 2 ∷ [];
+      orders = unordered 0 ∷ orderOf 2 1 ∷ orderBy 2 (by (pos 2) 1 0 ∷ []) ∷ [];
+      statistics = attached 1 1 ∷ [];
+      partitionStatistics = attached 2 2 ∷ [];
+    }
+
+-- updates of every part and table but the statistics files that are there, in such a way that their order changes nothing
+abbrev pub restocking : List Update
+restocking =
+    AssignUuid (replicate 16 2)
+    ∷ SetLocation (117 ∷ [])
+    ∷ UpgradeFormatVersion 2
+    ∷ adding 6 500000
+    ∷ toMain 2
+    ∷ AddSchema (schemaOf 10 3)
+    ∷ SetCurrentSchema (pos 2)
+    ∷ AddSortOrder (orderBy 3 (by (pos 2) 0 1 ∷ []))
+    ∷ SetDefaultSortOrder (pos 2)
+    ∷ attaching 3 3
+    ∷ partitionFile 3 4
+    ∷ []
+
+-- what they make of it, with the current file `d`
+abbrev pub restocked : Metadata
+restocked =
+    record {
+      fields = record {
+        version = 2;
+        uuid = replicate 16 2;
+        location = 117 ∷ [];
+        lastUpdated = pos 500000;
+        lastSequence = record { 0 = pos 6 };
+        nextRow = record { 0 = 7 };
+        lastColumn = pos 10;
+        current = some (pos 2);
+        currentSchema = pos 2;
+        defaultOrder = pos 2;
+      };
+      snapshots = snap 1 none 1 (pos 100000) ∷ snap 2 none 2 (pos 200000) ∷ snap 6 none 6 (pos 500000) ∷ [];
+      refs = named draft ∷ record { name = mainName; reference = branchTo 2 } ∷ [];
+      snapshotLog = entry 1 100000 ∷ entry 2 500000 ∷ [];
+      metadataLog = file 97 1 ∷ file 100 450000 ∷ [];
+      schemas = schemaOf 1 0 ∷ schemaOf 2 1 ∷ schemaWith (pos 2 ∷ pos 3 ∷ []) 2 ∷ schemaOf 10 3 ∷ [];
+      orders = unordered 0 ∷ orderOf 2 1 ∷ orderBy 2 (by (pos 2) 1 0 ∷ []) ∷ orderBy 3 (by (pos 2) 0 1 ∷ []) ∷ [];
+      statistics = attached 1 1 ∷ attached 3 3 ∷ [];
+      partitionStatistics = attached 2 2 ∷ attached 3 4 ∷ [];
+    }
+
+-- the order of no fields under id 0, and else one of so many
+abbrev pub orderAt : ℕ → ℕ → SortOrder
+orderAt fields zero = unordered 0
+orderAt fields (suc id) = orderBy (suc id) (replicate fields (by (pos 1) 1 1))
+
+-- so many snapshots, refs, entries of both logs, schemas, fields of each, sort orders, fields of each but the first, statistics files, partition ones.
+-- Schemas and orders of equal fields have several ids; each file has the size 0
+abbrev pub crowded : ℕ → ℕ → ℕ → ℕ → ℕ → ℕ → ℕ → ℕ → ℕ → ℕ → Metadata
+crowded snapshots refs log files schemas fields orders sortFields statistics partition =
+    withSnapshots (many snapshots (λ (i : ℕ). snap i none i (pos 0)))
+    (withRefs (many refs (λ (i : ℕ). record { name = i ∷ []; reference = branchTo 0 }))
+    (withSnapshotLog (replicate log (entry 0 0))
+    (withMetadataLog (replicate files (file 97 0))
+    (withSchemas (many schemas (schemaWith (many fields (λ (i : ℕ). pos (suc i)))))
+    (withOrders (many orders (orderAt sortFields))
+    (withStatistics Statistics (many statistics (λ (i : ℕ). attached i 0))
+    (withStatistics PartitionStatistics (many partition (λ (i : ℕ). attached i 0)) (empty 2 0 (pos 0) []))))))))
+
+-- one update of each kind, both tables of statistics files, and one that is not formed and counts 5
+abbrev pub oneOfEach : List Update
+oneOfEach =
+    AssignUuid []
+    ∷ UpgradeFormatVersion 2
+    ∷ SetLocation []
+    ∷ adding 4 0
+    ∷ SetBranchSnapshot draft (snap 4 none 4 (pos 0))
+    ∷ RemoveSnapshots []
+    ∷ toDraft 4
+    ∷ RemoveRef draft
+    ∷ AddSchema (schemaOf 1 0)
+    ∷ SetCurrentSchema (pos 0)
+    ∷ RemoveSchemas []
+    ∷ AddSortOrder (unordered 0)
+    ∷ SetDefaultSortOrder (pos 0)
+    ∷ attaching 1 1
+    ∷ RemoveStatistics PartitionStatistics (pos 1)
+    ∷ NotFormed 5
+    ∷ []
+
+-- a name of the current file, and the limit `200`
+abbrev pub fileNamed : List ℕ → Terms
+fileNamed name = record { clock = pos 500000; tolerance = defaultTolerance; file = some name; limit = some (50 ∷ 48 ∷ 48 ∷ []) }
+
+-- version 3 and next row id 9, with these snapshots
+abbrev pub withRows : List Snapshot → Metadata
+withRows snapshots = register 3 2 9 (pos 0) snapshots none [] [] []
 
 -- ---- the examples
 
@@ -545,4 +727,258 @@ examples =
     ∷ (OfRun AtLog terms three (SetStatistics Statistics (record { snapshot = pos 9; path = []; size = negsuc 0 }) ∷ []) gives Refusal 3 0)
     ∷ (OfRun AtLog terms three (SetStatistics Statistics (record { snapshot = pos 9; path = replicate 97 112; size = pos 0 }) ∷ []) gives Refusal 3 0)
     ∷ (OfRun AtLog terms three (RemoveStatistics PartitionStatistics (negsuc 0) ∷ []) gives Refusal 3 0)
+    -- from one table: a removal takes the file of one snapshot from one table; in the other it stays, and is not looked for
+    ∷ (OfRun (AtStatistics PartitionStatistics) terms stocked (partitionFile 1 5 ∷ RemoveStatistics PartitionStatistics (pos 1) ∷ []) gives Attached (attached 2 2 ∷ []))
+    ∷ (OfRun (AtStatistics Statistics) terms stocked (partitionFile 1 5 ∷ RemoveStatistics PartitionStatistics (pos 1) ∷ []) gives Attached (attached 1 1 ∷ []))
+    ∷ (OfRun AtLog terms stocked (partitionFile 3 5 ∷ RemoveStatistics PartitionStatistics (pos 1) ∷ RemoveStatistics PartitionStatistics (pos 3) ∷ []) gives Log (partitionFile 3 5 ∷ RemoveStatistics PartitionStatistics (pos 3) ∷ []))
+    -- 32 each: a full table of one kind leaves room in the other
+    ∷ (OfRun AtLog terms (crowded 1 0 0 0 1 1 1 1 32 0) (partitionFile 40 1 ∷ []) gives Log (partitionFile 40 1 ∷ []))
+    ∷ (OfRun AtLog terms (crowded 1 0 0 0 1 1 1 1 0 32) (partitionFile 40 1 ∷ []) gives Refusal 19 0)
+    -- Clauses in which no example above fails, by name, in the order of document 01.
+    -- everything: a run touches every part, in one order of its updates and in the other; the answer is this, and nothing of another part is lost
+    ∷ (OfRun AtAll fileTerms stocked restocking gives Answered (Accepted restocked restocking []))
+    ∷ (OfRun AtAll fileTerms stocked (backwards restocking) gives Answered (Accepted restocked (backwards restocking) []))
+    -- full tables: as much as there is room for is well formed, with files of size 0; one more of each is not
+    ∷ (OfTests (map metadataFormed
+    (crowded 64 16 128 128 16 32 16 8 32 32
+    ∷ crowded 65 16 128 128 16 32 16 8 32 32
+    ∷ crowded 64 17 128 128 16 32 16 8 32 32
+    ∷ crowded 64 16 129 128 16 32 16 8 32 32
+    ∷ crowded 64 16 128 129 16 32 16 8 32 32
+    ∷ crowded 64 16 128 128 17 32 16 8 32 32
+    ∷ crowded 64 16 128 128 16 33 16 8 32 32
+    ∷ crowded 64 16 128 128 16 32 17 8 32 32
+    ∷ crowded 64 16 128 128 16 32 16 9 32 32
+    ∷ crowded 64 16 128 128 16 32 16 8 33 32
+    ∷ crowded 64 16 128 128 16 32 16 8 32 33
+    ∷ []))
+    gives Tests (true ∷ replicate 10 false))
+    -- order of tables: not ascending, neither at the beginning nor later; not with equal keys; names by bytes, a prefix first
+    ∷ (OfTests (map metadataFormed
+    (withSnapshots (snap 1 none 1 (pos 0) ∷ snap 3 none 1 (pos 0) ∷ snap 2 none 1 (pos 0) ∷ []) first
+    ∷ withSnapshots (snap 1 none 1 (pos 0) ∷ snap 1 none 1 (pos 0) ∷ []) first
+    ∷ withSchemas (schemaOf 1 0 ∷ schemaOf 1 2 ∷ schemaOf 1 1 ∷ []) first
+    ∷ withSchemas (schemaOf 1 0 ∷ schemaOf 1 0 ∷ []) first
+    ∷ withOrders (orderOf 1 2 ∷ orderOf 1 1 ∷ unordered 0 ∷ []) first
+    ∷ withOrders (unordered 0 ∷ unordered 0 ∷ []) first
+    ∷ withStatistics Statistics (attached 2 1 ∷ attached 1 1 ∷ []) first
+    ∷ withStatistics PartitionStatistics (attached 1 1 ∷ attached 1 1 ∷ []) first
+    ∷ withRefs (named mainName ∷ named mainName ∷ []) first
+    ∷ withRefs (named (97 ∷ 98 ∷ []) ∷ named (97 ∷ []) ∷ named mainName ∷ []) first
+    ∷ withRefs (named (98 ∷ 97 ∷ []) ∷ named (97 ∷ 98 ∷ []) ∷ named mainName ∷ []) first
+    ∷ withRefs (named [] ∷ named (97 ∷ []) ∷ named (97 ∷ 98 ∷ []) ∷ named (98 ∷ []) ∷ named mainName ∷ []) first
+    ∷ []))
+    gives Tests (replicate 11 false ++ (true ∷ [])))
+    -- records in tables: an id or a number out of its bounds in a table is not well formed
+    ∷ (OfTests (map metadataFormed
+    (withSnapshots (record { id = negsuc 0; parent = none; sequence = record { 0 = pos 1 }; time = pos 0; rows = none } ∷ snap 1 none 1 (pos 0) ∷ []) first
+    ∷ withRefs (record { name = draft; reference = keeping (pos 1) 1 (some (pos 0)) none none } ∷ named mainName ∷ []) first
+    ∷ withRefs (named mainName ∷ named (replicate 33 110) ∷ []) first
+    ∷ withSnapshotLog (record { snapshot = negsuc 0; time = pos 0 } ∷ []) first
+    ∷ withMetadataLog (record { file = replicate 97 97; time = pos 0 } ∷ []) first
+    ∷ withSchemas (schemaOf 1 0 ∷ schemaOf 0 1 ∷ []) first
+    ∷ withOrders (unordered 0 ∷ unordered 1 ∷ []) first
+    ∷ withOrders (orderOf 1 0 ∷ []) first
+    ∷ withStatistics Statistics (record { snapshot = pos 1; path = []; size = negsuc 0 } ∷ []) first
+    ∷ withStatistics PartitionStatistics (record { snapshot = negsuc 0; path = []; size = pos 0 } ∷ []) first
+    ∷ []))
+    gives Tests (replicate 10 false))
+    -- single fields: version 0 and 4, a location of 97 bytes, a last sequence number below 0
+    ∷ (OfTests (map metadataFormed
+    (withFields (withVersion 0 (record { 0 = 0 }) (first .fields)) first
+    ∷ withFields (withVersion 4 (record { 0 = 0 }) (first .fields)) first
+    ∷ withFields (withLocation (replicate 97 116) (first .fields)) first
+    ∷ withFields (withLastSequence (record { 0 = negsuc 0 }) (record { 0 = 0 }) (first .fields)) first
+    ∷ []))
+    gives Tests (replicate 4 false))
+    -- what is named: a ref to a snapshot that is not held, a current schema and a default order that are not held
+    ∷ (OfTests (map metadataFormed
+    (withRefs (record { name = draft; reference = branchTo 9 } ∷ named mainName ∷ []) first
+    ∷ withFields (withCurrentSchema (pos 9) (first .fields)) first
+    ∷ withFields (withDefaultOrder (pos 9) (first .fields)) first
+    ∷ []))
+    gives Tests (replicate 3 false))
+    -- bounds: the largest and the smallest that an update may have, of each length and each number
+    ∷ (OfTests (map updateFormed
+    (UpgradeFormatVersion 1
+    ∷ UpgradeFormatVersion 3
+    ∷ SetLocation (replicate 96 47)
+    ∷ AddSnapshot (snap 0 (some (pos 0)) 0 (negsuc 0))
+    ∷ SetBranchSnapshot (replicate 32 97) (snap 0 none 0 (pos 0))
+    ∷ RemoveSnapshots (replicate 16 (pos 0))
+    ∷ SetRef (replicate 32 97) (keeping (pos 0) 1 (some (pos 1)) (some (pos 1)) (some (pos 1)))
+    ∷ SetRef [] (keeping (pos 0) 2 none none (some (pos 1)))
+    ∷ RemoveRef (replicate 32 97)
+    ∷ AddSchema (schemaWith (many 32 (λ (i : ℕ). pos (suc i))) 0)
+    ∷ SetCurrentSchema (negsuc 0)
+    ∷ RemoveSchemas (replicate 16 (pos 0))
+    ∷ AddSortOrder (orderBy 0 (replicate 8 (by (pos 1) 1 1)))
+    ∷ AddSortOrder (unordered 7)
+    ∷ SetDefaultSortOrder (negsuc 0)
+    ∷ SetStatistics Statistics (record { snapshot = pos 0; path = replicate 96 112; size = pos 0 })
+    ∷ RemoveStatistics Statistics (pos 0)
+    ∷ []))
+    gives Tests (replicate 17 true))
+    -- out of bounds: one more, or one less
+    ∷ (OfTests (map updateFormed
+    (UpgradeFormatVersion 0
+    ∷ UpgradeFormatVersion 4
+    ∷ SetLocation (replicate 97 47)
+    ∷ AddSnapshot (record { id = negsuc 0; parent = none; sequence = record { 0 = pos 0 }; time = pos 0; rows = none })
+    ∷ AddSnapshot (record { id = pos 0; parent = none; sequence = record { 0 = negsuc 0 }; time = pos 0; rows = none })
+    ∷ SetBranchSnapshot (replicate 33 97) (snap 0 none 0 (pos 0))
+    ∷ SetBranchSnapshot draft (snap 0 (some (negsuc 0)) 0 (pos 0))
+    ∷ RemoveSnapshots (replicate 17 (pos 0))
+    ∷ RemoveSnapshots (negsuc 0 ∷ [])
+    ∷ SetRef (replicate 33 97) (branchTo 0)
+    ∷ SetRef draft (keeping (negsuc 0) 1 none none none)
+    ∷ SetRef draft (keeping (pos 0) 0 none none none)
+    ∷ SetRef draft (keeping (pos 0) 3 none none none)
+    ∷ SetRef draft (keeping (pos 0) 2 (some (pos 1)) none none)
+    ∷ SetRef draft (keeping (pos 0) 2 none (some (pos 1)) none)
+    ∷ SetRef draft (keeping (pos 0) 1 (some (pos 0)) none none)
+    ∷ SetRef draft (keeping (pos 0) 1 none (some (pos 0)) none)
+    ∷ SetRef draft (keeping (pos 0) 1 none none (some (pos 0)))
+    ∷ RemoveRef (replicate 33 97)
+    ∷ AddSchema (record { id = negsuc 0; fields = [] })
+    ∷ AddSchema (schemaWith (many 33 (λ (i : ℕ). pos (suc i))) 0)
+    ∷ AddSchema (schemaWith (pos 0 ∷ []) 0)
+    ∷ AddSchema (schemaWith (pos 1 ∷ pos 2 ∷ pos 1 ∷ []) 0)
+    ∷ SetCurrentSchema (negsuc 1)
+    ∷ RemoveSchemas (replicate 17 (pos 0))
+    ∷ RemoveSchemas (negsuc 0 ∷ [])
+    ∷ AddSortOrder (record { id = negsuc 0; fields = [] })
+    ∷ AddSortOrder (orderBy 0 (replicate 9 (by (pos 1) 0 0)))
+    ∷ AddSortOrder (orderBy 0 (by (pos 0) 0 0 ∷ []))
+    ∷ AddSortOrder (orderBy 0 (by (pos 1) 2 0 ∷ []))
+    ∷ AddSortOrder (orderBy 0 (by (pos 1) 0 2 ∷ []))
+    ∷ SetDefaultSortOrder (negsuc 1)
+    ∷ NotFormed 1
+    ∷ []))
+    gives Tests (replicate 33 false))
+    -- weights: one of each kind, of which the branch commit counts 2 and one that is not formed 5; and by the kind alone
+    ∷ (OfNumbers (listSum oneOfEach ∷ total kindWeight (4 ∷ 5 ∷ 6 ∷ []) ∷ []) gives Numbers (21 ∷ 4 ∷ []))
+    -- sum above: 65 updates are too many
+    ∷ (OfRun AtLog terms three (replicate 65 (RemoveSnapshots [])) gives Refusal 2 0)
+    -- file's name: 96 bytes pass, 97 are 1
+    ∷ (OfRun AtUpdated (fileNamed (replicate 96 97)) three [] gives Updated (pos 500000))
+    ∷ (OfRun AtUpdated (fileNamed (replicate 97 97)) three [] gives Refusal 1 0)
+    -- held trimmed: a location that was trimmed is equal to the next one
+    ∷ (OfRun AtLog terms three (SetLocation (117 ∷ 47 ∷ []) ∷ SetLocation (117 ∷ []) ∷ []) gives Log (SetLocation (117 ∷ []) ∷ []))
+    -- own update: a schema leaves the run's last update
+    ∷ (OfRun AtUpdated terms three (adding 4 400000 ∷ AddSchema (schemaOf 2 1) ∷ []) gives Updated (pos 400000))
+    -- full of snapshots: 63 leave room for one, 64 do not; 11 comes before 19
+    ∷ (OfRun AtSequence terms (crowded 63 0 0 0 1 1 1 1 0 0) (adding 64 0 ∷ []) gives Sequence (record { 0 = pos 64 }))
+    ∷ (OfRun AtSequence terms (crowded 64 0 0 0 1 1 1 1 0 0) (adding 64 0 ∷ []) gives Refusal 19 0)
+    ∷ (OfRun AtSequence terms (crowded 64 0 0 0 1 1 1 1 0 0) (UpgradeFormatVersion 3 ∷ AddSnapshot (snapRows 64 18446744073709551615 1) ∷ []) gives Refusal 11 1)
+    -- last entry alone: an earlier entry with a later time does not count
+    ∷ (OfRun AtUpdated terms (withSnapshotLog (entry 1 300000 ∷ entry 1 100000 ∷ []) first) (adding 2 50000 ∷ []) gives Updated (pos 50000))
+    -- unequal refs: refs that differ in the kind, in one age or in the other
+    ∷ (OfRun AtLog terms three (toDraft 3 ∷ SetRef draft (tagTo 3) ∷ SetRef draft (keeping (pos 3) 2 none none (some (pos 5))) ∷ toDraft 3 ∷ SetRef draft (keeping (pos 3) 1 none (some (pos 5)) none) ∷ [])
+    gives Log (toDraft 3 ∷ SetRef draft (tagTo 3) ∷ SetRef draft (keeping (pos 3) 2 none none (some (pos 5))) ∷ toDraft 3 ∷ SetRef draft (keeping (pos 3) 1 none (some (pos 5)) none) ∷ []))
+    -- full of refs: 15 leave room for one, 16 do not, also for a commit; a name that is held needs none; 12 comes before 19
+    ∷ (OfRun AtLog terms (crowded 2 15 0 0 1 1 1 1 0 0) (toDraft 0 ∷ []) gives Log (toDraft 0 ∷ []))
+    ∷ (OfRun AtLog terms (crowded 2 16 0 0 1 1 1 1 0 0) (toDraft 0 ∷ []) gives Refusal 19 0)
+    ∷ (OfRun AtLog terms (crowded 2 16 0 0 1 1 1 1 0 0) (SetBranchSnapshot draft (snap 4 none 4 (pos 0)) ∷ []) gives Refusal 19 0)
+    ∷ (OfRun AtLog terms (crowded 2 16 0 0 1 1 1 1 0 0) (SetRef (3 ∷ []) (branchTo 1) ∷ []) gives Log (SetRef (3 ∷ []) (branchTo 1) ∷ []))
+    ∷ (OfRun AtLog terms (crowded 2 16 0 0 1 1 1 1 0 0) (toDraft 9 ∷ []) gives Refusal 12 0)
+    -- full history: 127 entries leave room for one, 128 do not; another ref, or an equal `main`, needs none
+    ∷ (OfRun AtLog terms (crowded 1 0 127 0 1 1 1 1 0 0) (toMain 0 ∷ []) gives Log (toMain 0 ∷ []))
+    ∷ (OfRun AtLog terms (crowded 1 0 128 0 1 1 1 1 0 0) (toMain 0 ∷ []) gives Refusal 19 0)
+    ∷ (OfRun AtLog terms (crowded 1 0 128 0 1 1 1 1 0 0) (toDraft 0 ∷ []) gives Log (toDraft 0 ∷ []))
+    ∷ (OfRun AtLog terms (withSnapshotLog (replicate 128 (entry 1 0)) first) (toMain 1 ∷ []) gives Log [])
+    -- another ref's time: a ref other than `main` to a snapshot that the run added makes its time the last update too
+    ∷ (OfRun AtUpdated terms three (adding 4 420000 ∷ adding 5 410000 ∷ toDraft 4 ∷ []) gives Updated (pos 420000))
+    -- commit keeps all: the fewest snapshots and both ages
+    ∷ (OfRun AtLog terms three (SetRef draft (keeping (pos 3) 1 (some (pos 5)) (some (pos 6)) (some (pos 7))) ∷ SetBranchSnapshot draft (snap 4 none 4 (pos 400000)) ∷ [])
+    gives Log (SetRef draft (keeping (pos 3) 1 (some (pos 5)) (some (pos 6)) (some (pos 7))) ∷ adding 4 400000 ∷ SetRef draft (keeping (pos 4) 1 (some (pos 5)) (some (pos 6)) (some (pos 7))) ∷ []))
+    -- refs by name: `ab`, `a` and `b` are set to snapshot 1 and stand in the order of their bytes; of two one goes, and is logged
+    ∷ (OfRun AtRefs terms first (SetRef (97 ∷ 98 ∷ []) (branchTo 1) ∷ SetRef (97 ∷ []) (branchTo 1) ∷ SetRef (98 ∷ []) (branchTo 1) ∷ []) gives Refs (named (97 ∷ []) ∷ named (97 ∷ 98 ∷ []) ∷ named (98 ∷ []) ∷ named mainName ∷ []))
+    ∷ (OfRun AtRefs terms stocked (SetRef (97 ∷ []) (branchTo 1) ∷ RemoveRef draft ∷ []) gives Refs (named (97 ∷ []) ∷ named mainName ∷ []))
+    ∷ (OfRun AtLog terms stocked (RemoveRef draft ∷ []) gives Log (RemoveRef draft ∷ []))
+    -- the bytes of main: an absent ref of this name is logged
+    ∷ (OfRun AtLog terms (empty 2 0 (pos 0) []) (RemoveRef (109 ∷ 97 ∷ 105 ∷ 110 ∷ []) ∷ []) gives Log (RemoveRef (109 ∷ 97 ∷ 105 ∷ 110 ∷ []) ∷ []))
+    -- smallest id: of several schemas of equal fields, here the current one, and of several orders; fields in another order are not equal
+    ∷ (OfRun AtLog terms (crowded 1 0 0 0 3 2 3 1 0 0) (AddSchema (schemaWith (pos 1 ∷ pos 2 ∷ []) 9) ∷ SetCurrentSchema (negsuc 0) ∷ AddSortOrder (orderAt 1 2) ∷ AddSchema (schemaWith (pos 2 ∷ pos 1 ∷ []) 3) ∷ [])
+    gives Log (AddSchema (schemaWith (pos 1 ∷ pos 2 ∷ []) 9) ∷ AddSortOrder (orderAt 1 1) ∷ AddSchema (schemaWith (pos 2 ∷ pos 1 ∷ []) 3) ∷ []))
+    -- highest field: last column id is the highest field id, wherever it stands
+    ∷ (OfRun AtColumn terms three (AddSchema (schemaWith (pos 2 ∷ pos 9 ∷ pos 4 ∷ []) 1) ∷ []) gives Column (pos 9))
+    -- largest schema id: 2147483647 may be given; then 18, before 19, and not for one that is reused
+    ∷ (OfRun AtLog terms (withSchemas (schemaOf 1 0 ∷ schemaOf 1 2147483646 ∷ []) three) (AddSchema (schemaOf 2 2147483647) ∷ []) gives Log (AddSchema (schemaOf 2 2147483647) ∷ []))
+    ∷ (OfRun AtLog terms (withSchemas (many 15 (schemaOf 1) ++ (schemaOf 1 2147483647 ∷ [])) three) (AddSchema (schemaOf 2 0) ∷ []) gives Refusal 18 0)
+    ∷ (OfRun AtLog terms (withSchemas (many 15 (schemaOf 1) ++ (schemaOf 1 2147483647 ∷ [])) three) (AddSchema (schemaOf 1 0) ∷ []) gives Log (AddSchema (schemaOf 1 0) ∷ []))
+    -- full of schemas: 15 leave room for one, 16 do not
+    ∷ (OfRun AtLog terms (crowded 1 0 0 0 15 1 1 1 0 0) (AddSchema (schemaOf 2 15) ∷ []) gives Log (AddSchema (schemaOf 2 15) ∷ []))
+    ∷ (OfRun AtLog terms (crowded 1 0 0 0 16 1 1 1 0 0) (AddSchema (schemaOf 2 16) ∷ []) gives Refusal 19 0)
+    -- last added stays: an order and a snapshot leave what -1 stands for among schemas, a schema what it stands for among orders; the id is set, so its removal is 16
+    ∷ (OfRun AtLog terms three (AddSortOrder (orderOf 1 1) ∷ AddSchema (schemaOf 2 1) ∷ SetDefaultSortOrder (negsuc 0) ∷ []) gives Log (AddSortOrder (orderOf 1 1) ∷ AddSchema (schemaOf 2 1) ∷ SetDefaultSortOrder (negsuc 0) ∷ []))
+    ∷ (OfRun AtLog terms three (AddSchema (schemaOf 2 1) ∷ AddSortOrder (orderOf 1 1) ∷ adding 4 400000 ∷ SetCurrentSchema (negsuc 0) ∷ RemoveSchemas (pos 1 ∷ []) ∷ []) gives Refusal 16 4)
+    -- unequal orders: orders that differ in source, direction or nulls; one id is left out, and highest + 1 comes next
+    ∷ (OfRun AtLog terms (withOrders (unordered 0 ∷ orderOf 2 1 ∷ orderOf 3 5 ∷ []) stocked) (SetCurrentSchema (pos 2) ∷ AddSortOrder (orderBy 6 (by (pos 2) 1 0 ∷ [])) ∷ AddSortOrder (orderBy 7 (by (pos 2) 0 1 ∷ [])) ∷ AddSortOrder (orderOf 3 0) ∷ [])
+    gives Log (SetCurrentSchema (pos 2) ∷ AddSortOrder (orderBy 6 (by (pos 2) 1 0 ∷ [])) ∷ AddSortOrder (orderBy 7 (by (pos 2) 0 1 ∷ [])) ∷ AddSortOrder (orderOf 3 5) ∷ []))
+    -- one field not there: of two that a new order names
+    ∷ (OfRun AtLog terms three (AddSortOrder (orderBy 0 (by (pos 1) 0 0 ∷ by (pos 2) 0 0 ∷ [])) ∷ []) gives Refusal 17 0)
+    -- largest order id: 9223372036854775807 may be given; then 18, before 17; not for an order of no fields, which gets id 0, nor for one that is reused
+    ∷ (OfRun AtLog terms (withOrders (unordered 0 ∷ orderBy 9223372036854775806 (by (pos 1) 1 1 ∷ []) ∷ []) three) (AddSortOrder (orderOf 1 9223372036854775807) ∷ []) gives Log (AddSortOrder (orderOf 1 9223372036854775807) ∷ []))
+    ∷ (OfRun AtLog terms (withOrders (unordered 0 ∷ orderOf 1 9223372036854775807 ∷ []) three) (AddSortOrder (orderOf 2 0) ∷ []) gives Refusal 18 0)
+    ∷ (OfRun AtLog terms (withOrders (orderOf 1 9223372036854775807 ∷ []) (withFields (withDefaultOrder (pos 9223372036854775807) (three .fields)) three)) (AddSortOrder (orderOf 1 0) ∷ AddSortOrder (unordered 7) ∷ [])
+    gives Log (AddSortOrder (orderOf 1 9223372036854775807) ∷ AddSortOrder (unordered 0) ∷ []))
+    -- full of orders: 15 leave room for one, 16 do not, also for one of no fields; 17 comes before 19
+    ∷ (OfRun AtLog terms (crowded 1 0 0 0 1 1 15 1 0 0) (AddSortOrder (orderOf 1 15) ∷ []) gives Log (AddSortOrder (orderOf 1 15) ∷ []))
+    ∷ (OfRun AtLog terms (crowded 1 0 0 0 1 1 16 1 0 0) (AddSortOrder (orderOf 1 16) ∷ []) gives Refusal 19 0)
+    ∷ (OfRun AtLog terms (crowded 1 0 0 0 1 1 16 1 0 0) (AddSortOrder (orderOf 2 16) ∷ []) gives Refusal 17 0)
+    ∷ (OfRun AtLog terms (withOrders (many 16 (λ (i : ℕ). orderOf 1 (suc i))) (withFields (withDefaultOrder (pos 1) (three .fields)) three)) (AddSortOrder (unordered 0) ∷ []) gives Refusal 19 0)
+    -- other order unfit: one that is not the default may name a field that the current schema has not
+    ∷ (OfRun AtLog terms three (AddSortOrder (orderOf 1 1) ∷ AddSchema (schemaOf 2 1) ∷ SetCurrentSchema (negsuc 0) ∷ []) gives Log (AddSortOrder (orderOf 1 1) ∷ AddSchema (schemaOf 2 1) ∷ SetCurrentSchema (negsuc 0) ∷ []))
+    -- other removals: of schemas, of a ref and of statistics; none of them is one of snapshots, so the log stays
+    ∷ (OfRun AtHistory terms gapped (RemoveSchemas (pos 7 ∷ []) ∷ toDraft 1 ∷ RemoveRef draft ∷ attaching 9 1 ∷ RemoveStatistics Statistics (pos 9) ∷ []) gives History (entry 2 50000 ∷ entry 1 100000 ∷ []))
+    -- log's end held: `main` at 3 and a history that ends at 1, which is held; nothing was rebuilt, so it is not checked
+    ∷ (OfRun AtHistory terms (withSnapshotLog (entry 3 300000 ∷ entry 1 400000 ∷ []) three) [] gives History (entry 3 300000 ∷ entry 1 400000 ∷ []))
+    -- removed intermediate: 4 was `main` on the way to 5 and is removed, so the history begins after its entry
+    ∷ (OfRun AtHistory terms three (adding 4 400000 ∷ toMain 4 ∷ adding 5 410000 ∷ toMain 5 ∷ RemoveSnapshots (pos 4 ∷ []) ∷ []) gives History (entry 5 410000 ∷ []))
+    -- too many files: 127 and one that joins may stay, 128 and one may not, unless the limit lets some expire; 22 comes before 23
+    ∷ (OfRun AtUpdated (fileNamed draft) (withMetadataLog (replicate 127 (file 97 0)) three) [] gives Updated (pos 500000))
+    ∷ (OfRun AtUpdated (fileNamed draft) (withMetadataLog (replicate 128 (file 97 0)) three) [] gives Refusal 23 0)
+    ∷ (OfRun AtUpdated fileTerms (withMetadataLog (replicate 128 (file 97 0)) three) [] gives Updated (pos 500000))
+    ∷ (OfRun AtUpdated (fileNamed draft) (withMetadataLog (replicate 128 (file 97 0)) three) (RemoveSnapshots (pos 3 ∷ []) ∷ adding 3 400000 ∷ []) gives Refusal 22 2)
+    -- minus: it is no number
+    ∷ (OfLimit (some (45 ∷ 53 ∷ [])) gives Limit 100)
+    -- longest lists: 64 ids are walked, 65 are bad, and so is a parent too many
+    ∷ (OfWalk (many 64 (λ (i : ℕ). pos i)) (replicate 64 (negsuc 0)) (pos 5) none gives Walked (Listed (pos 5 ∷ [])))
+    ∷ (OfWalk (many 65 (λ (i : ℕ). pos i)) (replicate 65 (negsuc 0)) (pos 5) none gives Walked Bad)
+    ∷ (OfWalk (pos 1 ∷ []) (negsuc 0 ∷ negsuc 0 ∷ []) (pos 1) none gives Walked Bad)
+    -- unheld exclusion: the excluded id is a parent that is not held
+    ∷ (OfWalk (pos 2 ∷ pos 3 ∷ []) (pos 1 ∷ pos 2 ∷ []) (pos 3) (some (pos 1)) gives Walked (Listed (pos 3 ∷ pos 2 ∷ [])))
+    -- buffer: what fits is written and the rest kept; what does not fit is 25, 24 comes before that, and 1 first; a refused walk counts 0 and writes nothing
+    ∷ (OfBuffer (pos 7 ∷ pos 8 ∷ pos 9 ∷ []) (pos 1 ∷ pos 2 ∷ []) (negsuc 0 ∷ pos 1 ∷ []) (pos 2) none gives Filled 0 2 (pos 2 ∷ pos 1 ∷ pos 9 ∷ []))
+    ∷ (OfBuffer (pos 7 ∷ pos 8 ∷ []) (pos 1 ∷ pos 2 ∷ []) (negsuc 0 ∷ pos 1 ∷ []) (pos 2) none gives Filled 0 2 (pos 2 ∷ pos 1 ∷ []))
+    ∷ (OfBuffer (pos 7 ∷ []) (pos 1 ∷ pos 2 ∷ []) (negsuc 0 ∷ pos 1 ∷ []) (pos 2) none gives Filled 25 0 (pos 7 ∷ []))
+    ∷ (OfBuffer (pos 7 ∷ []) (pos 1 ∷ pos 2 ∷ []) (pos 2 ∷ pos 1 ∷ []) (pos 2) none gives Filled 24 0 (pos 7 ∷ []))
+    ∷ (OfBuffer [] (pos 1 ∷ pos 2 ∷ []) (pos 2 ∷ pos 1 ∷ []) (pos 2) none gives Filled 24 0 [])
+    ∷ (OfBuffer (pos 7 ∷ []) (pos 1 ∷ pos 1 ∷ []) (pos 2 ∷ pos 1 ∷ []) (pos 2) none gives Filled 1 0 (pos 7 ∷ []))
+    -- row-id check: what it gives is the end of the range; 9 and 11 leave next row id, and 9 comes before 11
+    ∷ (OfRows 5 10 4 gives Rows 0 (record { 0 = 14 }))
+    ∷ (OfRows 5 4 4 gives Rows 9 (record { 0 = 5 }))
+    ∷ (OfRows 5 10 18446744073709551615 gives Rows 11 (record { 0 = 5 }))
+    ∷ (OfRows 5 4 18446744073709551615 gives Rows 9 (record { 0 = 5 }))
+    -- rows of a range: from the first on, and not its end; an empty range has none
+    ∷ (OfTests (hasRow (range 2 3) 1 ∷ hasRow (range 2 3) 2 ∷ hasRow (range 2 3) 4 ∷ hasRow (range 2 3) 5 ∷ hasRow (range 2 0) 2 ∷ []) gives Tests (false ∷ true ∷ true ∷ false ∷ false ∷ []))
+    -- climbing ranges: each begins at or after the end of the one before, the first at or after the number, and ends by 2^64 - 1
+    ∷ (OfTests (climbs 2 (range 2 3 ∷ range 5 1 ∷ range 18446744073709551615 0 ∷ []) ∷ climbs 3 (range 2 3 ∷ []) ∷ climbs 0 (range 2 3 ∷ range 4 1 ∷ []) ∷ climbs 0 (range 18446744073709551615 1 ∷ []) ∷ []) gives Tests (true ∷ false ∷ false ∷ false ∷ []))
+    -- new snapshots: those of additions and of commits; only some have rows
+    ∷ (OfNumbers (length (newSnapshots oneOfEach) ∷ map endOf (rangesOf (snap 1 none 1 (pos 0) ∷ snapRows 2 4 3 ∷ []))) gives Numbers (2 ∷ 7 ∷ []))
+    ∷ (OfTests (hasRows (snap 1 none 1 (pos 0)) ∷ hasRows (snapRows 2 4 3) ∷ []) gives Tests (false ∷ true ∷ []))
+    -- apart: a snapshot without rows is apart from any, and an empty range too
+    ∷ (OfTests (map isApart
+    (withRows (snap 1 none 1 (pos 0) ∷ snapRows 2 0 4 ∷ [])
+    ∷ withRows (snapRows 1 0 4 ∷ snap 2 none 1 (pos 0) ∷ [])
+    ∷ withRows (snapRows 1 2 0 ∷ snapRows 2 0 4 ∷ [])
+    ∷ []))
+    gives Tests (true ∷ true ∷ true ∷ []))
+    -- removed among others: one of the snapshots that are removed is added; a removed schema of the same id is none
+    ∷ (OfTests (removesAndAdds (adding 4 0 ∷ RemoveSnapshots (pos 2 ∷ pos 4 ∷ []) ∷ []) ∷ removesAndAdds (adding 4 0 ∷ RemoveSchemas (pos 4 ∷ []) ∷ []) ∷ []) gives Tests (true ∷ false ∷ []))
+    -- left out: of a log, removals that name no schema; not one that names one, nor a removal of no snapshots
+    ∷ (OfNumbers (length (strip (RemoveSchemas [] ∷ RemoveSchemas (pos 1 ∷ []) ∷ RemoveSnapshots [] ∷ [])) ∷ []) gives Numbers (2 ∷ []))
+    -- signs: a number below 0 is not one that is not
+    ∷ (OfTests (eqZ (negsuc 0) (pos 0) ∷ eqZ (pos 0) (negsuc 0) ∷ eqZ (negsuc 0) (negsuc 0) ∷ []) gives Tests (false ∷ false ∷ true ∷ []))
     ∷ []
