@@ -498,7 +498,8 @@ examples =
     -- removal asked: it is not logged, so the snapshot log stays, also before a missing snapshot
     ∷ (OfRun AtHistory terms gapped (RemoveSnapshots (pos 9 ∷ []) ∷ []) gives History (entry 2 50000 ∷ entry 1 100000 ∷ []))
     ∷ (OfRun AtLog terms gapped (RemoveSnapshots (pos 9 ∷ []) ∷ []) gives Log [])
-    -- log's end: nothing was rebuilt, so it is not checked
+    -- log's end: nothing was rebuilt, so it is not checked, whether the snapshot of its last entry is held or not
+    ∷ (OfRun AtHistory terms (withSnapshotLog (entry 3 300000 ∷ entry 1 400000 ∷ []) three) [] gives History (entry 3 300000 ∷ entry 1 400000 ∷ []))
     ∷ (OfRun AtHistory terms astray [] gives History (entry 1 100000 ∷ entry 2 50000 ∷ []))
     -- -1: it is logged for the id of the last added schema
     ∷ (OfRun AtLog terms three (AddSchema (schemaOf 2 0) ∷ SetCurrentSchema (pos 1) ∷ []) gives Log (AddSchema (schemaOf 2 1) ∷ SetCurrentSchema (negsuc 0) ∷ []))
@@ -511,8 +512,9 @@ examples =
     ∷ (OfRun AtHistory terms (twoHeld (some (pos 1)) (mainAt 2)) [] gives Refusal 1 0)
     -- main alone: `main` is there, and no current snapshot. 1 comes before 2
     ∷ (OfRun AtHistory terms (twoHeld none (mainAt 1)) (replicate 65 (RemoveSnapshots [])) gives Refusal 1 0)
-    -- sum: 64 updates pass; 33 branch commits count 66, which is asked before any of them
+    -- sum: 64 updates pass, 65 do not; 33 branch commits count 66, which is asked before any of them
     ∷ (OfRun AtLog terms three (replicate 64 (RemoveSnapshots [])) gives Log [])
+    ∷ (OfRun AtLog terms three (replicate 65 (RemoveSnapshots [])) gives Refusal 2 0)
     ∷ (OfRun AtLog terms three (replicate 33 (SetBranchSnapshot draft (snap 3 none 3 (pos 400000)))) gives Refusal 2 0)
     -- first refusal: it ends the run, and the place is its own
     ∷ (OfRun AtLog terms three (adding 4 400000 ∷ adding 4 400000 ∷ toMain 9 ∷ []) gives Refusal 5 1)
@@ -858,8 +860,6 @@ examples =
     gives Tests (replicate 33 false))
     -- weights: one of each kind, of which the branch commit counts 2 and one that is not formed 5; and by the kind alone
     ∷ (OfNumbers (listSum oneOfEach ∷ total kindWeight (4 ∷ 5 ∷ 6 ∷ []) ∷ []) gives Numbers (21 ∷ 4 ∷ []))
-    -- sum above: 65 updates are too many
-    ∷ (OfRun AtLog terms three (replicate 65 (RemoveSnapshots [])) gives Refusal 2 0)
     -- file's name: 96 bytes pass, 97 are 1
     ∷ (OfRun AtUpdated (fileNamed (replicate 96 97)) three [] gives Updated (pos 500000))
     ∷ (OfRun AtUpdated (fileNamed (replicate 97 97)) three [] gives Refusal 1 0)
@@ -932,8 +932,6 @@ examples =
     ∷ (OfRun AtLog terms three (AddSortOrder (orderOf 1 1) ∷ AddSchema (schemaOf 2 1) ∷ SetCurrentSchema (negsuc 0) ∷ []) gives Log (AddSortOrder (orderOf 1 1) ∷ AddSchema (schemaOf 2 1) ∷ SetCurrentSchema (negsuc 0) ∷ []))
     -- other removals: of schemas, of a ref and of statistics; none of them is one of snapshots, so the log stays
     ∷ (OfRun AtHistory terms gapped (RemoveSchemas (pos 7 ∷ []) ∷ toDraft 1 ∷ RemoveRef draft ∷ attaching 9 1 ∷ RemoveStatistics Statistics (pos 9) ∷ []) gives History (entry 2 50000 ∷ entry 1 100000 ∷ []))
-    -- log's end held: `main` at 3 and a history that ends at 1, which is held; nothing was rebuilt, so it is not checked
-    ∷ (OfRun AtHistory terms (withSnapshotLog (entry 3 300000 ∷ entry 1 400000 ∷ []) three) [] gives History (entry 3 300000 ∷ entry 1 400000 ∷ []))
     -- removed intermediate: 4 was `main` on the way to 5 and is removed, so the history begins after its entry
     ∷ (OfRun AtHistory terms three (adding 4 400000 ∷ toMain 4 ∷ adding 5 410000 ∷ toMain 5 ∷ RemoveSnapshots (pos 4 ∷ []) ∷ []) gives History (entry 5 410000 ∷ []))
     -- too many files: 127 and one that joins may stay, 128 and one may not, unless the limit lets some expire; 22 comes before 23
