@@ -1,10 +1,11 @@
 -- Demand 3 as a property of any way to answer runs. The rules have it, and its hypothesis is met: P3, P5 and P10 are instances, computed.
 -- A way that gives back its start with an empty log has it too, and so has one that always refuses: these demand 2 excludes, at P3.
+-- It excludes too, at P5, one that applies only the first update and logs the rest, and at P8 and P3 one that invents its expired entries.
 use Prim.Native.Nat.{ℕ}
 use native.Mathlib.Omega.{arith}
-use mathlib.Core.Path.{_≡_, refl, ap, _∙_}
+use mathlib.Core.Path.{_≡_, refl, ap, sym, _∙_}
 use mathlib.Core.Bool.{Bool, true, false}
-use mathlib.Core.List.{List, [], _∷_, map}
+use mathlib.Core.List.{List, [], _∷_, _++_, map}
 use mathlib.Core.Option.{some}
 use lib.IntN.{pos}
 use lib.ListN.{length}
@@ -15,7 +16,7 @@ use Rattle.rules.specs.Register.Outcome.{Refused, Accepted}
 use Rattle.rules.specs.Register.Update.{AddSnapshot, RemoveSnapshots, RemoveSchemas}
 use Rattle.rules.specs.Run.{run}
 use Rattle.rules.specs.Replay.{strip}
-use Rattle.rules.specs.Examples.{rerun, terms, three, snap, toMain}
+use Rattle.rules.specs.Examples.{rerun, terms, fileTerms, three, empty, snap, toMain, file}
 use Rattle.rules.proofs.Examples.{computed}
 use Rattle.rules.proofs.Replay.{log-replays, stripped-replays}
 
@@ -98,3 +99,64 @@ idle-is-not-right same = let z : _≡_ {A = ℕ} 3 1 = ap entries (same p3) ∙ 
 
 pub refusing-is-not-right : ((us : List Update) → refusing terms three us ≡ run terms three us) → ⊥
 refusing-is-not-right same = let z : _≡_ {A = ℕ} 0 1 = ap entries (same p3) ∙ p3-leaves-one in omega arith
+
+-- applies only the first update, and logs the rest as given
+abbrev pub logsRest : List Update → Outcome → Outcome
+logsRest us (Refused number place) = Refused number place
+logsRest us (Accepted m log expired) = Accepted m (log ++ us) expired
+
+abbrev pub firstOnly : Terms → Metadata → List Update → Outcome
+firstOnly terms m [] = run terms m []
+firstOnly terms m (u ∷ us) = logsRest us (run terms m (u ∷ []))
+
+p5-leaves-four : entries (run terms three p5) ≡ 4
+unfolding computed
+p5-leaves-four = refl
+
+first-of-p5-leaves-three : entries (firstOnly terms three p5) ≡ 3
+unfolding computed
+first-of-p5-leaves-three = refl
+
+pub first-only-is-not-right : ((us : List Update) → firstOnly terms three us ≡ run terms three us) → ⊥
+first-only-is-not-right same = let z : _≡_ {A = ℕ} 3 4 = sym first-of-p5-leaves-three ∙ ap entries (same p5) ∙ p5-leaves-four in omega arith
+
+-- answers as the rules do, but with expired entries of its own
+abbrev pub withExpired : List FileEntry → Outcome → Outcome
+withExpired invented (Refused number place) = Refused number place
+withExpired invented (Accepted m log expired) = Accepted m log invented
+
+abbrev pub inventing : List FileEntry → Terms → Metadata → List Update → Outcome
+inventing invented terms m us = withExpired invented (run terms m us)
+
+-- how many entries expire; 0 for a refusal
+abbrev gone : Outcome → ℕ
+gone (Refused number place) = 0
+gone (Accepted m log expired) = length expired
+
+-- P8: three metadata entries, limit 2, one joins
+abbrev pub p8 : Metadata
+p8 = empty 2 0 (pos 9000) (file 97 1 ∷ file 98 2 ∷ file 99 3 ∷ [])
+
+p8-expires-two : gone (run fileTerms p8 []) ≡ 2
+unfolding computed
+p8-expires-two = refl
+
+p3-expires-none : gone (run terms three p3) ≡ 0
+unfolding computed
+p3-expires-none = refl
+
+p8-invented : (invented : List FileEntry) → gone (inventing invented fileTerms p8 []) ≡ length invented
+unfolding computed
+p8-invented invented = refl
+
+p3-invented : (invented : List FileEntry) → gone (inventing invented terms three p3) ≡ length invented
+unfolding computed
+p3-invented invented = refl
+
+-- whatever the entries are: at P8 two expire, at P3 none
+pub inventing-is-not-right : (invented : List FileEntry) → ((terms : Terms) (m : Metadata) (us : List Update) → inventing invented terms m us ≡ run terms m us) → ⊥
+inventing-is-not-right invented same =
+    let two : length invented ≡ 2 = sym (p8-invented invented) ∙ ap gone (same fileTerms p8 []) ∙ p8-expires-two in
+    let none : length invented ≡ 0 = sym (p3-invented invented) ∙ ap gone (same terms three p3) ∙ p3-expires-none in
+    let z : _≡_ {A = ℕ} 2 0 = sym two ∙ none in
+    omega arith
