@@ -1,4 +1,9 @@
-/* The functions that the crate `exports` proves, by C linkage. Link the archive that `rt staticlib exports` or `tools/native-archive exports` writes. */
+/* The functions that the crate `exports` proves, by C linkage. Link the archive that `tools/native-archive exports OUT.a` writes for this
+   machine, or `rt staticlib exports` for x86-64.
+
+   None of them keeps a pointer, has state, calls anything, allocates or blocks: they may be called from several threads at once, and they
+   have no frame on the stack, so a thread of any size will do. Any numbers may be passed. Nothing but the bytes of a text is read, and
+   nothing is written. docs/TRUST.md has what the proofs rest on. */
 #ifndef REGISTER_H
 #define REGISTER_H
 
@@ -10,7 +15,8 @@
 extern "C" {
 #endif
 
-/* The limit of the metadata log that the property's text gives; 100 where it is no number, and for a text of length 0. */
+/* The limit of the metadata log that the property's text gives; 100 where it is no number, and for a text of length 0.
+   text: length bytes that can be read and that nothing writes while the call runs; no NUL need follow. With length 0 it may be anything, NULL too. */
 uint64_t register_limit(const uint8_t *text, size_t length);
 
 /* The tolerance of a run that is given none, in milliseconds. */
