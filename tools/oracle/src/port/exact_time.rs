@@ -2,7 +2,7 @@
 //! builder subtracts are moved towards the snapshot's, to the nearest whose difference fits, and put back after the update.
 //! A moved difference lies at an end of 64 bits and so on the same side of the tolerance as the exact one.
 
-use super::run::Step;
+use super::reply::Step;
 use crate::case::Update;
 use crate::published::apply::{apply, call};
 use crate::published::number::{Refusal, attempt};

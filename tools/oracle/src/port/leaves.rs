@@ -1,7 +1,8 @@
 //! The small entry points, each asked of the published builder by an update that shows it.
 
 use super::own::{Own, Owns};
-use super::run::{Outcome, begin, run, step};
+use super::run::{Outcome, run};
+use super::steps::{begin, step};
 use crate::case::{
     DEFAULT_TOLERANCE, Flagged, Metadata, MetadataLogEntry, Order, Run, Schema, Snapshot,
     SnapshotLogEntry, Update,

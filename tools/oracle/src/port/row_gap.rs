@@ -3,7 +3,7 @@
 //! There the builder's next row id is moved up to the first row id before the addition. Its own check and its own sum are then those
 //! of the rule, and the snapshot is added and logged as it was given.
 
-use super::run::Reply;
+use super::reply::Reply;
 use crate::case::{Metadata, Run, Update};
 use crate::spec::FormatVersion;
 use crate::spec::table_metadata_builder::TableMetadataBuilder;

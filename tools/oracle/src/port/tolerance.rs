@@ -2,7 +2,8 @@
 //! place of the published constant is set to the tolerance (`spec/minute.rs`), so that the published checks themselves decide.
 
 use super::own::Owns;
-use super::run::{Reply, begin, step};
+use super::reply::Reply;
+use super::steps::{begin, step};
 use crate::case::{Run, TOLERANCES};
 use crate::spec::MINUTE_MS;
 
