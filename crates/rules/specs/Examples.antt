@@ -966,13 +966,14 @@ examples =
     -- new snapshots: those of additions and of commits; only some have rows
     ∷ (OfNumbers (length (newSnapshots oneOfEach) ∷ map endOf (rangesOf (snap 1 none 1 (pos 0) ∷ snapRows 2 4 3 ∷ []))) gives Numbers (2 ∷ 7 ∷ []))
     ∷ (OfTests (hasRows (snap 1 none 1 (pos 0)) ∷ hasRows (snapRows 2 4 3) ∷ []) gives Tests (false ∷ true ∷ []))
-    -- apart: a snapshot without rows is apart from any, and an empty range too
+    -- apart: a snapshot without rows is apart from any, and an empty range too; of three ranges the first and the last are not
     ∷ (OfTests (map isApart
     (withRows (snap 1 none 1 (pos 0) ∷ snapRows 2 0 4 ∷ [])
     ∷ withRows (snapRows 1 0 4 ∷ snap 2 none 1 (pos 0) ∷ [])
     ∷ withRows (snapRows 1 2 0 ∷ snapRows 2 0 4 ∷ [])
+    ∷ withRows (snapRows 1 0 4 ∷ snapRows 2 4 1 ∷ snapRows 3 2 1 ∷ [])
     ∷ []))
-    gives Tests (true ∷ true ∷ true ∷ []))
+    gives Tests (true ∷ true ∷ true ∷ false ∷ []))
     -- removed among others: one of the snapshots that are removed is added; a removed schema of the same id is none
     ∷ (OfTests (removesAndAdds (adding 4 0 ∷ RemoveSnapshots (pos 2 ∷ pos 4 ∷ []) ∷ []) ∷ removesAndAdds (adding 4 0 ∷ RemoveSchemas (pos 4 ∷ []) ∷ []) ∷ []) gives Tests (true ∷ false ∷ []))
     -- left out: of a log, removals that name no schema; not one that names one, nor a removal of no snapshots
