@@ -2,11 +2,11 @@
 mod Signs
 pub mod Scans
 mod Bools
-mod Counted
+pub mod Counted
 mod Filled
 mod Ascends
 mod Fields
 mod Used
-mod Laid
+pub mod Laid
 mod Main
 mod Whole

@@ -33,7 +33,7 @@ use tables::ids::same_snapshot;
 use tables::names::is_main_name;
 use tables::snapshots::holds;
 
-fn snapshots_formed(t: Snapshots) -> bool
+pub fn snapshots_formed(t: Snapshots) -> bool
     ensures { λ r. ⌜ r ≡ (isTidySnapshots t && snapshotsFormed (readSnapshots t)) ⌝ }
 {
     if snapshots_filled(t) {
@@ -42,7 +42,7 @@ fn snapshots_formed(t: Snapshots) -> bool
     false
 }
 
-fn refs_formed(t: Refs) -> bool
+pub fn refs_formed(t: Refs) -> bool
     ensures { λ r. ⌜ r ≡ (isTidyRefs t && refsFormed (readRefs t)) ⌝ }
 {
     if refs_filled(t) {
@@ -51,7 +51,7 @@ fn refs_formed(t: Refs) -> bool
     false
 }
 
-fn schemas_formed(t: Schemas) -> bool
+pub fn schemas_formed(t: Schemas) -> bool
     ensures { λ r. ⌜ r ≡ (isTidySchemas t && schemasFormed (readSchemas t)) ⌝ }
 {
     if schemas_filled(t) {
@@ -60,7 +60,7 @@ fn schemas_formed(t: Schemas) -> bool
     false
 }
 
-fn orders_formed(t: SortOrders) -> bool
+pub fn orders_formed(t: SortOrders) -> bool
     ensures { λ r. ⌜ r ≡ (isTidySortOrders t && ordersFormed (readSortOrders t)) ⌝ }
 {
     if orders_filled(t) {
@@ -69,7 +69,7 @@ fn orders_formed(t: SortOrders) -> bool
     false
 }
 
-fn statistics_formed(t: StatisticsFiles) -> bool
+pub fn statistics_formed(t: StatisticsFiles) -> bool
     ensures { λ r. ⌜ r ≡ (isTidyStatistics t && statisticsFormed (readStatistics t)) ⌝ }
 {
     if statistics_filled(t) {
@@ -91,7 +91,7 @@ fn fields_formed(f: SingleFields) -> bool
         & ((1 <= v) & (v <= 3) & (n <= LOCATION) & sequence_formed(s))
 }
 
-fn refs_held(r: Refs, t: Snapshots) -> bool
+pub fn refs_held(r: Refs, t: Snapshots) -> bool
     requires { ⌜ LaidRefs r ⌝ }
     requires { ⌜ LaidSnapshots t ⌝ }
     ensures { λ b. ⌜ b ≡ all (pointsIn (readSnapshots t)) (readRefs r) ⌝ }

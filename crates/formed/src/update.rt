@@ -148,7 +148,7 @@ fn statistics_file_fits(k: u8, x: StatisticsFile) -> bool
     statistics_file_blank(x)
 }
 
-fn is_tidy(u: TableUpdate) -> bool
+pub fn is_tidy(u: TableUpdate) -> bool
     ensures { λ r. ⌜ r ≡ isTidyUpdate u ⌝ }
 {
     let k = u.kind;

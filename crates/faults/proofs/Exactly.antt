@@ -1,0 +1,114 @@
+-- A fault is found exactly where document 01 has the metadata not well formed, or the start.
+use Prim.Native.Nat.{ℕ}
+use mathlib.Core.Path.{_≡_, refl, _∙_}
+use mathlib.Core.Bool.{Bool, true}
+use mathlib.Core.List.{List, [], _∷_, _++_}
+use borrow.Author.Tests.{not-false}
+use Rattle.records.specs.declared.metadata.TableMetadata.{TableMetadata}
+use Rattle.records.specs.declared.run.RunTerms.{RunTerms}
+use Rattle.rules.specs.Words.{ifSome, firstOf}
+use Rattle.rules.specs.WellFormed.{fileNameFormed, snapshotsFormed, refsFormed, snapshotLogFormed, metadataLogFormed, schemasFormed, ordersFormed, statisticsFormed, fieldsFormed, refsHeld, mainAgrees, currentSchemaHeld, defaultOrderHeld, metadataFormed}
+use Rattle.rules.specs.Blanks.{isTidySnapshots, isTidyRefs, isTidySnapshotLog, isTidyMetadataLog, isTidySchemas, isTidySortOrders, isTidyStatistics, isTidyFields, isTidyMetadata}
+use Rattle.rules.specs.Layout.{given, readFileName, readMetadata}
+use Rattle.rules.specs.Register as plain
+use Rattle.rules.proofs.Checks.{parts, whole, Passed, passed, passed-before, passed-after, first-after}
+use Rattle.rules.proofs.AnswerLaws.{Formed}
+use Rattle.faults.specs.Faults.{partFaults, agreementFaults, metadataFaults, metadataFault, fileFaults, startFault}
+use Rattle.faults.proofs.Parts.{FineParts, fine-parts, faultless-parts, parts-numbered, all-numbered}
+
+-- ---- metadata
+
+module _ (m : TableMetadata) where
+  -- each part is fine, and the parts agree
+  fine-formed : FineParts m → Passed (agreementFaults (readMetadata m)) → Formed m
+  unfolding agreementFaults isTidyMetadata metadataFormed
+  fine-formed k a =
+      record {
+        tidy =
+            whole (isTidySnapshots (m .snapshots))
+            (isTidyRefs (m .refs) ∷ isTidySnapshotLog (m .«snapshot_log») ∷ isTidyMetadataLog (m .«metadata_log») ∷ isTidySchemas (m .schemas) ∷ isTidySortOrders (m .«sort_orders») ∷ isTidyStatistics (m .statistics) ∷ isTidyStatistics (m .«partition_statistics») ∷ isTidyFields (m .fields) ∷ [])
+            (k .snapshots .0, (k .refs .0, (k .snapshotLog .0, (k .metadataLog .0, (k .schemas .0, (k .orders .0, (k .statistics .0, (k .partitionStatistics .0, (k .fields .0, tt)))))))));
+        formed =
+            let q : plain.Metadata = readMetadata m in
+            whole (snapshotsFormed (q .snapshots))
+            (refsFormed (q .refs) ∷ snapshotLogFormed (q .snapshotLog) ∷ metadataLogFormed (q .metadataLog) ∷ schemasFormed (q .schemas) ∷ ordersFormed (q .orders) ∷ statisticsFormed (q .statistics) ∷ statisticsFormed (q .partitionStatistics) ∷ fieldsFormed (q .fields) ∷ refsHeld q ∷ mainAgrees q ∷ currentSchemaHeld q ∷ defaultOrderHeld q ∷ []) (
+              k .snapshots .1,
+              (
+                k .refs .1,
+                (
+                  k .snapshotLog .1,
+                  (
+                    k .metadataLog .1,
+                    (
+                      k .schemas .1,
+                      (
+                        k .orders .1,
+                        (
+                          k .statistics .1,
+                          (
+                            k .partitionStatistics .1,
+                            (
+                              k .fields .1,
+                              (not-false (refsHeld q) (a .0), (not-false (mainAgrees q) (a .1 .0), (not-false (currentSchemaHeld q) (a .1 .1 .0), (not-false (defaultOrderHeld q) (a .1 .1 .1 .0), tt)))),
+                            ),
+                          ),
+                        ),
+                      ),
+                    ),
+                  ),
+                ),
+              ),
+            );
+      }
+
+  pub faultless-formed : metadataFault m ≡ 0 → Formed m
+  unfolding metadataFault metadataFaults agreementFaults
+  faultless-formed e =
+      fine-formed (fine-parts m (passed-before (partFaults m) (agreementFaults (readMetadata m)) e))
+      (passed (agreementFaults (readMetadata m)) refl (passed-after (partFaults m) (agreementFaults (readMetadata m)) (parts-numbered m) e))
+
+  pub formed-faultless : Formed m → metadataFault m ≡ 0
+  unfolding metadataFault metadataFaults agreementFaults isTidyMetadata metadataFormed
+  formed-faultless f =
+      let q : plain.Metadata = readMetadata m in
+      let t = parts (isTidySnapshots (m .snapshots))
+      (isTidyRefs (m .refs) ∷ isTidySnapshotLog (m .«snapshot_log») ∷ isTidyMetadataLog (m .«metadata_log») ∷ isTidySchemas (m .schemas) ∷ isTidySortOrders (m .«sort_orders») ∷ isTidyStatistics (m .statistics) ∷ isTidyStatistics (m .«partition_statistics») ∷ isTidyFields (m .fields) ∷ [])
+      (f .tidy) in
+      let k = parts (snapshotsFormed (q .snapshots))
+      (refsFormed (q .refs) ∷ snapshotLogFormed (q .snapshotLog) ∷ metadataLogFormed (q .metadataLog) ∷ schemasFormed (q .schemas) ∷ ordersFormed (q .orders) ∷ statisticsFormed (q .statistics) ∷ statisticsFormed (q .partitionStatistics) ∷ fieldsFormed (q .fields) ∷ refsHeld q ∷ mainAgrees q ∷ currentSchemaHeld q ∷ defaultOrderHeld q ∷ [])
+      (f .formed) in
+      let a = k .1 .1 .1 .1 .1 .1 .1 .1 .1 in
+      first-after (partFaults m) (agreementFaults q) (parts-numbered m)
+      (faultless-parts m
+      (record {
+        fields = (t .1 .1 .1 .1 .1 .1 .1 .1 .0, k .1 .1 .1 .1 .1 .1 .1 .1 .0);
+        snapshots = (t .0, k .0);
+        refs = (t .1 .0, k .1 .0);
+        snapshotLog = (t .1 .1 .0, k .1 .1 .0);
+        metadataLog = (t .1 .1 .1 .0, k .1 .1 .1 .0);
+        schemas = (t .1 .1 .1 .1 .0, k .1 .1 .1 .1 .0);
+        orders = (t .1 .1 .1 .1 .1 .0, k .1 .1 .1 .1 .1 .0);
+        statistics = (t .1 .1 .1 .1 .1 .1 .0, k .1 .1 .1 .1 .1 .1 .0);
+        partitionStatistics = (t .1 .1 .1 .1 .1 .1 .1 .0, k .1 .1 .1 .1 .1 .1 .1 .0);
+      }))
+      ∙ rw (a .0, a .1 .0, a .1 .1 .0, a .1 .1 .1 .0)
+
+-- ---- a start
+
+-- the metadata is well formed, and the current file's name, if one is given, is not too long
+pub record FormedStart (m : TableMetadata) (terms : RunTerms) : Type 0 where
+  pub metadata : Formed m
+  pub file : ifSome fileNameFormed (given (terms .«has_file») (readFileName (terms .file))) ≡ true
+
+module _ (m : TableMetadata) (terms : RunTerms) where
+  pub faultless-start : startFault m terms ≡ 0 → FormedStart m terms
+  unfolding startFault metadataFault fileFaults
+  faultless-start e =
+      record {
+        metadata = faultless-formed m (passed-before (metadataFaults m) (fileFaults terms) e);
+        file = not-false (ifSome fileNameFormed (given (terms .«has_file») (readFileName (terms .file)))) (passed (fileFaults terms) refl (passed-after (metadataFaults m) (fileFaults terms) (all-numbered m) e) .0);
+      }
+
+  pub start-faultless : FormedStart m terms → startFault m terms ≡ 0
+  unfolding startFault metadataFault fileFaults
+  start-faultless f = first-after (metadataFaults m) (fileFaults terms) (all-numbered m) (formed-faultless m (f .metadata)) ∙ rw (f .file)

@@ -1,0 +1,102 @@
+-- Which part of a start is at fault, where a run is refused with 1: the first test that fails has the number. The tests are document 01's ("Capacities and
+-- well-formed records", and "current file's name too long"), as the crate `rules` writes them; their order and the numbers are ours.
+-- Each part by itself comes first, in the order of the record; then what the parts say of each other; then the file's name.
+use Prim.Native.Nat.{ℕ, _+_}
+use mathlib.Core.Bool.{Bool, not, _&&_, _||_}
+use mathlib.Core.List.{List, [], _∷_, _++_}
+use lib.Dec.{leb}
+use lib.ListN.{length}
+use lib.Signed.{nonNeg}
+use Rattle.records.specs.declared.snapshot.Snapshots.{Snapshots}
+use Rattle.records.specs.declared.snapshot.SnapshotLog.{SnapshotLog}
+use Rattle.records.specs.declared.reference.Refs.{Refs}
+use Rattle.records.specs.declared.schema.Schemas.{Schemas}
+use Rattle.records.specs.declared.«sort_order».SortOrders.{SortOrders}
+use Rattle.records.specs.declared.statistics.StatisticsFiles.{StatisticsFiles}
+use Rattle.records.specs.declared.metadata.MetadataLog.{MetadataLog}
+use Rattle.records.specs.declared.metadata.SingleFields.{SingleFields}
+use Rattle.records.specs.declared.metadata.TableMetadata.{TableMetadata}
+use Rattle.records.specs.declared.run.RunTerms.{RunTerms}
+use Rattle.rules.specs.Words.{ifSome, all, ascending, firstOf, Check}
+use Rattle.rules.specs.Capacities.{snapshotRoom, refRoom, snapshotLogRoom, metadataLogRoom, schemaRoom, sortOrderRoom, statisticsRoom}
+use Rattle.rules.specs.Register as plain
+use Rattle.rules.specs.WellFormed.{versionFormed, locationFormed, fileNameFormed, snapshotFormed, refFormed, schemaFormed, orderFormed, statisticsFileFormed, snapshotBelow, refBelow, schemaBelow, orderBelow, statisticsBelow, refsHeld, mainAgrees, currentSchemaHeld, defaultOrderHeld}
+use Rattle.rules.specs.Blanks.{isZeroZ, isTidyLocation, isTidySnapshots, isTidySnapshotLog, isTidyRefs, isTidySchemas, isTidySortOrders, isTidyStatistics, isTidyMetadataLog}
+use Rattle.rules.specs.Layout.{readLocation, readSnapshots, readSnapshotLog, readRefs, readSchemas, readSortOrders, readStatistics, readMetadataLog, readMetadata}
+use Rattle.rules.specs.Answer.{readTerms}
+
+-- ---- a part by itself
+
+-- a log that is read as a list, with numbers from n on: there is room for what it counts; each entry is well formed, and what is unused is blank
+abbrev pub logFaults : {A : Type 0} → ℕ → ℕ → Bool → (A → Bool) → List A → List Check
+logFaults n room tidy formed l = (not (leb (length l) room), n) ∷ (not (tidy && all formed l), n + 1) ∷ []
+
+-- a table has a third: its keys ascend
+abbrev pub tableFaults : {A : Type 0} → ℕ → ℕ → Bool → (A → Bool) → (A → A → Bool) → List A → List Check
+tableFaults n room tidy formed below l = (not (leb (length l) room), n) ∷ (not (tidy && all formed l), n + 1) ∷ (not (ascending below l), n + 2) ∷ []
+
+unfoldable pub fieldFaults : SingleFields → List Check
+fieldFaults f =
+    (not (versionFormed (f .«format_version»)), 1)
+    ∷ (not (isTidyLocation (f .location) && locationFormed (readLocation (f .location))), 2)
+    ∷ (not (nonNeg (f .«last_sequence_number» .0)), 3)
+    ∷ (not (f .«has_current» || isZeroZ (f .«current_snapshot_id» .0)), 4)
+    ∷ []
+
+unfoldable pub snapshotFaults : Snapshots → List Check
+snapshotFaults t = tableFaults 5 snapshotRoom (isTidySnapshots t) snapshotFormed snapshotBelow (readSnapshots t)
+
+unfoldable pub refFaults : Refs → List Check
+refFaults t = tableFaults 8 refRoom (isTidyRefs t) refFormed refBelow (readRefs t)
+
+unfoldable pub snapshotLogFaults : SnapshotLog → List Check
+snapshotLogFaults t = logFaults 11 snapshotLogRoom (isTidySnapshotLog t) (λ (e : plain.LogEntry). nonNeg (e .snapshot)) (readSnapshotLog t)
+
+unfoldable pub metadataLogFaults : MetadataLog → List Check
+metadataLogFaults t = logFaults 13 metadataLogRoom (isTidyMetadataLog t) (λ (e : plain.FileEntry). fileNameFormed (e .file)) (readMetadataLog t)
+
+unfoldable pub schemaFaults : Schemas → List Check
+schemaFaults t = tableFaults 15 schemaRoom (isTidySchemas t) schemaFormed schemaBelow (readSchemas t)
+
+unfoldable pub orderFaults : SortOrders → List Check
+orderFaults t = tableFaults 18 sortOrderRoom (isTidySortOrders t) orderFormed orderBelow (readSortOrders t)
+
+unfoldable pub statisticsFaults : ℕ → StatisticsFiles → List Check
+statisticsFaults n t = tableFaults n statisticsRoom (isTidyStatistics t) statisticsFileFormed statisticsBelow (readStatistics t)
+
+unfoldable pub partFaults : TableMetadata → List Check
+partFaults m =
+    fieldFaults (m .fields)
+    ++ (snapshotFaults (m .snapshots)
+    ++ (refFaults (m .refs)
+    ++ (snapshotLogFaults (m .«snapshot_log»)
+    ++ (metadataLogFaults (m .«metadata_log»)
+    ++ (schemaFaults (m .schemas)
+    ++ (orderFaults (m .«sort_orders»)
+    ++ (statisticsFaults 21 (m .statistics)
+    ++ statisticsFaults 24 (m .«partition_statistics»))))))))
+
+-- ---- what the parts say of each other
+
+unfoldable pub agreementFaults : plain.Metadata → List Check
+agreementFaults m =
+    (not (refsHeld m), 27)
+    ∷ (not (mainAgrees m), 28)
+    ∷ (not (currentSchemaHeld m), 29)
+    ∷ (not (defaultOrderHeld m), 30)
+    ∷ []
+
+-- ---- the first fault; 0 where there is none
+
+unfoldable pub metadataFaults : TableMetadata → List Check
+metadataFaults m = partFaults m ++ agreementFaults (readMetadata m)
+
+unfoldable pub metadataFault : TableMetadata → ℕ
+metadataFault m = firstOf (metadataFaults m)
+
+-- the limit text is not asked for: any will do
+unfoldable pub fileFaults : RunTerms → List Check
+fileFaults terms = (not (ifSome fileNameFormed (readTerms terms [] .file)), 31) ∷ []
+
+unfoldable pub startFault : TableMetadata → RunTerms → ℕ
+startFault m terms = firstOf (metadataFaults m ++ fileFaults terms)

@@ -1,0 +1,2 @@
+-- Which part of a start is at fault.
+pub mod Faults

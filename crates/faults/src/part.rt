@@ -1,0 +1,159 @@
+// A part of metadata by itself.
+ghost use mathlib.Core.Path.{_≡_};
+ghost use mathlib.Core.Bool.{not};
+ghost use mathlib.Core.List.{[], _∷_};
+ghost use Prim.Native.Nat.{_+_, _≤_};
+ghost use Rattle.rules.specs.Words.{firstOf};
+ghost use Rattle.faults.specs.Faults.{fieldFaults, snapshotFaults, refFaults, snapshotLogFaults, metadataLogFaults, schemaFaults, orderFaults, statisticsFaults};
+use crate::fault;
+use crate::pick::unless;
+use formed::blanks::location_tidy;
+use formed::bounds::sequence_formed;
+use formed::bounds::snapshot_id_zero;
+use formed::metadata::orders_formed;
+use formed::metadata::refs_formed;
+use formed::metadata::schemas_formed;
+use formed::metadata::snapshots_formed;
+use formed::metadata::statistics_formed;
+use formed::slots::metadata_log_formed;
+use formed::slots::orders_filled;
+use formed::slots::refs_filled;
+use formed::slots::schemas_filled;
+use formed::slots::snapshot_log_formed;
+use formed::slots::snapshots_filled;
+use formed::slots::statistics_filled;
+use records::capacities;
+use records::metadata::MetadataLog;
+use records::metadata::SingleFields;
+use records::reference::Refs;
+use records::schema::Schemas;
+use records::snapshot::SnapshotLog;
+use records::snapshot::Snapshots;
+use records::sort_order::SortOrders;
+use records::statistics::StatisticsFiles;
+
+pub fn fields_fault(f: SingleFields) -> u8
+    ensures { λ r. ⌜ r ≡ firstOf (fieldFaults f) ⌝ }
+{
+    let v = f.format_version;
+    let l = f.location;
+    let n = l.len;
+    let s = f.last_sequence_number;
+    let h = f.has_current;
+    let c = f.current_snapshot_id;
+    let from_current = unless(
+        h | snapshot_id_zero(c),
+        fault::CURRENT_SNAPSHOT,
+        fault::NONE,
+    );
+    let from_sequence = unless(
+        sequence_formed(s),
+        fault::LAST_SEQUENCE_NUMBER,
+        from_current,
+    );
+    let from_location = unless(
+        location_tidy(l) & (n <= capacities::LOCATION),
+        fault::LOCATION,
+        from_sequence,
+    );
+    unless((1 <= v) & (v <= 3), fault::FORMAT_VERSION, from_location)
+}
+
+fn log_fault(first: u8, fits: bool, filled: bool) -> u8
+    requires { ⌜ first ≤ 13 ⌝ }
+    ensures { λ r. ⌜ r ≡ firstOf ((not fits, first) ∷ (not filled, first + 1) ∷ []) ⌝ }
+{
+    unless(fits, first, unless(filled, first + 1, fault::NONE))
+}
+
+fn table_fault(first: u8, fits: bool, filled: bool, ascends: bool) -> u8
+    requires { ⌜ first ≤ 24 ⌝ }
+    ensures { λ r. ⌜ r ≡ firstOf ((not fits, first) ∷ (not filled, first + 1) ∷ (not ascends, first + 2) ∷ []) ⌝ }
+{
+    let from_order = unless(ascends, first + 2, fault::NONE);
+    unless(fits, first, unless(filled, first + 1, from_order))
+}
+
+// A table that has room and whose slots passed is well formed exactly if its keys ascend.
+pub fn snapshots_fault(t: Snapshots) -> u8
+    ensures { λ r. ⌜ r ≡ firstOf (snapshotFaults t) ⌝ }
+{
+    let n = t.count;
+    table_fault(
+        fault::SNAPSHOTS,
+        n <= capacities::SNAPSHOTS,
+        snapshots_filled(t),
+        snapshots_formed(t),
+    )
+}
+
+pub fn refs_fault(t: Refs) -> u8
+    ensures { λ r. ⌜ r ≡ firstOf (refFaults t) ⌝ }
+{
+    let n = t.count;
+    table_fault(
+        fault::REFS,
+        n <= capacities::REFS,
+        refs_filled(t),
+        refs_formed(t),
+    )
+}
+
+pub fn snapshot_log_fault(t: SnapshotLog) -> u8
+    ensures { λ r. ⌜ r ≡ firstOf (snapshotLogFaults t) ⌝ }
+{
+    let n = t.count;
+    log_fault(
+        fault::SNAPSHOT_LOG,
+        n <= capacities::SNAPSHOT_LOG,
+        snapshot_log_formed(t),
+    )
+}
+
+pub fn metadata_log_fault(t: MetadataLog) -> u8
+    ensures { λ r. ⌜ r ≡ firstOf (metadataLogFaults t) ⌝ }
+{
+    let n = t.count;
+    log_fault(
+        fault::METADATA_LOG,
+        n <= capacities::METADATA_LOG,
+        metadata_log_formed(t),
+    )
+}
+
+pub fn schemas_fault(t: Schemas) -> u8
+    ensures { λ r. ⌜ r ≡ firstOf (schemaFaults t) ⌝ }
+{
+    let n = t.count;
+    table_fault(
+        fault::SCHEMAS,
+        n <= capacities::SCHEMAS,
+        schemas_filled(t),
+        schemas_formed(t),
+    )
+}
+
+pub fn orders_fault(t: SortOrders) -> u8
+    ensures { λ r. ⌜ r ≡ firstOf (orderFaults t) ⌝ }
+{
+    let n = t.count;
+    table_fault(
+        fault::SORT_ORDERS,
+        n <= capacities::SORT_ORDERS,
+        orders_filled(t),
+        orders_formed(t),
+    )
+}
+
+pub fn statistics_fault(first: u8, t: StatisticsFiles) -> u8
+    requires { ⌜ first ≤ 24 ⌝ }
+    ensures { λ r. ⌜ r ≡ firstOf (statisticsFaults first t) ⌝ }
+{
+    let n = t.count;
+    table_fault(
+        first,
+        n <= capacities::STATISTICS,
+        statistics_filled(t),
+        statistics_formed(t),
+    )
+}
