@@ -4,6 +4,7 @@ use crate::number::say_u8;
 use crate::text::say;
 use crate::text::say_line;
 use numbers::output::Output;
+use records::replies::START_NOT_FORMED;
 
 // As `refused 21 at 1`.
 pub fn say_refused(output: &mut Output, end: &mut usize, number: u8, place: usize) {
@@ -13,10 +14,47 @@ pub fn say_refused(output: &mut Output, end: &mut usize, number: u8, place: usiz
     say_count(output, end, place);
 }
 
+// A fault of a start, by its number of the crate `faults`. A line stands for each number.
+fn say_fault(output: &mut Output, end: &mut usize, fault: u8) {
+    let faults = b"none\n\
+        format version: not 1, 2 or 3\n\
+        location: longer than 96 bytes, or an unused byte is not 0\n\
+        last sequence number: below 0\n\
+        current snapshot: none is set, and its id is not 0\n\
+        snapshots: more than 64\n\
+        snapshots: one is not well formed, or an unused place is not blank\n\
+        snapshots: their ids do not ascend\n\
+        refs: more than 16\n\
+        refs: one is not well formed, or an unused place is not blank\n\
+        refs: their names do not ascend\n\
+        snapshot log: more than 128 entries\n\
+        snapshot log: an entry's snapshot id is below 0, or an unused place is not blank\n\
+        metadata log: more than 128 entries\n\
+        metadata log: an entry's file name is longer than 96 bytes, or an unused place is not blank\n\
+        schemas: more than 16\n\
+        schemas: one is not well formed, or an unused place is not blank\n\
+        schemas: their ids do not ascend\n\
+        sort orders: more than 16\n\
+        sort orders: one is not well formed, or an unused place is not blank\n\
+        sort orders: their ids do not ascend\n\
+        statistics: more than 32\n\
+        statistics: one is not well formed, or an unused place is not blank\n\
+        statistics: their snapshot ids do not ascend\n\
+        partition statistics: more than 32\n\
+        partition statistics: one is not well formed, or an unused place is not blank\n\
+        partition statistics: their snapshot ids do not ascend\n\
+        refs: one names a snapshot that is not held\n\
+        current snapshot: it and ref `main` disagree\n\
+        current schema: not held\n\
+        default sort order: not held\n\
+        current metadata file: its name is longer than 96 bytes\n";
+    say_line(output, end, faults, fault as usize);
+}
+
 // What a run is refused for: its numbers are 1 to 23 and 26. A line stands for each number, also for the two of a walk.
-pub fn say_reason(output: &mut Output, end: &mut usize, number: u8) {
+fn say_number(output: &mut Output, end: &mut usize, number: u8) {
     let reasons = b"accepted\n\
-        starting metadata not well formed, current file's name too long, or a walk's lists bad\n\
+        the start is not well formed\n\
         list sum above 64\n\
         this update not well formed\n\
         version lowered\n\
@@ -43,4 +81,13 @@ pub fn say_reason(output: &mut Output, end: &mut usize, number: u8) {
         walk's buffer shorter than its answer\n\
         tolerance not within 0 to 3600000 ms\n";
     say_line(output, end, reasons, number as usize);
+}
+
+// Of a start that is not well formed, its first fault too.
+pub fn say_reason(output: &mut Output, end: &mut usize, number: u8, fault: u8) {
+    say_number(output, end, number);
+    if number == START_NOT_FORMED {
+        say(output, end, b": ");
+        say_fault(output, end, fault);
+    }
 }

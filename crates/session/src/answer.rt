@@ -1,5 +1,7 @@
 // The answer: accepted, with this session's metadata, changes and expired metadata files; or refused, and why.
-use crate::rows::say_with_rows;
+use crate::conditions::say_removes_and_adds;
+use crate::conditions::say_with_conditions;
+use faults::start_fault;
 use numbers::output::Output;
 use plaintext::metadata::say_files;
 use plaintext::reply::say_reason;
@@ -7,22 +9,26 @@ use plaintext::reply::say_refused;
 use plaintext::text::say;
 use plaintext::update::say_updates;
 use records::run::Answer;
+use records::run::RunTerms;
 
 fn say_accepted(output: &mut Output, end: &mut usize, answer: Answer) {
     say(output, end, b"accepted\nthis session's metadata\n");
-    say_with_rows(output, end, answer.metadata);
+    say_with_conditions(output, end, answer.metadata);
     say(output, end, b"what changed\n");
     say_updates(output, end, b"change log", answer.changes);
+    say_removes_and_adds(output, end, history::removes_and_adds(answer.changes));
     say_files(output, end, b"expired metadata files", answer.expired);
 }
 
-pub fn say_answer(output: &mut Output, end: &mut usize, answer: Answer) {
+// A refused run gives back the metadata that it started from.
+pub fn say_answer(output: &mut Output, end: &mut usize, terms: RunTerms, answer: Answer) {
     if answer.number == 0 {
         say_accepted(output, end, answer);
         return;
     }
+    let fault = start_fault(answer.metadata, terms);
     say_refused(output, end, answer.number, answer.place);
     say(output, end, b": ");
-    say_reason(output, end, answer.number);
+    say_reason(output, end, answer.number, fault);
     say(output, end, b"\nthe metadata stays as it was\n");
 }

@@ -20,7 +20,7 @@ use plaintext::text::say;
 
 mod answer;
 mod asked;
-mod rows;
+mod conditions;
 
 // What read_case gives where no case follows.
 const NO_CASE: u64 = 0;
@@ -30,9 +30,9 @@ fn say_run(output: &mut Output, end: &mut usize, number: u64, run: Run) {
     say(output, end, b"run ");
     say_u64(output, end, number);
     say(output, end, b"\nlast session's metadata\n");
-    rows::say_with_rows(output, end, run.metadata);
+    conditions::say_with_conditions(output, end, run.metadata);
     asked::say_asked(output, end, run);
-    answer::say_answer(output, end, asked::ask(run));
+    answer::say_answer(output, end, run.terms, asked::ask(run));
 }
 
 // Nothing is said before the whole run is read, so that no part of its answer stands above `bad input`.
