@@ -2,29 +2,27 @@
 use numbers::field::is_unsigned;
 use numbers::input::Input;
 use numbers::input::Place;
+use numbers::input::begin_piece;
 use numbers::input::is_used_up;
 use numbers::input::spoil;
 use numbers::output::Output;
-use numbers::output::append;
 use numbers::output::flush;
-use numbers::output::make_room;
 use numbers::token::read_token;
+use numbers::wanted::UP_TO;
 
-// The highest kind of a case.
-const CASES: u64 = 11;
-
-// 0 at the end of the input, between cases.
-pub fn read_case(input: &mut Input, place: &mut Place) -> u64 {
+// The kind of the next case, from 1 to the highest that is wanted; 0 at the end of the input, between cases.
+pub fn read_case(input: &mut Input, place: &mut Place, wanted: usize, highest: u64) -> u64 {
+    begin_piece(place);
     let token = read_token(input, place);
     if !token.is_begun {
         return 0;
     }
-    if is_unsigned(token, CASES) {
+    if is_unsigned(token, highest) {
         if token.magnitude > 0 {
             return token.magnitude;
         }
     }
-    spoil(place);
+    spoil(place, wanted, highest);
     0
 }
 
@@ -35,6 +33,7 @@ pub struct First {
 }
 
 pub fn read_first(input: &mut Input, place: &mut Place) -> First {
+    begin_piece(place);
     let token = read_token(input, place);
     let is_there = token.is_begun;
     if is_unsigned(token, u64::MAX) {
@@ -45,7 +44,7 @@ pub fn read_first(input: &mut Input, place: &mut Place) -> First {
         }
     }
     if is_there {
-        spoil(place);
+        spoil(place, UP_TO, 255);
     }
     First {
         is_there,
@@ -59,9 +58,4 @@ pub fn end_answer(place: &Place, output: &Output, end: &mut usize) {
         flush(output, *end);
         *end = 0;
     }
-}
-
-pub fn put_bad_case(output: &mut Output, end: &mut usize) {
-    let at = make_room(output, *end);
-    *end = append(output, at, b"bad case\n");
 }

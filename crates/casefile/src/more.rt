@@ -7,6 +7,7 @@ use numbers::input::Input;
 use numbers::input::Place;
 use numbers::input::is_good;
 use numbers::input::spoil;
+use numbers::wanted::TAG;
 use records::counters::Age;
 use records::run::DEFAULT_TOLERANCE_MS;
 use records::statistics::StatisticsFiles;
@@ -47,16 +48,16 @@ impl More {
     }
 }
 
-// A tag that is not above the last one spoils the input.
+// A tag that is not above the last one, or unknown, spoils the input.
 fn read_tag(last: u64, input: &mut Input, place: &mut Place) -> u64 {
     let tag = read_u64(input, place);
-    if tag <= last {
-        spoil(place);
+    if tag <= last || tag > PARTITION_STATISTICS {
+        spoil(place, TAG, last);
     }
     tag
 }
 
-// What is given already, and the value of this tag; an unknown tag spoils the input.
+// What is given already, and the value of this tag; an unknown one has none.
 fn read_value(tag: u64, given: More, input: &mut Input, place: &mut Place) -> More {
     let mut more = given;
     match tag {
@@ -72,7 +73,7 @@ fn read_value(tag: u64, given: More, input: &mut Input, place: &mut Place) -> Mo
             more.given.partition_statistics = true;
             more.partition_statistics = read_statistics(input, place);
         }
-        _ => spoil(place),
+        _ => {}
     }
     more
 }

@@ -1,6 +1,5 @@
 // Answers cases from standard input, a line each, until the input ends or a case is bad.
 use casefile::case::end_answer;
-use casefile::case::put_bad_case;
 use casefile::case::read_case;
 use casefile::run::RUN;
 use casefile::run::RUN_GIVEN_MORE;
@@ -14,12 +13,18 @@ use numbers::output::Output;
 use numbers::output::empty_output;
 use numbers::output::flush;
 use numbers::output::put_line_end;
+use numbers::wanted::CASE;
+use plaintext::fault::say_fault;
+use plaintext::help::goes_on;
 
 mod leaf;
 mod moments;
 mod rows;
 mod runs;
 mod walks;
+
+// The highest kind of a case.
+const KINDS: u64 = 11;
 
 // What read_case gives where no case follows.
 const NO_CASE: u64 = 0;
@@ -39,16 +44,16 @@ fn answer(kind: u64, input: &mut Input, place: &mut Place, output: &mut Output, 
         10 => leaf::window_given_tolerance(input, place, output, end),
         11 => rows::rows_apart(input, place, output, end),
         NO_CASE => {}
-        _ => spoil(place),
+        _ => spoil(place, CASE, KINDS),
     }
 }
 
 // One case; whether there may be another.
 fn next(input: &mut Input, place: &mut Place, output: &mut Output, end: &mut usize) -> bool {
-    let kind = read_case(input, place);
+    let kind = read_case(input, place, CASE, KINDS);
     answer(kind, input, place, output, end);
     if !is_good(place) {
-        put_bad_case(output, end);
+        say_fault(output, end, b"case", place);
         return false;
     }
     if kind == NO_CASE {
@@ -60,14 +65,23 @@ fn next(input: &mut Input, place: &mut Place, output: &mut Output, end: &mut usi
 }
 
 // The turns are counted since nothing says that an input ends; no run uses them up.
-fn main() {
+fn answer_all(output: &mut Output, end: &mut usize) {
     let mut input = empty_input();
     let mut place = start();
+    let mut turns = u64::MAX;
+    while turns > 0 && next(&mut input, &mut place, output, end) {
+        turns -= 1;
+    }
+}
+
+fn main() {
     let mut output = empty_output();
     let mut end: usize = 0;
-    let mut turns = u64::MAX;
-    while turns > 0 && next(&mut input, &mut place, &mut output, &mut end) {
-        turns -= 1;
+    let help = b"cases < CASES: answers of every entry point, in numbers\n\
+        It reads cases in the case format (docs/CASES.md), any number of them, and prints for each a line with its answer.\n\
+        Example: ./soritauba cases < crates/cases/stdin\n";
+    if goes_on(&mut output, &mut end, help) {
+        answer_all(&mut output, &mut end);
     }
     flush(&output, end);
 }

@@ -5,6 +5,7 @@ use numbers::input::Input;
 use numbers::input::Place;
 use numbers::input::spoil;
 use numbers::token::read_token;
+use numbers::wanted::END;
 use records::capacities::SNAPSHOT_LOG;
 use records::capacities::SNAPSHOTS;
 use records::counters::SnapshotId;
@@ -20,7 +21,7 @@ pub struct Kept {
 fn read_end(input: &mut Input, place: &mut Place) {
     let rest = read_token(input, place);
     if rest.is_begun {
-        spoil(place);
+        spoil(place, END, 0);
     }
 }
 

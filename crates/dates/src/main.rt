@@ -1,6 +1,6 @@
 // Reads times in milliseconds since 1970 from standard input, and prints for each its date and the time that is read from that date: a line
-// each, for a comparison with another calendar. A time that is not within the years 1 to 9999 gets `none`, and what is no time ends with
-// `bad input`.
+// each, for a comparison with another calendar. A time that is not within the years 1 to 9999 gets `none`. What is no time ends it with a line
+// that begins with `bad input`, and so does an input without times.
 use calendar::date::date_of;
 use calendar::text::text_of;
 use calendar::text::time_of_text;
@@ -9,6 +9,9 @@ use numbers::field::signed_of;
 use numbers::input::Input;
 use numbers::input::Place;
 use numbers::input::empty_input;
+use numbers::input::is_first;
+use numbers::input::is_good;
+use numbers::input::spoil;
 use numbers::input::start;
 use numbers::number::put_i64;
 use numbers::output::Output;
@@ -18,6 +21,9 @@ use numbers::output::flush;
 use numbers::output::make_room;
 use numbers::output::put_line_end;
 use numbers::token::read_token;
+use numbers::wanted::SIGNED;
+use plaintext::fault::say_fault;
+use plaintext::help::goes_on;
 use records::counters::Time;
 
 fn put_text(output: &mut Output, end: &mut usize, text: &[u8]) {
@@ -47,28 +53,37 @@ fn put_answer(output: &mut Output, end: &mut usize, time: i64) {
 // One time; whether there may be another.
 fn next(input: &mut Input, place: &mut Place, output: &mut Output, end: &mut usize) -> bool {
     let token = read_token(input, place);
-    if !token.is_begun {
+    if is_good(place) && !token.is_begun && !is_first(place) {
         return false;
     }
     let signed = signed_of(token);
     if signed.is_number {
         put_answer(output, end, signed.number);
     } else {
-        put_text(output, end, b"bad input");
-        put_line_end(output, *end);
+        spoil(place, SIGNED, 1 << 63);
+        say_fault(output, end, b"", place);
     }
     signed.is_number
 }
 
 // The turns are counted since nothing says that an input ends; no run uses them up.
-fn main() {
+fn say_dates(output: &mut Output, end: &mut usize) {
     let mut input = empty_input();
     let mut place = start();
+    let mut turns = u64::MAX;
+    while turns > 0 && next(&mut input, &mut place, output, end) {
+        turns -= 1;
+    }
+}
+
+fn main() {
     let mut output = empty_output();
     let mut end: usize = 0;
-    let mut turns = u64::MAX;
-    while turns > 0 && next(&mut input, &mut place, &mut output, &mut end) {
-        turns -= 1;
+    let help = b"dates < TIMES: the date of each time\n\
+        It reads times in milliseconds since 1970, any number of them, and prints for each a line: its date, and the time of that date; none outside the years 1 to 9999.\n\
+        Example: echo 1741773600000 | ./soritauba dates\n";
+    if goes_on(&mut output, &mut end, help) {
+        say_dates(&mut output, &mut end);
     }
     flush(&output, end);
 }

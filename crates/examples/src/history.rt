@@ -1,6 +1,6 @@
 // P3, P4, P5 and P11: the snapshot log after the close, as JSON, or the refusal.
+use crate::given::three;
 use crate::question::ask;
-use crate::start::three;
 use crate::update::add;
 use crate::update::child;
 use crate::update::only;

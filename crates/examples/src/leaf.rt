@@ -1,5 +1,5 @@
 // P7 and P9: the limit of a text, and ancestor walks.
-use crate::start::three;
+use crate::given::three;
 use catalogue::table_ancestors;
 use fitting::with_slots;
 use leaves::limit::limit;

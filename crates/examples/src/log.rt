@@ -1,9 +1,9 @@
 // P8 and P10: which metadata files expire and which stay; what is logged.
+use crate::given::file_name;
+use crate::given::filed;
+use crate::given::three;
 use crate::question::ask;
 use crate::question::ask_with_file;
-use crate::start::file_name;
-use crate::start::filed;
-use crate::start::three;
 use crate::update::only;
 use crate::update::remove_schema;
 use fitting::with_slots;

@@ -3,16 +3,17 @@
 use numbers::output::Output;
 use numbers::output::empty_output;
 use numbers::output::flush;
+use plaintext::help::asks_for_help;
 use plaintext::name::say_escaped;
 use plaintext::number::say_u8;
 use plaintext::text::say;
 
+mod given;
 mod history;
 mod leaf;
 mod log;
 mod numbered;
 mod question;
-mod start;
 mod update;
 
 const EXAMPLES: u8 = 12;
@@ -134,8 +135,13 @@ fn say_arguments(output: &mut Output, end: &mut usize, count: usize) {
 fn main() {
     let mut output = empty_output();
     let mut end: usize = 0;
+    let help = b"examples [NAME..]: the examples of the requirements\n\
+        It takes names from P1 to P12 and prints a line for each; without names it prints all, each with its name. It reads nothing.\n\
+        Example: ./soritauba examples P3\n";
     let count = os::arg_count();
-    if count > 1 {
+    if asks_for_help() {
+        say(&mut output, &mut end, help);
+    } else if count > 1 {
         say_arguments(&mut output, &mut end, count);
     } else {
         say_all(&mut output, &mut end);

@@ -1,10 +1,10 @@
 // P1, P2, P6 and P12: both sides of a check on a number. Each side says the verdict and a counter of the metadata that is given back:
 // on refusal it is the one that was handed in.
+use crate::given::empty;
+use crate::given::first;
+use crate::given::three;
 use crate::question::ask;
 use crate::question::say_verdict;
-use crate::start::empty;
-use crate::start::first;
-use crate::start::three;
 use crate::update::add;
 use crate::update::child;
 use crate::update::only;

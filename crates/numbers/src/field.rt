@@ -8,6 +8,8 @@ use crate::input::Place;
 use crate::input::spoil;
 use crate::token::Token;
 use crate::token::read_token;
+use crate::wanted::SIGNED;
+use crate::wanted::UP_TO;
 
 fn is_whole(token: Token) -> bool
     ensures { λ r. ⌜ r ≡ isWhole token ⌝ }
@@ -39,7 +41,7 @@ pub fn read_up_to(input: &mut Input, place: &mut Place, most: u64) -> u64
     if is_unsigned(token, most) {
         return token.magnitude;
     }
-    spoil(place);
+    spoil(place, UP_TO, most);
     0
 }
 
@@ -103,7 +105,7 @@ fn read_signed(input: &mut Input, place: &mut Place, half: u64) -> i64
     if is_signed(token, half) {
         return to_i64(token.is_negative, token.magnitude);
     }
-    spoil(place);
+    spoil(place, SIGNED, half);
     0
 }
 

@@ -4,6 +4,7 @@ ghost use Prim.Native.Nat.{_+_, _≤_};
 ghost use lib.ListN.{length};
 ghost use lib.Seq.{sets};
 ghost use Rattle.numbers.specs.Writer.{kept};
+use libc::STDERR_FILENO;
 use libc::STDOUT_FILENO;
 
 pub const OUTPUT: usize = 16384;
@@ -17,11 +18,18 @@ pub fn empty_output() -> Output {
     [0; OUTPUT]
 }
 
-// A write that fails is not answered: a program has no exit status, and a message would have to be written too.
+// Said once, whatever else can not be written: standard error, which nothing else is written to, is closed then.
+fn say_unwritten() {
+    io::write_all(STDERR_FILENO, b"the output could not be written\n");
+    libc::close(STDERR_FILENO);
+}
+
 pub fn flush(output: &Output, end: usize) {
     let bytes: &[u8] = output;
     if end <= bytes.len() {
-        io::write_all(STDOUT_FILENO, &bytes[..end]);
+        if !io::write_all(STDOUT_FILENO, &bytes[..end]) {
+            say_unwritten();
+        }
     }
 }
 

@@ -6,7 +6,9 @@ ghost use Rattle.numbers.specs.Token.{blank as noToken, isDigit, isSepar
 use crate::input::Input;
 use crate::input::Next;
 use crate::input::Place;
+use crate::input::begin_number;
 use crate::input::next_byte;
+use crate::input::note;
 
 // A token as far as it has been read. It is a number so far if every byte may stand where it stands and the magnitude is at most
 // 2^64 - 1: a larger one fits no field.
@@ -104,6 +106,11 @@ fn with_byte(token: Token, byte: u8) -> Token
     no_number(token)
 }
 
+// Whether the byte stands in no number.
+fn is_odd(byte: u8) -> bool {
+    !is_digit(byte) && byte != b'-'
+}
+
 // A whole text as one token; a separator within it is no part of a number.
 pub fn token_of(text: &[u8]) -> Token
     ensures { λ r. ⌜ r ≡ withBytes noToken (now (text .entry)) ⌝ }
@@ -120,6 +127,7 @@ pub fn token_of(text: &[u8]) -> Token
 // The next token, with the separator after it. At the end of the input none is begun. The turns are counted since nothing says that
 // an input ends; no run uses them up.
 pub fn read_token(input: &mut Input, place: &mut Place) -> Token {
+    begin_number(place);
     let mut token = Token::blank();
     let mut turns = u64::MAX;
     while turns > 0 {
@@ -132,6 +140,7 @@ pub fn read_token(input: &mut Input, place: &mut Place) -> Token {
                 return token;
             }
         } else {
+            note(place, byte, is_odd(byte));
             token = with_byte(token, byte);
         }
     }

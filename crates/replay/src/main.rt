@@ -16,12 +16,16 @@ use fitting::lent;
 use numbers::input::Input;
 use numbers::input::Place;
 use numbers::input::empty_input;
+use numbers::input::is_first;
 use numbers::input::is_good;
+use numbers::input::spoil;
 use numbers::input::start;
 use numbers::output::Output;
 use numbers::output::empty_output;
 use numbers::output::flush;
-use plaintext::text::say;
+use numbers::wanted::UP_TO;
+use plaintext::fault::say_fault;
+use plaintext::help::goes_on;
 use records::metadata::TableMetadata;
 use verdict::Verdict;
 use words::Judged;
@@ -85,9 +89,11 @@ fn next(input: &mut Input, place: &mut Place, output: &mut Output, end: &mut usi
     let first = read_first(input, place);
     if first.is_there {
         read_and_say(first.number, input, place, output, end);
+    } else if is_first(place) {
+        spoil(place, UP_TO, 255);
     }
     if !is_good(place) {
-        say(output, end, b"bad input\n");
+        say_fault(output, end, b"question", place);
         return false;
     }
     end_answer(place, output, end);
@@ -95,14 +101,25 @@ fn next(input: &mut Input, place: &mut Place, output: &mut Output, end: &mut usi
 }
 
 // The turns are counted since nothing says that an input ends; no run uses them up.
-fn main() {
+fn say_questions(output: &mut Output, end: &mut usize) {
     let mut input = empty_input();
     let mut place = start();
+    let mut turns = u64::MAX;
+    while turns > 0 && next(&mut input, &mut place, output, end) {
+        turns -= 1;
+    }
+}
+
+fn main() {
     let mut output = empty_output();
     let mut end: usize = 0;
-    let mut turns = u64::MAX;
-    while turns > 0 && next(&mut input, &mut place, &mut output, &mut end) {
-        turns -= 1;
+    let help =
+        b"replay < QUESTIONS: whether a stored log leads from a starting metadata to an ending one\n\
+        It reads questions in the case format (docs/CASES.md), any number of them: what a run is given, without its kind where that is 1, then the ending metadata.\n\
+        For each it prints a line: the log leads there; or what differs first; or the refusal.\n\
+        Example: ./soritauba replay < crates/replay/stdin\n";
+    if goes_on(&mut output, &mut end, help) {
+        say_questions(&mut output, &mut end);
     }
     flush(&output, end);
 }

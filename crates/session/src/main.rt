@@ -1,20 +1,25 @@
 // Reads runs in the case format from standard input (cases of kinds 1 and 9), runs each, and prints for each last session's metadata, what is
 // asked, and the answer, in plain words. A run that is cut short, or holds what is no number of its field or a tag that may not stand
-// there, gets `bad input`, and nothing is read after it.
+// there, gets a line that begins with `bad input` and says where, and nothing is read after it; so does an input without runs.
 use casefile::case::end_answer;
 use casefile::case::read_case;
+use casefile::run::RUN_GIVEN_MORE;
 use casefile::run::Run;
 use casefile::run::is_run;
 use casefile::run::read_run;
 use numbers::input::Input;
 use numbers::input::Place;
 use numbers::input::empty_input;
+use numbers::input::is_first;
 use numbers::input::is_good;
 use numbers::input::spoil;
 use numbers::input::start;
 use numbers::output::Output;
 use numbers::output::empty_output;
 use numbers::output::flush;
+use numbers::wanted::RUN;
+use plaintext::fault::say_fault;
+use plaintext::help::goes_on;
 use plaintext::number::say_u64;
 use plaintext::text::say;
 
@@ -58,14 +63,14 @@ fn next(
     output: &mut Output,
     end: &mut usize,
 ) -> bool {
-    let kind = read_case(input, place);
+    let kind = read_case(input, place, RUN, RUN_GIVEN_MORE);
     if is_run(kind) {
         read_and_say(number, kind, input, place, output, end);
-    } else if kind != NO_CASE {
-        spoil(place);
+    } else if kind != NO_CASE || is_first(place) {
+        spoil(place, RUN, RUN_GIVEN_MORE);
     }
     if !is_good(place) {
-        say(output, end, b"bad input\n");
+        say_fault(output, end, b"run", place);
         return false;
     }
     end_answer(place, output, end);
@@ -73,14 +78,24 @@ fn next(
 }
 
 // The runs are numbered from 1. The turns are counted since nothing says that an input ends; no run uses them up.
-fn main() {
+fn say_runs(output: &mut Output, end: &mut usize) {
     let mut input = empty_input();
     let mut place = start();
+    let mut number: u64 = 1;
+    while number < u64::MAX && next(number, &mut input, &mut place, output, end) {
+        number += 1;
+    }
+}
+
+fn main() {
     let mut output = empty_output();
     let mut end: usize = 0;
-    let mut number: u64 = 1;
-    while number < u64::MAX && next(number, &mut input, &mut place, &mut output, &mut end) {
-        number += 1;
+    let help = b"session < RUNS: what each run makes of last session's metadata, in plain words\n\
+        It reads runs in the case format (docs/CASES.md), any number of them: cases of kinds 1 and 9.\n\
+        For each it prints the metadata that is given, what is asked, and the answer: accepted, with what came of it, or refused, with the reason.\n\
+        Example: ./soritauba session < crates/session/stdin\n";
+    if goes_on(&mut output, &mut end, help) {
+        say_runs(&mut output, &mut end);
     }
     flush(&output, end);
 }

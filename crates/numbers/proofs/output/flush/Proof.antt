@@ -11,5 +11,7 @@ flush-spec =
     (tie.spec
     (λ c. sym (length-take-le _ _ (c .before .if1 .taken)))
     (λ c κs. search needs)
+    (λ c κs. search needs)
+    (λ c. search needs)
     (λ c. search needs)
     (λ c. search needs))

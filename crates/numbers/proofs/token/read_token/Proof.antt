@@ -16,6 +16,7 @@ read-token-spec =
     Inv-loop
     μ-loop
     (λ c κs. tt)
+    (λ c κs. tt)
     (λ c. tt)
     (λ c κs. tt)
     (λ c. search needs)
@@ -26,6 +27,8 @@ read-token-spec =
     (λ c. tt)
     (λ c. search needs)
     (λ c. tt)
+    (λ c κs. tt)
+    (λ c κs. tt)
     (λ c κs. tt)
     (λ c. search needs)
     (λ c. tt)

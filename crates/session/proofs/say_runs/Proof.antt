@@ -1,28 +1,27 @@
 -- The loop ends since its turns are counted; nothing has to hold from turn to turn.
 use Prim.Native.Nat.{_-_}
 use borrow.Author.Needs.{needs}
-use Rattle.session.proofs.main.Statement.{statement}
-use Rattle.session.proofs.main.Tie as tie
+use Rattle.session.proofs.say_runs.Statement.{statement}
+use Rattle.session.proofs.say_runs.Tie as tie
 
 abbrev Inv-loop : tie.InvT-loop
-Inv-loop input₀ place₀ output₀ end₀ number₀ input place output end number = Unit {0}
+Inv-loop output₀ end₀ input₀ place₀ number₀ output end input place number = Unit {0}
 
 abbrev μ-loop : tie.MeasureT-loop
-μ-loop input₀ place₀ output₀ end₀ number₀ input place output end number = 18446744073709551615 - number
+μ-loop output₀ end₀ input₀ place₀ number₀ output end input place number = 18446744073709551615 - number
 
-pub main-spec : {M : Type 1} → statement M
-main-spec =
+pub say-runs-spec : {M : Type 1} → statement M
+say-runs-spec =
     tie.close
     (tie.spec
     Inv-loop
     μ-loop
     (λ c κs. tt)
     (λ c κs. tt)
-    (λ c κs. tt)
     (λ c. tt)
     (λ c κs. tt)
     (λ c. search needs)
     (λ c. search needs)
     (λ c. tt)
-    (λ c κs. tt)
+    (λ c. tt)
     (λ c. tt))

@@ -1,0 +1,67 @@
+// What is wrong with an input, and where, in one line, as `bad input: run 2, number 15, at byte 230: there should be a number from 0 to 255, but
+// the input ends`. Runs, numbers and bytes are counted from 1.
+use crate::number::say_count;
+use crate::text::say;
+use crate::text::say_line;
+use numbers::input::A_BYTE;
+use numbers::input::Fault;
+use numbers::input::Place;
+use numbers::input::fault_of;
+use numbers::output::Output;
+use numbers::wanted::REPEATED;
+use numbers::wanted::SIGNED;
+use numbers::wanted::UP_TO;
+
+// A word and a number, and what parts them from the next.
+fn say_counted(output: &mut Output, end: &mut usize, word: &[u8], number: usize, after: &[u8]) {
+    say(output, end, word);
+    say_count(output, end, number);
+    say(output, end, after);
+}
+
+// `piece` is what the input is made of: a run, a question. An input that is one piece is not counted.
+fn say_where(output: &mut Output, end: &mut usize, piece: &[u8], fault: Fault) {
+    if fault.piece > 0 {
+        say(output, end, piece);
+        say_counted(output, end, b" ", fault.piece, b", ");
+    }
+    say_counted(output, end, b"number ", fault.number, b", ");
+    say_counted(output, end, b"at byte ", fault.byte, b": ");
+}
+
+// A line for each of `numbers::wanted`, the bound last.
+fn say_wanted(output: &mut Output, end: &mut usize, wanted: usize, bound: usize) {
+    let words = b"the input could not be read\n\
+        there should be a number from 0 to \n\
+        there should be a number from -\n\
+        there should be the kind of a case, from 1 to \n\
+        there should be the kind of a run, 1 or \n\
+        there should be a tag of at most 3 and above \n\
+        there should be a kind from 0 to 3 or \n\
+        there should be the end of the input\n";
+    say_line(output, end, words, wanted);
+    if wanted >= UP_TO && wanted <= REPEATED {
+        say_count(output, end, bound);
+    }
+    if wanted == SIGNED && bound > 0 {
+        say_counted(output, end, b" to ", bound - 1, b"");
+    }
+}
+
+// A line for each thing that can be found; nothing is said of another number, and of an input that could not be read.
+fn say_found(output: &mut Output, end: &mut usize, found: usize, odd: usize) {
+    let words = b"\n, but the input ends\n, but there is a byte that is no digit, of value \n";
+    say_line(output, end, words, found);
+    if found == A_BYTE && odd > 0 {
+        say_count(output, end, odd - 1);
+    }
+    say(output, end, b"\n");
+}
+
+pub fn say_fault(output: &mut Output, end: &mut usize, piece: &[u8], place: &Place) {
+    let fault = fault_of(place);
+    say(output, end, b"bad input: ");
+    say_where(output, end, piece, fault);
+    say_wanted(output, end, fault.wanted, fault.bound);
+    say_found(output, end, fault.found, fault.odd);
+}
