@@ -1,13 +1,12 @@
-// The case format, written: for each piece the function that writes it.
+// The case format, written: a record is turned into its card, and a card is written by its layout.
 // A table or a text above its capacity is written with its count, and as many elements as there are slots for.
 // The page of the case format decides.
 pub mod ids;
-pub mod metadata;
-mod reference;
+mod layout;
+mod metadata;
 pub mod run;
-mod schema;
 pub mod snapshot;
-mod sort_order;
 pub mod statistics;
+mod table;
 pub mod text;
 mod update;

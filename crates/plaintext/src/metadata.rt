@@ -1,105 +1,63 @@
 // Metadata: its single fields a line each, then its tables.
-use crate::name::say_file_name;
-use crate::name::say_location;
-use crate::name::say_uuid;
-use crate::number::say_i32;
-use crate::number::say_i64;
-use crate::number::say_u8;
-use crate::number::say_u64;
-use crate::reference::say_refs;
-use crate::schema::say_schemas;
-use crate::snapshot::say_snapshot_log;
-use crate::snapshot::say_snapshots;
-use crate::sort_order::say_sort_orders;
-use crate::statistics::say_statistics;
-use crate::table::say_heading;
-use crate::table::say_left_out_line;
-use crate::text::say;
-use crate::time::say_time;
-use fitting::with_slots;
+use crate::table::say_table;
+use crate::template::say_part;
+use cards::record::identity;
+use cards::record::single_fields;
+use cards::table::OF_ENTRIES;
+use cards::table::OF_FILES;
+use cards::table::OF_PARTITION_STATISTICS;
+use cards::table::OF_REFS;
+use cards::table::OF_SCHEMAS;
+use cards::table::OF_SNAPSHOTS;
+use cards::table::OF_SORT_ORDERS;
+use cards::table::OF_STATISTICS;
+use cards::table::count_of;
+use cards::table::only_files;
 use numbers::output::Output;
-use records::capacities::METADATA_LOG;
 use records::metadata::MetadataLog;
-use records::metadata::MetadataLogEntry;
 use records::metadata::SingleFields;
 use records::metadata::TableMetadata;
 
-// As `"v1.json" from 100000 (1970-01-01 00:01:40 UTC)`.
-fn say_file(output: &mut Output, end: &mut usize, entry: MetadataLogEntry) {
-    say_file_name(output, end, entry.metadata_file);
-    say(output, end, b" from ");
-    say_time(output, end, entry.timestamp_ms);
-}
-
 pub fn say_files(output: &mut Output, end: &mut usize, heading: &[u8], log: MetadataLog) {
-    let count = log.count;
-    say_heading(output, end, heading, count);
-    let n = with_slots(count, METADATA_LOG);
-    let mut i = 0;
-    while i < n {
-        let entry = log.items[i];
-        say(output, end, b"    ");
-        say_file(output, end, entry);
-        say(output, end, b"\n");
-        i += 1;
+    say_table(output, end, heading, only_files(log), OF_FILES);
+}
+
+fn say_fields(output: &mut Output, end: &mut usize, fields: SingleFields) {
+    let identity_template = b"  format version: #0\n  uuid: ^\n";
+    let template =
+        b"  location: $\n  last update: @0\n  last sequence number: #1\n  next row id: %0\n  last column id: #2\n\
+        \x20 current snapshot: ?3{none|#4}\n  current schema: #5\n  default sort order: #6\n";
+    say_part(output, end, identity_template, 0, 0, identity(fields));
+    say_part(output, end, template, 0, 0, single_fields(fields));
+}
+
+// Few tables have such files, so an empty one is passed over.
+fn say_statistics(
+    output: &mut Output,
+    end: &mut usize,
+    heading: &[u8],
+    metadata: TableMetadata,
+    table: usize,
+) {
+    if count_of(metadata, table) > 0 {
+        say_table(output, end, heading, metadata, table);
     }
-    say_left_out_line(output, end, count, METADATA_LOG);
-}
-
-fn say_current(output: &mut Output, end: &mut usize, fields: SingleFields) {
-    say(output, end, b"\n  current snapshot: ");
-    if fields.has_current {
-        say_i64(output, end, fields.current_snapshot_id.0);
-    } else {
-        say(output, end, b"none");
-    }
-}
-
-fn say_identity(output: &mut Output, end: &mut usize, fields: SingleFields) {
-    let table_uuid = fields.table_uuid;
-    say(output, end, b"  format version: ");
-    say_u8(output, end, fields.format_version);
-    say(output, end, b"\n  uuid: ");
-    say_uuid(output, end, table_uuid);
-    say(output, end, b"\n  location: ");
-    say_location(output, end, fields.location);
-}
-
-fn say_counters(output: &mut Output, end: &mut usize, fields: SingleFields) {
-    say(output, end, b"\n  last update: ");
-    say_time(output, end, fields.last_updated_ms);
-    say(output, end, b"\n  last sequence number: ");
-    say_i64(output, end, fields.last_sequence_number.0);
-    say(output, end, b"\n  next row id: ");
-    say_u64(output, end, fields.next_row_id.0);
-    say(output, end, b"\n  last column id: ");
-    say_i32(output, end, fields.last_column_id.0);
-}
-
-fn say_choices(output: &mut Output, end: &mut usize, fields: SingleFields) {
-    say_current(output, end, fields);
-    say(output, end, b"\n  current schema: ");
-    say_i32(output, end, fields.current_schema_id.0);
-    say(output, end, b"\n  default sort order: ");
-    say_i64(output, end, fields.default_sort_order_id.0);
-    say(output, end, b"\n");
 }
 
 pub fn say_metadata(output: &mut Output, end: &mut usize, metadata: TableMetadata) {
-    say_identity(output, end, metadata.fields);
-    say_counters(output, end, metadata.fields);
-    say_choices(output, end, metadata.fields);
-    say_refs(output, end, metadata.refs);
-    say_snapshots(output, end, metadata.snapshots);
-    say_snapshot_log(output, end, metadata.snapshot_log);
-    say_files(output, end, b"metadata log", metadata.metadata_log);
-    say_schemas(output, end, metadata.schemas);
-    say_sort_orders(output, end, metadata.sort_orders);
-    say_statistics(output, end, b"statistics", metadata.statistics);
+    say_fields(output, end, metadata.fields);
+    say_table(output, end, b"refs", metadata, OF_REFS);
+    say_table(output, end, b"snapshots", metadata, OF_SNAPSHOTS);
+    say_table(output, end, b"snapshot log", metadata, OF_ENTRIES);
+    say_table(output, end, b"metadata log", metadata, OF_FILES);
+    say_table(output, end, b"schemas", metadata, OF_SCHEMAS);
+    say_table(output, end, b"sort orders", metadata, OF_SORT_ORDERS);
+    say_statistics(output, end, b"statistics", metadata, OF_STATISTICS);
     say_statistics(
         output,
         end,
         b"partition statistics",
-        metadata.partition_statistics,
+        metadata,
+        OF_PARTITION_STATISTICS,
     );
 }

@@ -3,12 +3,11 @@
 ghost use Prim.Native.Nat.{_<_};
 use crate::table::say_left_out;
 use crate::text::say;
-use crate::text::say_byte;
+use cards::card::Text;
+use fitting::lent;
 use fitting::with_slots;
 use numbers::output::Output;
 use records::text::FileName;
-use records::text::Location;
-use records::text::RefName;
 
 fn is_plain(byte: u8) -> bool {
     b' ' <= byte && byte <= b'~' && byte != b'"' && byte != b'\\'
@@ -23,18 +22,48 @@ fn hexadecimal(digit: u8) -> u8
     b'a' + (digit - 10)
 }
 
-fn say_hexadecimal(output: &mut Output, end: &mut usize, byte: u8) {
-    say_byte(output, end, hexadecimal(byte / 16));
-    say_byte(output, end, hexadecimal(byte % 16));
+// What a byte is written as: the first so many of the four.
+struct Spelled {
+    bytes: [u8; 4],
+    len: usize,
 }
 
-fn say_name_byte(output: &mut Output, end: &mut usize, byte: u8) {
+fn in_name(byte: u8) -> Spelled {
     if is_plain(byte) {
-        say_byte(output, end, byte);
-    } else {
-        say(output, end, b"\\x");
-        say_hexadecimal(output, end, byte);
+        return Spelled {
+            bytes: [byte, 0, 0, 0],
+            len: 1,
+        };
     }
+    let high = hexadecimal(byte / 16);
+    let low = hexadecimal(byte % 16);
+    Spelled {
+        bytes: [b'\\', b'x', high, low],
+        len: 4,
+    }
+}
+
+// A `-` stands before the bytes 4, 6, 8 and 10.
+fn in_uuid(byte: u8, at: usize) -> Spelled {
+    let high = hexadecimal(byte / 16);
+    let low = hexadecimal(byte % 16);
+    if at == 4 || at == 6 || at == 8 || at == 10 {
+        return Spelled {
+            bytes: [b'-', high, low, 0],
+            len: 3,
+        };
+    }
+    Spelled {
+        bytes: [high, low, 0, 0],
+        len: 2,
+    }
+}
+
+fn say_spelled(output: &mut Output, end: &mut usize, spelled: Spelled) {
+    let bytes = spelled.bytes;
+    let slots: &[u8] = &bytes;
+    let n = lent(slots, spelled.len);
+    say(output, end, &slots[..n]);
 }
 
 // The counted bytes that have a slot.
@@ -42,7 +71,7 @@ pub fn say_escaped(output: &mut Output, end: &mut usize, slots: &[u8], len: usiz
     let n = with_slots(len, slots.len());
     let mut i = 0;
     while i < n {
-        say_name_byte(output, end, slots[i]);
+        say_spelled(output, end, in_name(slots[i]));
         i += 1;
     }
 }
@@ -54,33 +83,22 @@ pub fn say_name(output: &mut Output, end: &mut usize, slots: &[u8], len: usize) 
     say_left_out(output, end, len, slots.len());
 }
 
-pub fn say_ref_name(output: &mut Output, end: &mut usize, name: RefName) {
-    let bytes = name.bytes;
-    say_name(output, end, &bytes, name.len);
-}
-
-pub fn say_location(output: &mut Output, end: &mut usize, location: Location) {
-    let bytes = location.bytes;
-    say_name(output, end, &bytes, location.len);
-}
-
 pub fn say_file_name(output: &mut Output, end: &mut usize, name: FileName) {
     let bytes = name.bytes;
     say_name(output, end, &bytes, name.len);
 }
 
-// A `-` stands before the bytes 4, 6, 8 and 10.
-fn say_dash(output: &mut Output, end: &mut usize, at: usize) {
-    if at == 4 || at == 6 || at == 8 || at == 10 {
-        say(output, end, b"-");
-    }
+pub fn say_text(output: &mut Output, end: &mut usize, text: Text) {
+    let bytes = text.bytes;
+    let slots: &[u8] = &bytes;
+    let n = lent(slots, text.slots);
+    say_name(output, end, &slots[..n], text.len);
 }
 
-pub fn say_uuid(output: &mut Output, end: &mut usize, uuid: [u8; 16]) {
+pub fn say_uuid(output: &mut Output, end: &mut usize, uuid: Text) {
     let mut i = 0;
     while i < 16 {
-        say_dash(output, end, i);
-        say_hexadecimal(output, end, uuid[i]);
+        say_spelled(output, end, in_uuid(uuid.bytes[i], i));
         i += 1;
     }
 }

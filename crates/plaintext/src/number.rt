@@ -1,5 +1,4 @@
 // Numbers in a sentence: with nothing after them.
-use numbers::number::put_i32;
 use numbers::number::put_i64;
 use numbers::number::put_u64;
 use numbers::output::Output;
@@ -18,11 +17,6 @@ pub fn say_u64(output: &mut Output, end: &mut usize, number: u64) {
 
 pub fn say_i64(output: &mut Output, end: &mut usize, number: i64) {
     put_i64(output, end, number);
-    drop_space(end);
-}
-
-pub fn say_i32(output: &mut Output, end: &mut usize, number: i32) {
-    put_i32(output, end, number);
     drop_space(end);
 }
 

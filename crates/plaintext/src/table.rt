@@ -1,16 +1,16 @@
-// What the lists of a table, of a removal and of a text have in common.
+// What lists and tables have in common, and the tables of metadata.
 use crate::number::say_count;
+use crate::record::say_record;
+use crate::template::say_part;
 use crate::text::say;
+use cards::card::Card;
+use cards::card::counted;
+use cards::table::card_at;
+use cards::table::count_of;
+use cards::table::slots_of;
+use fitting::with_slots;
 use numbers::output::Output;
-
-// A line for the table, above those of its elements.
-pub fn say_heading(output: &mut Output, end: &mut usize, heading: &[u8], count: usize) {
-    say(output, end, b"  ");
-    say(output, end, heading);
-    say(output, end, b": ");
-    say_count(output, end, count);
-    say(output, end, b"\n");
-}
+use records::metadata::TableMetadata;
 
 // What is counted beyond the slots was never held.
 pub fn say_left_out(output: &mut Output, end: &mut usize, count: usize, slots: usize) {
@@ -18,15 +18,6 @@ pub fn say_left_out(output: &mut Output, end: &mut usize, count: usize, slots: u
         say(output, end, b" and ");
         say_count(output, end, count - slots);
         say(output, end, b" more");
-    }
-}
-
-// The same below a table, as a line.
-pub fn say_left_out_line(output: &mut Output, end: &mut usize, count: usize, slots: usize) {
-    if count > slots {
-        say(output, end, b"   ");
-        say_left_out(output, end, count, slots);
-        say(output, end, b"\n");
     }
 }
 
@@ -42,4 +33,48 @@ pub fn say_none(output: &mut Output, end: &mut usize, count: usize) {
     if count == 0 {
         say(output, end, b"none");
     }
+}
+
+// A line for a table, above those of its elements.
+pub fn say_heading(output: &mut Output, end: &mut usize, heading: &[u8], counts: Card) {
+    say(output, end, b"  ");
+    say(output, end, heading);
+    say_part(output, end, b": %0\n", 0, 0, counts);
+}
+
+// A line below them.
+pub fn say_end(output: &mut Output, end: &mut usize, counts: Card) {
+    say_part(output, end, b"?1{|    and %1 more\n}", 0, 0, counts);
+}
+
+fn say_element(
+    output: &mut Output,
+    end: &mut usize,
+    metadata: TableMetadata,
+    table: usize,
+    i: usize,
+) {
+    say(output, end, b"    ");
+    say_record(output, end, table, card_at(metadata, table, i));
+    say(output, end, b"\n");
+}
+
+pub fn say_table(
+    output: &mut Output,
+    end: &mut usize,
+    heading: &[u8],
+    metadata: TableMetadata,
+    table: usize,
+) {
+    let count = count_of(metadata, table);
+    let slots = slots_of(table);
+    let counts = counted(count, slots);
+    say_heading(output, end, heading, counts);
+    let n = with_slots(count, slots);
+    let mut i = 0;
+    while i < n {
+        say_element(output, end, metadata, table, i);
+        i += 1;
+    }
+    say_end(output, end, counts);
 }

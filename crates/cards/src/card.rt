@@ -1,0 +1,164 @@
+// A card: the single numbers of a record, of either sign and wide, its text and its list. What a record has not is blank.
+use fitting::with_slots;
+use records::capacities::FILE_NAME;
+use records::capacities::SCHEMA_FIELDS;
+use records::capacities::SORT_FIELDS;
+
+pub const SIGNED: usize = 8;
+
+pub const UNSIGNED: usize = 2;
+
+// A name, a location, a path or a uuid: its slots are the first so many of the bytes.
+pub struct Text {
+    pub bytes: [u8; FILE_NAME],
+    pub slots: usize,
+    pub len: usize,
+}
+
+// Elements of so many numbers each, one after the other. A width of 0 says that the record has no list.
+pub struct List {
+    pub numbers: [i64; SCHEMA_FIELDS],
+    pub width: usize,
+    pub slots: usize,
+    pub count: usize,
+}
+
+pub struct Card {
+    pub signed: [i64; SIGNED],
+    pub unsigned: [u64; UNSIGNED],
+    pub text: Text,
+    pub list: List,
+}
+
+impl Text {
+    pub fn blank() -> Text {
+        Text {
+            bytes: [0; FILE_NAME],
+            slots: 0,
+            len: 0,
+        }
+    }
+}
+
+impl List {
+    pub fn blank() -> List {
+        List {
+            numbers: [0; SCHEMA_FIELDS],
+            width: 0,
+            slots: 0,
+            count: 0,
+        }
+    }
+}
+
+impl Card {
+    pub fn of_numbers(signed: [i64; SIGNED], unsigned: [u64; UNSIGNED]) -> Card {
+        let text = Text::blank();
+        let list = List::blank();
+        Card {
+            signed,
+            unsigned,
+            text,
+            list,
+        }
+    }
+
+    pub fn of_number(number: i64) -> Card {
+        Card::of_numbers([number, 0, 0, 0, 0, 0, 0, 0], [0, 0])
+    }
+
+    pub fn with_text(mut self, text: Text) -> Card {
+        self.text = text;
+        self
+    }
+
+    pub fn with_list(mut self, list: List) -> Card {
+        self.list = list;
+        self
+    }
+}
+
+pub fn wide(number: i32) -> i64 {
+    number as i64
+}
+
+// The bytes of a text of any of the types that hold one.
+pub fn text_of(slots: &[u8], len: usize) -> Text {
+    let mut bytes = [0u8; FILE_NAME];
+    let n = with_slots(slots.len(), FILE_NAME);
+    let mut i = 0;
+    while i < n {
+        bytes[i] = slots[i];
+        i += 1;
+    }
+    Text {
+        bytes,
+        slots: n,
+        len,
+    }
+}
+
+// How many numbers of a list are filled.
+pub fn filled(list: List) -> usize {
+    let n = with_slots(list.count, list.slots);
+    if list.width == 1 {
+        return n;
+    }
+    3 * with_slots(n, SORT_FIELDS)
+}
+
+// A number by its place; past the last it is 0.
+pub fn signed_at(card: Card, at: usize) -> i64 {
+    let numbers = card.signed;
+    if at < SIGNED {
+        return numbers[at];
+    }
+    0
+}
+
+pub fn unsigned_at(card: Card, at: usize) -> u64 {
+    let numbers = card.unsigned;
+    if at < UNSIGNED {
+        return numbers[at];
+    }
+    0
+}
+
+// A count and how many of it are past the slots; before them whether each is above 0.
+pub fn counted(count: usize, slots: usize) -> Card {
+    let left_out = if count > slots { count - slots } else { 0 };
+    Card::of_numbers(
+        [(count > 0) as i64, (left_out > 0) as i64, 0, 0, 0, 0, 0, 0],
+        [count as u64, left_out as u64],
+    )
+}
+
+pub fn number_at(list: List, at: usize) -> i64 {
+    let numbers = list.numbers;
+    if at < SCHEMA_FIELDS {
+        return numbers[at];
+    }
+    0
+}
+
+// The numbers of an element, at most three, and behind them whether another stands before it.
+pub fn element(list: List, i: usize) -> Card {
+    let follows = (i > 0) as i64;
+    if list.width == 1 {
+        return Card::of_numbers([number_at(list, i), 0, 0, follows, 0, 0, 0, 0], [0, 0]);
+    }
+    let at = 3 * with_slots(i, SORT_FIELDS);
+    Card::of_numbers(
+        [
+            number_at(list, at),
+            number_at(list, at + 1),
+            number_at(list, at + 2),
+            follows,
+            0,
+            0,
+            0,
+            0,
+        ],
+        [0, 0],
+    )
+}

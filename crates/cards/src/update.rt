@@ -1,0 +1,73 @@
+// An update as the card of what its kind uses. That of an unknown kind is the kind.
+use crate::card::Card;
+use crate::card::text_of;
+use crate::card::wide;
+use crate::record::chosen;
+use crate::record::location;
+use crate::record::ref_name;
+use crate::record::reference;
+use crate::record::schema;
+use crate::record::schema_ids;
+use crate::record::snapshot;
+use crate::record::snapshot_ids;
+use crate::record::sort_order;
+use crate::record::statistics_file;
+use records::update::ADD_SCHEMA;
+use records::update::ADD_SNAPSHOT;
+use records::update::ADD_SORT_ORDER;
+use records::update::ASSIGN_UUID;
+use records::update::REMOVE_PARTITION_STATISTICS;
+use records::update::REMOVE_REF;
+use records::update::REMOVE_SCHEMAS;
+use records::update::REMOVE_SNAPSHOTS;
+use records::update::REMOVE_STATISTICS;
+use records::update::SET_BRANCH_SNAPSHOT;
+use records::update::SET_CURRENT_SCHEMA;
+use records::update::SET_DEFAULT_SORT_ORDER;
+use records::update::SET_LOCATION;
+use records::update::SET_PARTITION_STATISTICS;
+use records::update::SET_REF;
+use records::update::SET_STATISTICS;
+use records::update::TableUpdate;
+use records::update::UPGRADE_FORMAT_VERSION;
+
+// uuid
+fn uuid(u: TableUpdate) -> Card {
+    let bytes = u.uuid;
+    Card::of_number(0).with_text(text_of(&bytes, 16))
+}
+
+// Kinds 1 to 6.
+fn early(u: TableUpdate) -> Card {
+    let kind = u.kind;
+    match kind {
+        ASSIGN_UUID => uuid(u),
+        UPGRADE_FORMAT_VERSION => Card::of_number(u.format_version as i64),
+        SET_LOCATION => Card::of_number(0).with_text(location(u.location)),
+        ADD_SNAPSHOT => snapshot(u.snapshot),
+        SET_BRANCH_SNAPSHOT => snapshot(u.snapshot).with_text(ref_name(u.ref_name)),
+        REMOVE_SNAPSHOTS => Card::of_number(0).with_list(snapshot_ids(u.snapshot_ids)),
+        _ => Card::of_number(kind as i64),
+    }
+}
+
+// Kinds 7 to 17.
+fn late(u: TableUpdate) -> Card {
+    let kind = u.kind;
+    match kind {
+        SET_REF => reference(u.reference).with_text(ref_name(u.ref_name)),
+        REMOVE_REF => Card::of_number(0).with_text(ref_name(u.ref_name)),
+        ADD_SCHEMA => schema(u.schema),
+        SET_CURRENT_SCHEMA => chosen(wide(u.schema_id.0)),
+        REMOVE_SCHEMAS => Card::of_number(0).with_list(schema_ids(u.schema_ids)),
+        ADD_SORT_ORDER => sort_order(u.sort_order),
+        SET_DEFAULT_SORT_ORDER => chosen(u.sort_order_id.0),
+        SET_STATISTICS | SET_PARTITION_STATISTICS => statistics_file(u.statistics),
+        REMOVE_STATISTICS | REMOVE_PARTITION_STATISTICS => Card::of_number(u.statistics_id.0),
+        _ => Card::of_number(kind as i64),
+    }
+}
+
+pub fn update(u: TableUpdate) -> Card {
+    if u.kind < SET_REF { early(u) } else { late(u) }
+}
