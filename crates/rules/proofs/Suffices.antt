@@ -1,6 +1,6 @@
 -- Demand 3 as a property of any way to answer runs. The rules have it, and its hypothesis is met: P3, P5 and P10 are instances, computed.
 -- A way that gives back its start with an empty log has it too, and so has one that always refuses: these demand 2 excludes, at P3.
--- It excludes too, at P5, one that applies only the first update and logs the rest, and at P8 and P3 one that invents its expired entries.
+-- One that invents its expired entries has it too, and breaks demand 2 at P8 or P3; one that applies only the first update and logs the rest does at P5.
 use Prim.Native.Nat.{ℕ}
 use native.Mathlib.Omega.{arith}
 use mathlib.Core.Path.{_≡_, refl, ap, sym, _∙_}
@@ -127,6 +127,21 @@ withExpired invented (Accepted m log expired) = Accepted m log invented
 
 abbrev pub inventing : List FileEntry → Terms → Metadata → List Update → Outcome
 inventing invented terms m us = withExpired invented (run terms m us)
+
+replayed : (invented : List FileEntry) (terms : Terms) (m : Metadata) (us log : List Update) (m′ : Metadata) (expired : List FileEntry) (o : Outcome)
+    → run terms m us ≡ o → withExpired invented o ≡ Accepted m′ log expired
+    → (inventing invented terms m log ≡ Accepted m′ (strip log) expired) × (inventing invented terms m (strip log) ≡ Accepted m′ (strip log) expired)
+replayed invented terms m us log m′ expired (Refused number place) e f = never number place m′ log expired f
+replayed invented terms m us log m′ expired (Accepted n logged gone) e f =
+    let leads : withExpired invented (run terms m logged) ≡ Accepted n (strip logged) invented = ap (withExpired invented) (log-replays terms m us n logged gone e) in
+    let rests : withExpired invented (run terms m (strip logged)) ≡ Accepted n (strip logged) invented = ap (withExpired invented) (stripped-replays terms m us n logged gone e) in
+    (cc, cc)
+
+pub inventing-suffices : (invented : List FileEntry) → Suffices (inventing invented)
+inventing-suffices invented = record {
+  leads = λ terms m us m′ log expired e. replayed invented terms m us log m′ expired (run terms m us) refl e .0;
+  rests = λ terms m us m′ log expired e. replayed invented terms m us log m′ expired (run terms m us) refl e .1;
+}
 
 -- how many entries expire; 0 for a refusal
 abbrev gone : Outcome → ℕ
