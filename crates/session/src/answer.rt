@@ -1,6 +1,7 @@
 // The answer: accepted, with this session's metadata, changes and expired metadata files; or refused, and why.
 use crate::conditions::say_removes_and_adds;
 use crate::conditions::say_with_conditions;
+use faults::fault;
 use faults::start_fault;
 use numbers::output::Output;
 use plaintext::metadata::say_files;
@@ -8,6 +9,7 @@ use plaintext::reply::say_reason;
 use plaintext::reply::say_refused;
 use plaintext::text::say;
 use plaintext::update::say_updates;
+use records::replies::START_NOT_FORMED;
 use records::run::Answer;
 use records::run::RunTerms;
 
@@ -16,19 +18,26 @@ fn say_accepted(output: &mut Output, end: &mut usize, answer: Answer) {
     say_with_conditions(output, end, answer.metadata);
     say(output, end, b"what changed\n");
     say_updates(output, end, b"change log", answer.changes);
-    say_removes_and_adds(output, end, history::removes_and_adds(answer.changes));
+    say_removes_and_adds(output, end, histories::removes_and_adds(answer.changes));
     say_files(output, end, b"expired metadata files", answer.expired);
 }
 
-// A refused run gives back the metadata that it started from.
+// Of a start that is not well formed. A refused run gives back the metadata that it started from.
+fn fault_of(terms: RunTerms, answer: Answer) -> u8 {
+    if answer.number == START_NOT_FORMED {
+        return start_fault(answer.metadata, terms);
+    }
+    fault::NONE
+}
+
 pub fn say_answer(output: &mut Output, end: &mut usize, terms: RunTerms, answer: Answer) {
     if answer.number == 0 {
         say_accepted(output, end, answer);
         return;
     }
-    let fault = start_fault(answer.metadata, terms);
+    let found = fault_of(terms, answer);
     say_refused(output, end, answer.number, answer.place);
     say(output, end, b": ");
-    say_reason(output, end, answer.number, fault);
+    say_reason(output, end, answer.number, found);
     say(output, end, b"\nthe metadata stays as it was\n");
 }

@@ -57,7 +57,7 @@ pub fn say_removes_and_adds(output: &mut Output, end: &mut usize, both: bool) {
 
 pub fn say_with_conditions(output: &mut Output, end: &mut usize, metadata: TableMetadata) {
     let version = metadata.fields.format_version;
-    let whole = history::is_whole(metadata);
+    let whole = histories::is_whole(metadata);
     say_metadata(output, end, metadata);
     say_history(output, end, whole);
     if version == ROWS_FROM {

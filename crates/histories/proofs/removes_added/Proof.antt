@@ -10,9 +10,9 @@ use Rattle.rules.specs.ChangeLog.{logsAddition}
 use Rattle.rules.specs.Moment.{removedIds}
 use Rattle.rules.specs.Layout.{readSnapshotIds}
 use Rattle.rules.specs.Kinds.{removeSnapshotsKind, isTidyUpdate, readKind, readUpdate, readUpdates}
-use Rattle.history.proofs.OfKind.{read-tidy, other-kind}
-use Rattle.history.proofs.removes_added.Statement.{statement}
-use Rattle.history.proofs.removes_added.Tie as tie
+use Rattle.histories.proofs.OfKind.{read-tidy, other-kind}
+use Rattle.histories.proofs.removes_added.Statement.{statement}
+use Rattle.histories.proofs.removes_added.Tie as tie
 
 module _ (q : ℤ → Bool) (u : TableUpdate) where
   removed : u .kind ≡ removeSnapshotsKind → any q (removedIds (readKind u)) ≡ any q (readSnapshotIds (u .«snapshot_ids»))

@@ -12,8 +12,8 @@ use Rattle.rules.specs.WellFormed.{holdsSnapshot}
 use Rattle.rules.specs.Layout.{readSnapshots, readLogEntry}
 use Rattle.formed.proofs.Scans.{slots}
 use Rattle.formed.proofs.Counted.{Taken, taken-start, taken-on, taken-end, all-counted}
-use Rattle.history.proofs.names_held.Statement.{statement}
-use Rattle.history.proofs.names_held.Tie as tie
+use Rattle.histories.proofs.names_held.Statement.{statement}
+use Rattle.histories.proofs.names_held.Tie as tie
 
 abbrev Inv-loop : tie.InvT-loop
 Inv-loop t log n ok₀ i₀ ok i = Taken (λ (x : SnapshotLogEntry). holdsSnapshot (readSnapshots t) (readLogEntry x .snapshot)) (log .count) (log .items) 0 i true ok

@@ -2,8 +2,8 @@
 use mathlib.Core.Path.{sym, _∙_}
 use base.Logic.{emp, id⊢}
 use Rattle.rules.specs.Promises.{Unique, AsksNothing}
-use Rattle.history.proofs.is_whole as is-whole
-use Rattle.history.proofs.removes_and_adds as removes-and-adds
+use Rattle.histories.proofs.is_whole as is-whole
+use Rattle.histories.proofs.removes_and_adds as removes-and-adds
 
 pub is-whole-unique : Unique is-whole.Kinds.ps is-whole.Kinds.r is-whole.Reads.Post
 is-whole-unique κs a x y s t p q = p ∙ sym q

@@ -21,8 +21,8 @@ use Rattle.rules.proofs.Relaid.{relaid}
 use Rattle.rules.proofs.Sound.{Sound, formed-sound}
 use Rattle.tables.specs.Laid.{LaidSnapshots}
 use Rattle.formed.proofs.Counted.{read-length}
-use Rattle.history.proofs.is_whole.Statement.{statement}
-use Rattle.history.proofs.is_whole.Tie as tie
+use Rattle.histories.proofs.is_whole.Statement.{statement}
+use Rattle.histories.proofs.is_whole.Tie as tie
 
 module _ (m : TableMetadata) (e : (isTidyMetadata m && metadataFormed (readMetadata m)) ≡ true) where
   sound : Sound (readMetadata m)

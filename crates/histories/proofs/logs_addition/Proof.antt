@@ -11,10 +11,10 @@ use Rattle.rules.specs.ChangeLog.{isAddition, logsAddition}
 use Rattle.rules.specs.Kinds.{readUpdate}
 use Rattle.formed.proofs.Scans.{slots}
 use Rattle.formed.proofs.Counted.{Taken, taken-start, taken-on}
-use Rattle.history.proofs.Slots.{with-slots, scanned, any-update}
-use Rattle.history.proofs.OfKind.{of-no-kind}
-use Rattle.history.proofs.logs_addition.Statement.{statement}
-use Rattle.history.proofs.logs_addition.Tie as tie
+use Rattle.histories.proofs.Slots.{with-slots, scanned, any-update}
+use Rattle.histories.proofs.OfKind.{of-no-kind}
+use Rattle.histories.proofs.logs_addition.Statement.{statement}
+use Rattle.histories.proofs.logs_addition.Tie as tie
 
 abbrev Inv-loop : tie.InvT-loop
 Inv-loop id changes n none₀ i₀ none i = (length (changes .items) ≡ listRoom) × Taken (λ (u : TableUpdate). not (isAddition (id .0) (readUpdate u))) n (changes .items) 0 i true none

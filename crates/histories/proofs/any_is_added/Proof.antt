@@ -17,9 +17,9 @@ use Rattle.rules.specs.Kinds.{readUpdates}
 use Rattle.tables.proofs.Search.{any-map}
 use Rattle.formed.proofs.Scans.{slots}
 use Rattle.formed.proofs.Counted.{Taken, taken-start, taken-on}
-use Rattle.history.proofs.Slots.{with-slots, scanned, any-counted}
-use Rattle.history.proofs.any_is_added.Statement.{statement}
-use Rattle.history.proofs.any_is_added.Tie as tie
+use Rattle.histories.proofs.Slots.{with-slots, scanned, any-counted}
+use Rattle.histories.proofs.any_is_added.Statement.{statement}
+use Rattle.histories.proofs.any_is_added.Tie as tie
 
 -- the log adds the snapshot
 abbrev isAdded : UpdateList → SnapshotId → Bool

@@ -18,10 +18,10 @@ use Rattle.rules.specs.Kinds.{readUpdate, readUpdates}
 use Rattle.rules.proofs.ReplayLists.{any-append}
 use Rattle.formed.proofs.Scans.{slots}
 use Rattle.formed.proofs.Counted.{Taken, taken-start, taken-on}
-use Rattle.history.proofs.Slots.{with-slots, scanned, any-update}
-use Rattle.history.proofs.OfKind.{of-no-kind}
-use Rattle.history.proofs.removes_and_adds.Statement.{statement}
-use Rattle.history.proofs.removes_and_adds.Tie as tie
+use Rattle.histories.proofs.Slots.{with-slots, scanned, any-update}
+use Rattle.histories.proofs.OfKind.{of-no-kind}
+use Rattle.histories.proofs.removes_and_adds.Statement.{statement}
+use Rattle.histories.proofs.removes_and_adds.Tie as tie
 
 -- the removed snapshots, update by update
 removed-each : (q : ℤ → Bool) (l : List Update) → any q (logsRemoved l) ≡ any (λ (u : Update). any q (removedIds u)) l

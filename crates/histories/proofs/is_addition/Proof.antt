@@ -7,9 +7,9 @@ use Rattle.records.specs.declared.update.TableUpdate.{TableUpdate}
 use Rattle.rules.specs.Words.{eqZ}
 use Rattle.rules.specs.ChangeLog.{isAddition}
 use Rattle.rules.specs.Kinds.{addSnapshotKind, isTidyUpdate, readKind, readUpdate}
-use Rattle.history.proofs.OfKind.{read-tidy, other-kind}
-use Rattle.history.proofs.is_addition.Statement.{statement}
-use Rattle.history.proofs.is_addition.Tie as tie
+use Rattle.histories.proofs.OfKind.{read-tidy, other-kind}
+use Rattle.histories.proofs.is_addition.Statement.{statement}
+use Rattle.histories.proofs.is_addition.Tie as tie
 
 module _ (id : ℤ) (u : TableUpdate) where
   added : u .kind ≡ addSnapshotKind → isAddition id (readKind u) ≡ eqZ (u .snapshot .«snapshot_id» .0) id

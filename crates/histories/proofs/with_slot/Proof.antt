@@ -1,7 +1,7 @@
 -- The two answers of the test.
 use borrow.Author.Tests.{le-leb, lt-leb}
-use Rattle.history.proofs.with_slot.Statement.{statement}
-use Rattle.history.proofs.with_slot.Tie as tie
+use Rattle.histories.proofs.with_slot.Statement.{statement}
+use Rattle.histories.proofs.with_slot.Tie as tie
 
 pub with-slot-spec : {M : Type 1} → statement M
 with-slot-spec =
