@@ -38,6 +38,7 @@ pub mod Laid
 pub mod Reread
 pub mod Places
 pub mod AnswerLaws
+pub mod AnswerStart
 pub mod AnswerRows
 pub mod AnswerReplays
 pub mod AnswerInstances

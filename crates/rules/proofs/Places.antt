@@ -91,11 +91,11 @@ update-numbers terms (SetStatistics which f) st = refl
 update-numbers terms (RemoveStatistics which id) st = refl
 update-numbers terms (NotFormed counts) st = refl
 
-update-numbered : (terms : Terms) (u : Update) (st : State) → (updateNumber terms u st ≡ accepted → ⊥) → isOfUpdate (updateNumber terms u st) ≡ true
+pub update-numbered : (terms : Terms) (u : Update) (st : State) → (updateNumber terms u st ≡ accepted → ⊥) → isOfUpdate (updateNumber terms u st) ≡ true
 unfolding updateNumber
 update-numbered terms u st = first-numbered isOfUpdate ((not (updateFormed u), updateNotFormed) ∷ checks terms u st) (update-numbers terms u st)
 
-close-numbered : (terms : Terms) (log : List Update) (m : Metadata) → (firstOf (closeChecks terms log m) ≡ accepted → ⊥) → isOfClose (firstOf (closeChecks terms log m)) ≡ true
+pub close-numbered : (terms : Terms) (log : List Update) (m : Metadata) → (firstOf (closeChecks terms log m) ≡ accepted → ⊥) → isOfClose (firstOf (closeChecks terms log m)) ≡ true
 unfolding closeChecks
 close-numbered terms log m = first-numbered isOfClose (closeChecks terms log m) refl
 
