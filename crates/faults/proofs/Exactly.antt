@@ -1,18 +1,23 @@
 -- A fault is found exactly where document 01 has the metadata not well formed, or the start.
 use Prim.Native.Nat.{ℕ}
 use mathlib.Core.Path.{_≡_, refl, _∙_}
-use mathlib.Core.Bool.{Bool, true}
-use mathlib.Core.List.{List, [], _∷_, _++_}
+use mathlib.Core.Bool.{Bool, true, _&&_}
+use mathlib.Core.List.{List, [], _∷_}
 use borrow.Author.Tests.{not-false}
+use borrow.Table.Steps.{cases}
 use Rattle.records.specs.declared.metadata.TableMetadata.{TableMetadata}
+use Rattle.records.specs.declared.update.UpdateList.{UpdateList}
 use Rattle.records.specs.declared.run.RunTerms.{RunTerms}
-use Rattle.rules.specs.Words.{ifSome, firstOf}
+use Rattle.rules.specs.Replies.{startNotFormed}
+use Rattle.rules.specs.Words.{ifSome}
 use Rattle.rules.specs.WellFormed.{fileNameFormed, snapshotsFormed, refsFormed, snapshotLogFormed, metadataLogFormed, schemasFormed, ordersFormed, statisticsFormed, fieldsFormed, refsHeld, mainAgrees, currentSchemaHeld, defaultOrderHeld, metadataFormed}
 use Rattle.rules.specs.Blanks.{isTidySnapshots, isTidyRefs, isTidySnapshotLog, isTidyMetadataLog, isTidySchemas, isTidySortOrders, isTidyStatistics, isTidyFields, isTidyMetadata}
 use Rattle.rules.specs.Layout.{given, readFileName, readMetadata}
 use Rattle.rules.specs.Register as plain
-use Rattle.rules.proofs.Checks.{parts, whole, Passed, passed, passed-before, passed-after, first-after}
+use Rattle.rules.specs.Answer.{answer}
+use Rattle.rules.proofs.Checks.{both, and-left, and-right, parts, whole, Passed, passed, passed-before, passed-after, first-after}
 use Rattle.rules.proofs.AnswerLaws.{Formed}
+use Rattle.rules.proofs.AnswerStart.{not-formed-one, formed-not-one}
 use Rattle.faults.specs.Faults.{partFaults, agreementFaults, metadataFaults, metadataFault, fileFaults, startFault}
 use Rattle.faults.proofs.Parts.{FineParts, fine-parts, faultless-parts, parts-numbered, all-numbered}
 
@@ -112,3 +117,22 @@ module _ (m : TableMetadata) (terms : RunTerms) where
   pub start-faultless : FormedStart m terms → startFault m terms ≡ 0
   unfolding startFault metadataFault fileFaults
   start-faultless f = first-after (metadataFaults m) (fileFaults terms) (all-numbered m) (formed-faultless m (f .metadata)) ∙ rw (f .file)
+
+-- ---- the run's number
+
+module _ (m : TableMetadata) (us : UpdateList) (terms : RunTerms) (limit : List ℕ) where
+  -- a run is answered 1 exactly where its start has a fault
+  pub one-at-fault : answer m us terms limit .number ≡ startNotFormed → startFault m terms ≡ 0 → ⊥
+  one-at-fault e z =
+      let f : FormedStart m terms = faultless-start m terms z in
+      formed-not-one m us terms limit (both (f .metadata .tidy) (both (f .metadata .formed) (f .file))) e
+
+  pub fault-one : (startFault m terms ≡ 0 → ⊥) → answer m us terms limit .number ≡ startNotFormed
+  fault-one n =
+      let tidy : Bool = isTidyMetadata m in
+      let formed : Bool = metadataFormed (readMetadata m) in
+      let fits : Bool = ifSome fileNameFormed (given (terms .«has_file») (readFileName (terms .file))) in
+      cases (tidy && (formed && fits))
+      (λ t. let k : (formed && fits) ≡ true = and-right tidy (formed && fits) t in
+      absurd (n (start-faultless m terms (record { metadata = record { tidy = and-left tidy (formed && fits) t; formed = and-left formed fits k }; file = and-right formed fits k }))))
+      (not-formed-one m us terms limit)

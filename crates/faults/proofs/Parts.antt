@@ -1,11 +1,8 @@
 -- The parts of metadata in which no fault was found: each is tidy and well formed, and its tables are laid out as the functions on tables ask.
-use Prim.Native.Nat.{ℕ}
 use mathlib.Core.Path.{_≡_, refl, _∙_}
-use mathlib.Core.Bool.{Bool, true, not, _&&_, _||_}
+use mathlib.Core.Bool.{Bool, true, _&&_, _||_}
 use mathlib.Core.List.{List, [], _∷_, _++_}
 use borrow.Author.Tests.{not-false}
-use lib.Dec.{leb}
-use lib.ListN.{length}
 use lib.Signed.{nonNeg}
 use Rattle.records.specs.declared.metadata.TableMetadata.{TableMetadata}
 use Rattle.rules.specs.Words.{firstOf, Check}
