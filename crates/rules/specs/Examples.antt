@@ -1,6 +1,7 @@
 -- P1 to P12 of document 01, "Examples on both sides", every clause a question and the reply that it must get; then its "Easy wrong turns",
 -- and, each with a name, examples of clauses that no P shows; docs/RULES.md cites them by these names.
 -- That the rules give these replies is one statement over the list (`examples-hold`, in proofs/Examples).
+-- `tools/clauses` changes the rules one clause at a time and says which example then fails.
 use Prim.Native.Nat.{ℕ, zero, suc}
 use mathlib.Core.Bool.{Bool, true, false}
 use mathlib.Core.List.{List, [], _∷_, _++_, map}
