@@ -74,7 +74,8 @@ module _ (m : TableMetadata) (cs : List Call) (h : Chain m cs) (v : m .fields .�
 pub run-apart-stays : (c : Call) → isApart (readMetadata (start c)) ≡ true → isApart (readMetadata (c .answered .metadata)) ≡ true
 run-apart-stays c h = subst (λ (x : Answer). isApart (readMetadata (x .metadata)) ≡ true) (sym (says c)) (answer-apart-stays (start c) (updates c) (terms c) (text c) h)
 
--- of which `row_ranges::rows_apart` is true, of its answer it is true, accepted or refused: whoever asks once knows it of every later answer
+-- where what `row_ranges::rows_apart` answers is true of the metadata that a call is given, it is true of the metadata of its answer, accepted or refused:
+-- whoever asks once knows it of every later answer
 pub run-rows-apart-stays : (c : Call) → isFormedAndApart (start c) ≡ true → isFormedAndApart (c .answered .metadata) ≡ true
 run-rows-apart-stays c h = subst (λ (x : Answer). isFormedAndApart (x .metadata) ≡ true) (sym (says c)) (answer-rows-apart-stays (start c) (updates c) (terms c) (text c) h)
 
