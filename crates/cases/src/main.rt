@@ -12,10 +12,12 @@ use numbers::input::start;
 use numbers::output::Output;
 use numbers::output::empty_output;
 use numbers::output::flush;
+use numbers::output::flush_aside;
 use numbers::output::put_line_end;
 use numbers::wanted::CASE;
 use plaintext::fault::say_fault;
 use plaintext::help::goes_on;
+use plaintext::text::say;
 
 mod leaf;
 mod moments;
@@ -48,12 +50,22 @@ fn answer(kind: u64, input: &mut Input, place: &mut Place, output: &mut Output, 
     }
 }
 
+// The case format has two words for it; where and why go to standard error, so that answers can be compared line by line.
+fn say_bad_case(place: &Place, output: &mut Output, end: &mut usize) {
+    say(output, end, b"bad case\n");
+    flush(output, *end);
+    *end = 0;
+    say_fault(output, end, b"case", place);
+    flush_aside(output, *end);
+    *end = 0;
+}
+
 // One case; whether there may be another.
 fn next(input: &mut Input, place: &mut Place, output: &mut Output, end: &mut usize) -> bool {
     let kind = read_case(input, place, CASE, KINDS);
     answer(kind, input, place, output, end);
     if !is_good(place) {
-        say_fault(output, end, b"case", place);
+        say_bad_case(place, output, end);
         return false;
     }
     if kind == NO_CASE {

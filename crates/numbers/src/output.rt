@@ -18,7 +18,7 @@ pub fn empty_output() -> Output {
     [0; OUTPUT]
 }
 
-// Said once, whatever else can not be written: standard error, which nothing else is written to, is closed then.
+// Said once, whatever else can not be written: standard error is closed then.
 fn say_unwritten() {
     io::write_all(STDERR_FILENO, b"the output could not be written\n");
     libc::close(STDERR_FILENO);
@@ -30,6 +30,14 @@ pub fn flush(output: &Output, end: usize) {
         if !io::write_all(STDOUT_FILENO, &bytes[..end]) {
             say_unwritten();
         }
+    }
+}
+
+// To standard error, for what is said beside the answers.
+pub fn flush_aside(output: &Output, end: usize) {
+    let bytes: &[u8] = output;
+    if end <= bytes.len() {
+        io::write_all(STDERR_FILENO, &bytes[..end]);
     }
 }
 
