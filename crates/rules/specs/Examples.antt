@@ -23,7 +23,7 @@ use Rattle.rules.specs.Walk.{Walk, Listed, Twice, Bad, ancestors, record
 use Rattle.rules.specs.WellFormed.{metadataFormed, updateFormed}
 use Rattle.rules.specs.Moment.{currentAt, entriesRead, isWhole, removesAndAdds}
 use Rattle.rules.specs.Run.{listSum, run}
-use Rattle.rules.specs.Rows.{newSnapshots, hasRows, rangesOf, endOf, hasRow, climbs, isApart}
+use Rattle.rules.specs.Rows.{newSnapshots, endOver, nextRowOf, hasRows, rangesOf, endOf, hasRow, climbs, isApart}
 use Rattle.rules.specs.Replay.{strip}
 use Rattle.rules.specs.Kinds.{kindWeight}
 
@@ -967,6 +967,8 @@ examples =
     -- new snapshots: those of additions and of commits; only some have rows
     ∷ (OfNumbers (length (newSnapshots oneOfEach) ∷ map endOf (rangesOf (snap 1 none 1 (pos 0) ∷ snapRows 2 4 3 ∷ []))) gives Numbers (2 ∷ 7 ∷ []))
     ∷ (OfTests (hasRows (snap 1 none 1 (pos 0)) ∷ hasRows (snapRows 2 4 3) ∷ []) gives Tests (false ∷ true ∷ []))
+    -- end of runs: what the last run answers; here the second is refused with 9, and leaves what the first answered
+    ∷ (OfNumbers (nextRowOf (endOver (empty 3 10 (pos 0) []) (record { terms = terms; updates = AddSnapshot (snapRows 1 10 10) ∷ [] } ∷ record { terms = terms; updates = AddSnapshot (snapRows 2 10 9) ∷ [] } ∷ [])) ∷ []) gives Numbers (20 ∷ []))
     -- apart: a snapshot without rows is apart from any, and an empty range too; of three ranges the first and the last are not
     ∷ (OfTests (map isApart
     (withRows (snap 1 none 1 (pos 0) ∷ snapRows 2 0 4 ∷ [])
