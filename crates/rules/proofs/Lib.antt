@@ -44,6 +44,7 @@ pub mod AnswerReplays
 pub mod AnswerInstances
 pub mod AnswerFits
 pub mod HistoryLists
+pub mod During
 pub mod Accounted
 pub mod Whole
 pub mod Kept
