@@ -7,7 +7,7 @@ use native.Mathlib.Numerals.{add-one}
 use lib.ListN.{length, getD, take, set}
 use lib.Seq.{take-suc, length-take-le}
 use Rattle.rules.specs.Layout.{pad}
-use Rattle.tables.proofs.Push.{set-pad}
+use Rattle.rules.proofs.Relaid.{set-pad}
 
 -- one more
 pub pad-more : {A : Type 0} (room i : ℕ) (b d : A) (l : List A) → i < length l → length l ≤ room → set (pad room b (take i l)) i (getD l i d) ≡ pad room b (take (i + 1) l)

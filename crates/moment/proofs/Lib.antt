@@ -2,5 +2,6 @@
 pub mod FromTheEnd
 mod Slots
 mod Reading
+mod Spans
 mod Answers
 pub mod Unique

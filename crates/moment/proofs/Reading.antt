@@ -7,8 +7,8 @@ use mathlib.Core.Option.{none, some}
 use native.Mathlib.Numerals.{add-one}
 use native.Mathlib.Omega.{arith}
 use lib.IntN.{ℤ}
-use lib.ListN.{length, take}
-use lib.Seq.{take-length, take-suc}
+use lib.ListN.{length, take, drop}
+use lib.Seq.{take-length, take-suc, drop-length, drop-cons}
 use Rattle.rules.specs.Moment.{isBy, currentAt, entriesRead}
 use Rattle.rules.specs.Register.{LogEntry}
 use Rattle.moment.specs.Reading.{entryAt, Read}
@@ -18,12 +18,17 @@ use Rattle.moment.proofs.FromTheEnd.{current-hit, read-hit, current-lat
 up-to : (log : List LogEntry) (at : ℕ) → at < length log → take (at + 1) log ≡ take at log ++ (entryAt log at ∷ [])
 up-to log at h = rw add-one (take-suc log at _ h)
 
+-- from a place on, the log begins with what stands there
+pub from : (log : List LogEntry) (at : ℕ) → at < length log → drop at log ≡ entryAt log at ∷ drop (at + 1) log
+from log at h = rw add-one (drop-cons log at _ h)
+
 module _ {time : ℤ} {log : List LogEntry} where
   pub starts : (n : ℕ) → n ≡ length log → Read time log 0 n
   starts n e =
       record {
         before = omega arith;
         within = omega arith;
+        late = rw (e, drop-length log);
         current = rw (e, take-length log);
         read = rw (e, take-length log) (omega arith);
         by = λ h. absurd (omega arith);
@@ -35,6 +40,7 @@ module _ {time : ℤ} {log : List LogEntry} where
         record {
           before = omega arith;
           within = r .within;
+          late = r .late;
           current = r .current;
           read = r .read;
           by = λ _. let s : (at + 1) - 1 ≡ at = omega arith in rw s e;
@@ -47,6 +53,7 @@ module _ {time : ℤ} {log : List LogEntry} where
         record {
           before = h;
           within = omega (arith, r .within);
+          late = rw (from log at (omega (arith, r .within)), e, s) (r .late);
           current = r .current ∙ ap (currentAt time) u ∙ current-late time (take at log) _ e;
           read = omega (arith, r .within, r .read ∙ ap (λ (l : List LogEntry). entriesRead time l + (length log - end)) u, read-late time (take at log) (entryAt log at) e);
           by = r .by;

@@ -2,16 +2,16 @@
 use Prim.Native.Nat.{ℕ}
 use native.Mathlib.Nat.{le-refl}
 use native.Mathlib.Omega.{arith}
-use mathlib.Core.Path.{_≡_, refl, sym, ap, _∙_}
+use mathlib.Core.Path.{_≡_, refl, sym, _∙_}
 use mathlib.Core.Logic.{⊎-elim}
-use mathlib.Core.Bool.{Bool, true, false, cond, not, _&&_, false≢true, true≢false}
+use mathlib.Core.Bool.{true, false, cond, not, _&&_, false≢true, true≢false}
 use mathlib.Core.List.{List, [], _∷_, List·Memᴰ, List·Memᴰ·not-nil, List·Memᴰ·cases-cons}
 use mathlib.Core.Option.{Option, none, some}
-use borrow.Author.Tests.{leb-true, leb-false, le-leb}
+use borrow.Author.Tests.{leb-true, leb-false, le-leb, not-true}
 use borrow.Table.Steps.{cases}
 use lib.IntN.{ℤ, pos, negsuc}
 use lib.Signed.{leZ}
-use Rattle.rules.specs.Words.{any, keep, lastOf, orElse}
+use Rattle.rules.specs.Words.{any, keep, orElse}
 use Rattle.rules.specs.Register.{LogEntry}
 use Rattle.rules.specs.Moment.{isBy, currentAt}
 use Rattle.rules.specs.During.{isWithin, answersItself, answeredWithin, currentDuring}
@@ -20,9 +20,6 @@ use Rattle.rules.proofs.HistoryLists.{in-keep, in-last}
 
 some-none : {A : Type 0} {a : A} → some a ≡ none → ⊥
 some-none q = let z : _≡_ {A = ℕ} 0 1 = cc in omega arith
-
-not-true : {b : Bool} → not b ≡ true → b ≡ false
-not-true {b} q = cases b (λ t. absurd (false≢true (rw t at q))) (λ f. f)
 
 -- ---- at most, of whole numbers
 
@@ -96,7 +93,7 @@ module _ (first last : ℤ) where
       (λ f k. behind (e .time) x log (listed-current log k)) h
     where
       itself : (isWithin first last x && answersItself x log) ≡ true → currentAt (x .time) (x ∷ log) ≡ some x
-      itself t = alone (x .time) x log (at-most-itself (x .time)) (none-by (x .time) log (not-true (and-right (isWithin first last x) (answersItself x log) t)))
+      itself t = alone (x .time) x log (at-most-itself (x .time)) (none-by (x .time) log (not-true _ (and-right (isWithin first last x) (answersItself x log) t)))
 
 -- ---- every answer within the span can be read off
 
@@ -117,7 +114,7 @@ module _ (first last moment : ℤ) (begun : leZ first moment ≡ true) (going : 
         let f : currentAt first log ≡ some e = sym (before ∙ rw r) ∙ q in
         behind moment x log q
         ∙ by-test (λ (l : List LogEntry). some e ≡ orFirst (currentAt moment l) (currentAt first (x ∷ log))) (isWithin first last x && answersItself x log)
-        (λ t. absurd (some-none (sym f ∙ none-by first log (by-earlier first (x .time) (at-most-turned (x .time) first (not-true (and-left (not (isBy first x)) (isBy last x) (and-left (isWithin first last x) (answersItself x log) t)))) log (not-true (and-right (isWithin first last x) (answersItself x log) t))))))
+        (λ t. absurd (some-none (sym f ∙ none-by first log (by-earlier first (x .time) (at-most-turned (x .time) first (not-true _ (and-left (not (isBy first x)) (isBy last x) (and-left (isWithin first last x) (answersItself x log) t)))) log (not-true _ (and-right (isWithin first last x) (answersItself x log) t))))))
         (λ n. rw r (sym (behind first x log f)))
     some-behind e q (some y) r =
         let s : some e ≡ some y = sym q ∙ before ∙ rw r in

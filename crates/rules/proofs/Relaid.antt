@@ -1,15 +1,16 @@
 -- For well-formed metadata going from records to lists and back changes nothing (`relaid`): of every record with slots, those past the
 -- count are blank, and padding puts the same blanks there again.
-use Prim.Native.Nat.{ℕ, _+_, _-_, _≤_}
+use Prim.Native.Nat.{ℕ, suc, _+_, _-_, _≤_, _<_}
 use native.Mathlib.Omega.{arith}
 use mathlib.Core.Path.{_≡_, refl, sym, ap, ap₂, _∙_}
 use mathlib.Core.Bool.{Bool, true, false, not, _&&_, _||_}
-use mathlib.Core.List.{List, [], _∷_, _++_, map, append-nil}
+use mathlib.Core.List.{List, [], _∷_, _++_, map, append-nil, append-assoc}
 use mathlib.Core.Option.{none}
 use lib.Dec.{eqb, leb}
 use lib.IntN.{ℤ, pos}
 use lib.Signed.{nonNeg}
-use lib.ListN.{length, take, drop, replicate, length-append, length-replicate, length-take, length-drop, length-map, take-append-drop}
+use lib.ListN.{length, set, take, drop, replicate, length-append, length-replicate, length-take, length-drop, length-map, take-append-drop}
+use lib.Seq.{set-at}
 use borrow.Author.Tests.{eqb-true, leb-true, not-true}
 use Rattle.records.specs.Blanks.{noRefName, noFileName, noSnapshot, noLogEntry, noReference, noRef, noSchemaField, noSchema, noSortField, noSortOrder, noStatisticsFile, noMetadataLogEntry}
 use Rattle.records.specs.declared.counters.RowId.{RowId}
@@ -69,6 +70,12 @@ length-counted b items n = simp (length-append, length-replicate, length-take) (
 
 pub counted-take : {A : Type 0} (b : A) (items : List A) (n : ℕ) → n ≤ length items → counted b items n ≡ take n items
 counted-take b items n h = let z : n - length items ≡ 0 = omega arith in rw (z, append-nil)
+
+-- the next slot of a padded list
+pub set-pad : {A : Type 0} (room : ℕ) (b : A) (l : List A) (n : ℕ) (x : A) → length l ≡ n → n < room → set (pad room b l) n x ≡ pad room b (l ++ (x ∷ []))
+set-pad room b l n x e h =
+    let r : room - length l ≡ suc (room - (length l + 1)) = omega arith in
+    rw (r, set-at l b _ x n e, append-assoc, length-append)
 
 -- the array has its slots
 pub has-room : {A : Type 0} (room n : ℕ) (isBlank : A → Bool) (items : List A) → restBlank room isBlank items n ≡ true → length items ≡ room

@@ -2,17 +2,12 @@
 use Prim.Native.Nat.{ℕ, zero, suc, _+_, _-_, _<_}
 use native.Mathlib.Omega.{arith}
 use mathlib.Core.Path.{_≡_, refl, sym, ap, ap₂, _∙_}
-use mathlib.Core.List.{List, [], _∷_, _++_, map, map-append, append-assoc}
+use mathlib.Core.List.{List, [], _∷_, _++_, map, map-append}
 use lib.ListN.{length, set, replicate, length-append, length-map, length-set}
-use lib.Seq.{set-at, set-append-left}
+use lib.Seq.{set-append-left}
 use Rattle.rules.specs.Layout.{pad}
+use Rattle.rules.proofs.Relaid.{set-pad}
 use Rattle.tables.proofs.Table.{Kind, Tidy, Made, listed, slotted, read-length, laid-back}
-
--- the next slot of a padded list
-pub set-pad : {A : Type 0} (room : ℕ) (b : A) (l : List A) (n : ℕ) (x : A) → length l ≡ n → n < room → set (pad room b l) n x ≡ pad room b (l ++ (x ∷ []))
-set-pad room b l n x e h =
-    let r : room - length l ≡ suc (room - (length l + 1)) = omega arith in
-    rw (r, set-at l b _ x n e, append-assoc, length-append)
 
 map-set : {A B : Type 0} (f : A → B) (l : List A) (i : ℕ) (y : A) → map f (set l i y) ≡ set (map f l) i (f y)
 map-set f [] i y = refl

@@ -11,7 +11,7 @@ use Rattle.records.specs.Blanks.{noFileName}
 use Rattle.records.specs.declared.text.FileName.{FileName}
 use Rattle.rules.specs.Layout.{counted, pad, readFileName, laidFileName}
 use Rattle.rules.proofs.Relaid.{length-counted}
-use Rattle.tables.proofs.Push.{set-pad}
+use Rattle.rules.proofs.Relaid.{set-pad}
 use Rattle.close.proofs.files.clean.Statement.{statement}
 use Rattle.close.proofs.files.clean.Tie as tie
 
