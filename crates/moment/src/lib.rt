@@ -135,9 +135,9 @@ fn answered_within(log: SnapshotLog, first: Time, last: Time) -> SnapshotLog
 pub fn current_during(log: SnapshotLog, first: Time, last: Time) -> During
     ensures { λ r. ⌜ r ≡ duringOf log first last ⌝ }
 {
-    let n = log.count;
+    let count = log.count;
     let beginning = current_at(log, first);
-    if n > SNAPSHOT_LOG {
+    if count > SNAPSHOT_LOG {
         let later = SnapshotLog::blank();
         return During { beginning, later };
     }

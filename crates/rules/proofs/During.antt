@@ -1,21 +1,22 @@
--- Why the list of a span is to be believed: each that it lists is the answer at its own time, and every answer within the span can be read off it.
+-- Why the list of a span is to be believed: each that it lists is the answer at its own time, they stand in the order of time, and every answer
+-- within the span can be read off.
 use Prim.Native.Nat.{ℕ}
 use native.Mathlib.Nat.{le-refl}
 use native.Mathlib.Omega.{arith}
 use mathlib.Core.Path.{_≡_, refl, sym, _∙_}
 use mathlib.Core.Logic.{⊎-elim}
-use mathlib.Core.Bool.{true, false, cond, not, _&&_, false≢true, true≢false}
+use mathlib.Core.Bool.{Bool, true, false, cond, not, _&&_, false≢true, true≢false}
 use mathlib.Core.List.{List, [], _∷_, List·Memᴰ, List·Memᴰ·not-nil, List·Memᴰ·cases-cons}
 use mathlib.Core.Option.{Option, none, some}
-use borrow.Author.Tests.{leb-true, leb-false, le-leb, not-true}
+use borrow.Author.Tests.{leb-true, leb-false, le-leb, lt-ltb, not-true}
 use borrow.Table.Steps.{cases}
 use lib.IntN.{ℤ, pos, negsuc}
-use lib.Signed.{leZ}
-use Rattle.rules.specs.Words.{any, keep, orElse}
+use lib.Signed.{leZ, ltZ}
+use Rattle.rules.specs.Words.{all, any, keep, orElse, ascending}
 use Rattle.rules.specs.Register.{LogEntry}
 use Rattle.rules.specs.Moment.{isBy, currentAt}
 use Rattle.rules.specs.During.{isWithin, answersItself, answeredWithin, currentDuring}
-use Rattle.rules.proofs.Checks.{by-test, and-left, and-right, or-left, or-right, by-either, neither}
+use Rattle.rules.proofs.Checks.{by-test, both, and-left, and-right, or-left, or-right, by-either, neither}
 use Rattle.rules.proofs.HistoryLists.{in-keep, in-last}
 
 some-none : {A : Type 0} {a : A} → some a ≡ none → ⊥
@@ -94,6 +95,36 @@ module _ (first last : ℤ) where
     where
       itself : (isWithin first last x && answersItself x log) ≡ true → currentAt (x .time) (x ∷ log) ≡ some x
       itself t = alone (x .time) x log (at-most-itself (x .time)) (none-by (x .time) log (not-true _ (and-right (isWithin first last x) (answersItself x log) t)))
+
+-- ---- log order is the order of time
+
+below : (a b : ℤ) → leZ b a ≡ false → ltZ a b ≡ true
+below (pos a) (pos b) h = lt-ltb a b (leb-false b a h)
+below (pos a) (negsuc b) h = absurd (true≢false h)
+below (negsuc a) (pos b) h = refl
+below (negsuc a) (negsuc b) h = lt-ltb b a (leb-false a b h)
+
+abbrev earlier : LogEntry → LogEntry → Bool
+earlier a b = ltZ (a .time) (b .time)
+
+module _ (first last : ℤ) where
+  all-later : (e : LogEntry) (log : List LogEntry) → any (isBy (e .time)) log ≡ false → all (earlier e) (answeredWithin first last log) ≡ true
+  unfolding answeredWithin
+  all-later e [] h = refl
+  all-later e (x ∷ log) h =
+      let n = neither (isBy (e .time) x) (any (isBy (e .time)) log) h in
+      by-test (λ (r : List LogEntry). all (earlier e) r ≡ true) (isWithin first last x && answersItself x log)
+      (λ t. both (below (e .time) (x .time) (n .0)) (all-later e log (n .1)))
+      (λ f. all-later e log (n .1))
+
+  -- each that is listed has a time before all that follow it
+  pub listed-ascend : (log : List LogEntry) → ascending earlier (answeredWithin first last log) ≡ true
+  unfolding answeredWithin
+  listed-ascend [] = refl
+  listed-ascend (x ∷ log) =
+      by-test (λ (r : List LogEntry). ascending earlier r ≡ true) (isWithin first last x && answersItself x log)
+      (λ t. both (all-later x log (not-true _ (and-right (isWithin first last x) (answersItself x log) t))) (listed-ascend log))
+      (λ f. listed-ascend log)
 
 -- ---- every answer within the span can be read off
 
