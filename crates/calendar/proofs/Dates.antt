@@ -4,12 +4,14 @@ use mathlib.Core.Path.{_≡_, refl, sym}
 use mathlib.Core.Bool.{Bool, true, false, _&&_, true≢false}
 use native.Mathlib.Omega.{arith}
 use borrow.Author.Tests.{leb-true, le-leb, ltb-true, lt-ltb}
+use borrow.Table.Steps.{cases}
 use lib.Dec.{leb, ltb}
 use lib.IntN.{ℤ, pos, negsuc, _-ℤ_}
 use Rattle.records.specs.declared.counters.Time.{Time}
 use Rattle.calendar.specs.declared.date.Date.{Date}
+use Rattle.calendar.specs.declared.date.Timed.{Timed}
 use Rattle.calendar.specs.Calendar.{clock, dayEnd, daysBefore, daysBeforeMonth, daysBeforeYear, isClock, isDate, isDay, isFrom, isLeap, midnight, milliseconds, monthLength, timeOf}
-use Rattle.calendar.specs.Answers.{MonthAt, YearAt, timed}
+use Rattle.calendar.specs.Answers.{MonthAt, YearAt, dayOf, timed}
 use Rattle.calendar.proofs.Days.{all-years, month-next, months-ascend, year-length, years-ascend}
 
 pub both : (a b : Bool) → (a && b) ≡ true → (a ≡ true) × (b ≡ true)
@@ -137,3 +139,9 @@ time-is d n z e t = rw (epoch, e) t
 pub timed-is : (d : Date) (t : Time) → isDate d ≡ true → timeOf d ≡ t .0 → record { «is_timed» = true; time = t } ≡ timed d
 unfolding timed
 timed-is d t e s = rw (e, s)
+
+-- the first and the last millisecond of a day, by their times
+pub day-is : (year month day : ℕ) {a b : Timed} → a ≡ timed (midnight year month day) → b ≡ timed (dayEnd year month day)
+    → record { «is_day» = a .«is_timed»; first = a .time; last = b .time } ≡ dayOf year month day
+unfolding dayOf timed isDate isClock
+day-is year month day e f = rw (e, f) (cases (isDay year month day) (λ t. rw t) (λ n. rw n))

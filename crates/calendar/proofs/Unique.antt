@@ -10,6 +10,7 @@ use Rattle.calendar.specs.declared.date.Dated.{Dated}
 use Rattle.calendar.specs.Answers.{DateOf}
 use Rattle.calendar.proofs.OneDate.{one-date}
 use Rattle.calendar.proofs.date.date_of as date-of
+use Rattle.calendar.proofs.date.day_of as day-of
 use Rattle.calendar.proofs.date.time_of as time-of
 
 joined : (r s : Dated) → r .«is_dated» ≡ s .«is_dated» → r .date ≡ s .date → r ≡ s
@@ -37,3 +38,9 @@ time-of-unique κs a x y s t p q = p ∙ sym q
 
 pub time-of-asks-nothing : AsksNothing time-of.signature (λ M. time-of.spec)
 time-of-asks-nothing M 𝓤 H A mem run κs a = (tt, id⊢ 𝓤 (emp 𝓤))
+
+pub day-of-unique : Unique day-of.Kinds.ps day-of.Kinds.r day-of.Reads.Post
+day-of-unique κs a x y s t p q = p ∙ sym q
+
+pub day-of-asks-nothing : AsksNothing day-of.signature (λ M. day-of.spec)
+day-of-asks-nothing M 𝓤 H A mem run κs a = (tt, id⊢ 𝓤 (emp 𝓤))

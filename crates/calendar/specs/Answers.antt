@@ -6,9 +6,10 @@ use lib.IntN.{ℤ, pos, _-ℤ_}
 use lib.Signed.{ltZ}
 use Rattle.calendar.specs.declared.date.Dated.{Dated}
 use Rattle.calendar.specs.declared.date.Date.{Date}
+use Rattle.calendar.specs.declared.date.Day.{Day}
 use Rattle.calendar.specs.declared.date.Timed.{Timed}
 use Rattle.calendar.specs.declared.shift.Since.{Since}
-use Rattle.calendar.specs.Calendar.{dayEnd, daysBeforeMonth, daysBeforeYear, isDate, midnight, timeOf}
+use Rattle.calendar.specs.Calendar.{dayEnd, daysBeforeMonth, daysBeforeYear, isDate, isDay, midnight, timeOf}
 
 -- the year that a day lies in
 pub record YearAt (day year : ℕ) : Type 0 where
@@ -43,3 +44,10 @@ pub record DateOf (time : ℤ) (r : Dated) : Type 0 where
 
 unfoldable pub timed : Date → Timed
 timed d = cond (isDate d) (record { «is_timed» = true; time = record { 0 = timeOf d } }) (record { «is_timed» = false; time = record { 0 = pos 0 } })
+
+-- a day from its first millisecond to its last; zeros where there is none
+unfoldable pub dayOf : ℕ → ℕ → ℕ → Day
+dayOf year month day =
+    cond (isDay year month day)
+    (record { «is_day» = true; first = record { 0 = timeOf (midnight year month day) }; last = record { 0 = timeOf (dayEnd year month day) } })
+    (record { «is_day» = false; first = record { 0 = pos 0 }; last = record { 0 = pos 0 } })

@@ -3,7 +3,7 @@ ghost use mathlib.Core.Path.{_≡_};
 ghost use mathlib.Core.Bool.{true};
 ghost use Prim.Native.Nat.{_<_, _≤_};
 ghost use Rattle.calendar.specs.Calendar.{isDate, isDay, isFrom, daysBefore, midnight, milliseconds as since};
-ghost use Rattle.calendar.specs.Answers.{DateOf, timed};
+ghost use Rattle.calendar.specs.Answers.{DateOf, dayOf, timed};
 use crate::clock::is_clock;
 use crate::clock::since_midnight;
 use crate::day::days_before_month;
@@ -36,6 +36,13 @@ pub struct Dated {
 pub struct Timed {
     pub is_timed: bool,
     pub time: Time,
+}
+
+// A day, from its first millisecond to its last; zeros if the calendar does not have it.
+pub struct Day {
+    pub is_day: bool,
+    pub first: Time,
+    pub last: Time,
 }
 
 impl Date {
@@ -108,6 +115,36 @@ pub fn time_of(date: Date) -> Timed
     Timed {
         is_timed: true,
         time,
+    }
+}
+
+pub fn day_of(year: u64, month: u64, day: u64) -> Day
+    ensures { λ r. ⌜ r ≡ dayOf year month day ⌝ }
+{
+    let first = time_of(Date {
+        year,
+        month,
+        day,
+        hour: 0,
+        minute: 0,
+        second: 0,
+        millisecond: 0,
+    });
+    let last = time_of(Date {
+        year,
+        month,
+        day,
+        hour: 23,
+        minute: 59,
+        second: 59,
+        millisecond: 999,
+    });
+    let begins = first.time;
+    let ends = last.time;
+    Day {
+        is_day: first.is_timed,
+        first: begins,
+        last: ends,
     }
 }
 

@@ -14,6 +14,9 @@ const FIRST: i64 = -62135596800000;
 // The last millisecond of 9999-12-31.
 const LAST: i64 = 253402300799999;
 
+// The milliseconds of the years 1 to 9999.
+pub const ALL: u64 = 315537897600000;
+
 // The milliseconds since 0001-01-01; 0 if the time is not within the years 1 to 9999.
 pub struct Since {
     pub is_within: bool,

@@ -1,8 +1,16 @@
 // Dates as text, as `2025-03-12 10:00:00.123`: written, and read from what someone asks for.
-ghost use Prim.Native.Nat.{_<_};
+ghost use mathlib.Core.Path.{_≡_};
+ghost use Prim.Native.Nat.{_<_, _≤_};
+ghost use lib.ListN.{length};
+use crate::clock::is_clock;
 use crate::date::Date;
+use crate::date::Day;
 use crate::date::Timed;
+use crate::date::day_of;
 use crate::date::time_of;
+use crate::shift::ALL;
+use crate::shift::since_epoch;
+use crate::shift::since_year_one;
 use numbers::field::signed_of;
 use numbers::token::token_of;
 use records::counters::Time;
@@ -156,10 +164,118 @@ fn no_time() -> Timed {
     }
 }
 
-// The first moment of a day, a minute, a second or a millisecond.
-fn time_of_date_text(text: &[u8]) -> Timed {
+// How far the clock of a date is from UTC's, and where the text of the date ends.
+struct Offset {
+    is_within: bool,
+    is_ahead: bool,
+    milliseconds: u64,
+    at: usize,
+}
+
+fn utc(at: usize) -> Offset
+    ensures { λ r. ⌜ (r .at ≡ at) × (r .milliseconds ≡ 0) ⌝ }
+{
+    Offset {
+        is_within: true,
+        is_ahead: false,
+        milliseconds: 0,
+        at,
+    }
+}
+
+// As `+02:00`.
+fn has_offset_shape(zone: &[u8]) -> bool {
+    if zone.len() != 6 {
+        return false;
+    }
+    let is_signed = (zone[0] == b'+') | (zone[0] == b'-');
+    is_signed
+        & is_digit(zone[1])
+        & is_digit(zone[2])
+        & (zone[3] == b':')
+        & is_digit(zone[4])
+        & is_digit(zone[5])
+}
+
+// At most 23:59, ahead of UTC or behind it.
+fn written_offset(zone: &[u8], is_ahead: bool, at: usize) -> Offset
+    ensures { λ r. ⌜ (r .at ≡ at) × (r .milliseconds < 86400000) ⌝ }
+{
+    let hours = two_at(zone, 1);
+    let minutes = two_at(zone, 4);
+    if !is_clock(hours, minutes, 0, 0) {
+        return Offset {
+            is_within: false,
+            is_ahead,
+            milliseconds: 0,
+            at,
+        };
+    }
+    Offset {
+        is_within: true,
+        is_ahead,
+        milliseconds: (hours * 60 + minutes) * 60000,
+        at,
+    }
+}
+
+// After a time of day a `Z` may stand, for UTC, or how far its clock is from UTC's.
+fn offset_of(text: &[u8]) -> Offset
+    ensures { λ r. ⌜ (r .at ≤ length (now (text .entry))) × (r .milliseconds < 86400000) ⌝ }
+{
+    let n = text.len();
+    if n > 16 {
+        if text[n - 1] == b'Z' {
+            return utc(n - 1);
+        }
+    }
+    if n < 22 {
+        return utc(n);
+    }
+    let at = n - 6;
+    let zone = &text[at..];
+    if has_offset_shape(zone) {
+        return written_offset(zone, text[at] == b'+', at);
+    }
+    utc(n)
+}
+
+// The time in UTC of a clock at this offset; none outside the years 1 to 9999.
+fn in_utc(time: Time, offset: Offset) -> Timed
+    requires { ⌜ offset .milliseconds < 86400000 ⌝ }
+{
+    let since = since_year_one(time);
+    if !since.is_within {
+        return no_time();
+    }
+    let mut clock = since.milliseconds;
+    if offset.is_ahead {
+        if clock < offset.milliseconds {
+            return no_time();
+        }
+        clock -= offset.milliseconds;
+    } else {
+        clock += offset.milliseconds;
+    }
+    if clock >= ALL {
+        return no_time();
+    }
+    let time = since_epoch(clock);
+    Timed {
+        is_timed: true,
+        time,
+    }
+}
+
+// The first moment of a day, a minute, a second or a millisecond, by a clock at this offset.
+fn time_of_date_text(text: &[u8], offset: Offset) -> Timed
+    requires { ⌜ offset .milliseconds < 86400000 ⌝ }
+{
     if has_shape(text) {
-        return time_of(written(text));
+        let timed = time_of(written(text));
+        if timed.is_timed {
+            return in_utc(timed.time, offset);
+        }
     }
     no_time()
 }
@@ -172,25 +288,56 @@ fn time_of_number(text: &[u8]) -> Timed {
     }
 }
 
-// A `Z` for UTC may stand at the end, after a time of day.
-fn without_z(text: &[u8]) -> &[u8] {
-    let n = text.len();
-    if n < 16 {
-        return text;
+// No number has a `-` at the fifth place, and every date has one.
+fn may_be_date(text: &[u8]) -> bool {
+    if text.len() < 10 {
+        return false;
     }
-    if text[n - 1] == b'Z' {
-        return &text[..n - 1];
-    }
-    text
+    text[4] == b'-'
 }
 
-// Milliseconds since 1970, or a date: no number has a `-` at the fifth place, and every date has one.
+// Milliseconds since 1970, or a date, alone or with a time of day.
 pub fn time_of_text(text: &[u8]) -> Timed {
-    if text.len() < 10 {
+    if !may_be_date(text) {
         return time_of_number(text);
     }
-    if text[4] == b'-' {
-        return time_of_date_text(without_z(text));
+    let offset = offset_of(text);
+    if offset.is_within {
+        let at = offset.at;
+        return time_of_date_text(&text[..at], offset);
     }
-    time_of_number(text)
+    no_time()
+}
+
+// A date alone stands for its whole day.
+pub fn day_of_text(text: &[u8]) -> Day {
+    let mut date = Date::blank();
+    if text.len() == 10 {
+        if has_shape(text) {
+            date = written(text);
+        }
+    }
+    day_of(date.year, date.month, date.day)
+}
+
+pub const NO_FORM: usize = 0;
+
+pub const NO_OFFSET: usize = 1;
+
+pub const NO_DATE: usize = 2;
+
+// Why a text is no moment: it has no form that is read, its offset is above 23:59, or the calendar does not have its date and time of day.
+pub fn fault_of_text(text: &[u8]) -> usize {
+    if !may_be_date(text) {
+        return NO_FORM;
+    }
+    let offset = offset_of(text);
+    if !offset.is_within {
+        return NO_OFFSET;
+    }
+    let at = offset.at;
+    if has_shape(&text[..at]) {
+        return NO_DATE;
+    }
+    NO_FORM
 }
