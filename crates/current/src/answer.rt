@@ -1,30 +1,42 @@
 // What there is to say of a moment.
 use crate::kept::Kept;
 use crate::kept::earliest;
-use crate::kept::is_held;
-use moment::current_at;
+use crate::kept::held_as;
+use moment::Moment;
 use records::counters::SnapshotId;
 use records::counters::Time;
+use records::snapshot::SnapshotLogEntry;
+use records::snapshot::Snapshots;
 
 const NOT_HELD: usize = 0;
 
-pub const HELD: usize = 1;
+const HELD: usize = 1;
 
-pub const BEFORE_ALL: usize = 2;
+pub const MADE_LATER: usize = 2;
 
-const NO_ENTRIES: usize = 3;
+pub const BEFORE_ALL: usize = 3;
 
-const TOO_MANY: usize = 4;
+const NO_ENTRIES: usize = 4;
 
-// The snapshot and since when, if there is one; 0 and the earliest time that has an answer if not.
+const TOO_MANY: usize = 5;
+
+// The snapshot, since when, and when the held one of its id was made, if there is one; 0 and the earliest time that has an answer if not.
 pub struct Answer {
     pub kind: usize,
     pub id: SnapshotId,
     pub since: Time,
+    pub made: Time,
 }
 
-fn kind_of_found(is_held: bool) -> usize {
-    if is_held { HELD } else { NOT_HELD }
+// Held is by id alone: a held snapshot that was made after the entry need not be the one that was current.
+fn kind_of_found(is_held: bool, made: Time, since: Time) -> usize {
+    if !is_held {
+        return NOT_HELD;
+    }
+    if made.0 > since.0 {
+        return MADE_LATER;
+    }
+    HELD
 }
 
 fn kind_of_none(number: u8, count: usize) -> usize {
@@ -37,13 +49,23 @@ fn kind_of_none(number: u8, count: usize) -> usize {
     BEFORE_ALL
 }
 
-pub fn look_up(kept: Kept, time: Time) -> Answer {
-    let found = current_at(kept.log, time);
+pub fn of_entry(snapshots: Snapshots, entry: SnapshotLogEntry) -> Answer {
+    let id = entry.snapshot_id;
+    let since = entry.timestamp_ms;
+    let held = held_as(snapshots, id);
+    let made = held.made;
+    let kind = kind_of_found(held.is_held, made, since);
+    Answer {
+        kind,
+        id,
+        since,
+        made,
+    }
+}
+
+pub fn of_moment(kept: Kept, found: Moment) -> Answer {
     if found.found {
-        let id = found.entry.snapshot_id;
-        let since = found.entry.timestamp_ms;
-        let kind = kind_of_found(is_held(kept.snapshots, id));
-        return Answer { kind, id, since };
+        return of_entry(kept.snapshots, found.entry);
     }
     let kind = kind_of_none(found.number, kept.log.count);
     let since = earliest(kept.log);
@@ -51,5 +73,6 @@ pub fn look_up(kept: Kept, time: Time) -> Answer {
         kind,
         id: SnapshotId(0),
         since,
+        made: Time(0),
     }
 }

@@ -33,17 +33,30 @@ pub fn read_kept(input: &mut Input, place: &mut Place) -> Kept {
     Kept { log, snapshots }
 }
 
-pub fn is_held(snapshots: Snapshots, id: SnapshotId) -> bool {
+// Whether a snapshot of this id is held, and its own time.
+pub struct Held {
+    pub is_held: bool,
+    pub made: Time,
+}
+
+pub fn held_as(snapshots: Snapshots, id: SnapshotId) -> Held {
     let n = with_slots(snapshots.count, SNAPSHOTS);
     let mut i = 0;
     while i < n {
         let snapshot = snapshots.items[i];
         if snapshot.snapshot_id.0 == id.0 {
-            return true;
+            let made = snapshot.timestamp_ms;
+            return Held {
+                is_held: true,
+                made,
+            };
         }
         i += 1;
     }
-    false
+    Held {
+        is_held: false,
+        made: Time(0),
+    }
 }
 
 // The time from which on there is an answer. The log's times can step back, so this need not be the first entry's.

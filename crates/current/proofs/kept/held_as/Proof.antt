@@ -1,8 +1,8 @@
 -- Each turn is one snapshot nearer to the last that has a slot.
 use Prim.Native.Nat.{_-_}
 use borrow.Author.Needs.{needs}
-use Rattle.current.proofs.kept.is_held.Statement.{statement}
-use Rattle.current.proofs.kept.is_held.Tie as tie
+use Rattle.current.proofs.kept.held_as.Statement.{statement}
+use Rattle.current.proofs.kept.held_as.Tie as tie
 
 abbrev Inv-loop : tie.InvT-loop
 Inv-loop id snapshots n i₀ i = Unit {0}
@@ -10,8 +10,8 @@ Inv-loop id snapshots n i₀ i = Unit {0}
 abbrev μ-loop : tie.MeasureT-loop
 μ-loop id snapshots n i₀ i = n - i
 
-pub is-held-spec : {M : Type 1} → statement M
-is-held-spec =
+pub held-as-spec : {M : Type 1} → statement M
+held-as-spec =
     tie.close
     (tie.spec
     Inv-loop
