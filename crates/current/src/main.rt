@@ -1,7 +1,7 @@
 // For each moment among the arguments, a line that says which snapshot was current then, since when, and whether it is still held; or why
 // there is no answer. A day gets a line more for each later snapshot that was current in it. Metadata stands on standard input, in the case
-// format; input that is no metadata gets `bad input`. A moment is a date with a time of day, in UTC or with an offset from it, or milliseconds
-// since 1970; a UTC date alone is a day.
+// format; input that is no metadata gets a line that begins with `bad input` and says where. A moment is a date with a time of day, in UTC or
+// with an offset from it, or milliseconds since 1970; a UTC date alone is a day.
 use calendar::date::Day;
 use calendar::text::day_of_text;
 use calendar::text::fault_of_text;
@@ -15,6 +15,8 @@ use numbers::input::start;
 use numbers::output::Output;
 use numbers::output::empty_output;
 use numbers::output::flush;
+use plaintext::fault::say_fault;
+use plaintext::help::asks_for_help;
 use plaintext::name::say_escaped;
 use plaintext::text::say;
 use records::capacities::SNAPSHOT_LOG;
@@ -23,7 +25,6 @@ use records::snapshot::Snapshots;
 
 mod answer;
 mod doubt;
-mod help;
 mod kept;
 mod words;
 
@@ -89,7 +90,7 @@ fn say_answers(output: &mut Output, end: &mut usize, count: usize) {
     if is_good(&place) {
         say_arguments(output, end, kept, count);
     } else {
-        say(output, end, b"bad input\n");
+        say_fault(output, end, b"", &place);
     }
 }
 
@@ -97,7 +98,7 @@ fn main() {
     let mut output = empty_output();
     let mut end: usize = 0;
     let count = os::arg_count();
-    if count > 1 && !help::asks_for_help() {
+    if count > 1 && !asks_for_help() {
         say_answers(&mut output, &mut end, count);
     } else {
         say(
