@@ -23,7 +23,9 @@ pub struct List {
     pub count: usize,
 }
 
+// The kind is that of an update; of a record it is 0.
 pub struct Card {
+    pub kind: u8,
     pub signed: [i64; SIGNED],
     pub unsigned: [u64; UNSIGNED],
     pub text: Text,
@@ -56,6 +58,7 @@ impl Card {
         let text = Text::blank();
         let list = List::blank();
         Card {
+            kind: 0,
             signed,
             unsigned,
             text,
@@ -65,6 +68,11 @@ impl Card {
 
     pub fn of_number(number: i64) -> Card {
         Card::of_numbers([number, 0, 0, 0, 0, 0, 0, 0], [0, 0])
+    }
+
+    pub fn with_kind(mut self, kind: u8) -> Card {
+        self.kind = kind;
+        self
     }
 
     pub fn with_text(mut self, text: Text) -> Card {
@@ -139,26 +147,4 @@ pub fn number_at(list: List, at: usize) -> i64 {
         return numbers[at];
     }
     0
-}
-
-// The numbers of an element, at most three, and behind them whether another stands before it.
-pub fn element(list: List, i: usize) -> Card {
-    let follows = (i > 0) as i64;
-    if list.width == 1 {
-        return Card::of_numbers([number_at(list, i), 0, 0, follows, 0, 0, 0, 0], [0, 0]);
-    }
-    let at = 3 * with_slots(i, SORT_FIELDS);
-    Card::of_numbers(
-        [
-            number_at(list, at),
-            number_at(list, at + 1),
-            number_at(list, at + 2),
-            follows,
-            0,
-            0,
-            0,
-            0,
-        ],
-        [0, 0],
-    )
 }

@@ -39,6 +39,8 @@ pub const OF_STATISTICS: usize = 6;
 
 pub const OF_PARTITION_STATISTICS: usize = 7;
 
+pub const TABLES: usize = 8;
+
 fn snapshot_at(table: Snapshots, i: usize) -> Card {
     if i < SNAPSHOTS {
         let s = table.items[i];

@@ -12,6 +12,7 @@ use crate::record::snapshot;
 use crate::record::snapshot_ids;
 use crate::record::sort_order;
 use crate::record::statistics_file;
+use records::capacities::UPDATES;
 use records::update::ADD_SCHEMA;
 use records::update::ADD_SNAPSHOT;
 use records::update::ADD_SORT_ORDER;
@@ -30,6 +31,7 @@ use records::update::SET_REF;
 use records::update::SET_STATISTICS;
 use records::update::TableUpdate;
 use records::update::UPGRADE_FORMAT_VERSION;
+use records::update::UpdateList;
 
 // uuid
 fn uuid(u: TableUpdate) -> Card {
@@ -69,5 +71,15 @@ fn late(u: TableUpdate) -> Card {
 }
 
 pub fn update(u: TableUpdate) -> Card {
-    if u.kind < SET_REF { early(u) } else { late(u) }
+    let card = if u.kind < SET_REF { early(u) } else { late(u) };
+    card.with_kind(u.kind)
+}
+
+// Past the slots an update is blank.
+pub fn update_at(list: UpdateList, i: usize) -> Card {
+    if i < UPDATES {
+        let u = list.items[i];
+        return update(u);
+    }
+    Card::of_number(0)
 }

@@ -1,16 +1,16 @@
 // Updates: a kind, then what that kind uses. Nothing follows an unknown kind.
 use crate::layout::put_card;
-use cards::update::update;
+use cards::card::Card;
+use cards::update::update_at;
 use fitting::with_slots;
 use numbers::number::put_count;
 use numbers::number::put_u8;
 use numbers::output::Output;
 use records::capacities::UPDATES;
-use records::update::TableUpdate;
 use records::update::UpdateList;
 
 // A line for each kind, in the order of their numbers; that of 0 and those past the last are empty.
-fn put_update(output: &mut Output, end: &mut usize, u: TableUpdate) {
+fn put_update(output: &mut Output, end: &mut usize, card: Card) {
     let layouts = b"\n\
         $\n\
         a\n\
@@ -29,8 +29,8 @@ fn put_update(output: &mut Output, end: &mut usize, u: TableUpdate) {
         a\n\
         aL$b\n\
         a\n";
-    put_u8(output, end, u.kind);
-    put_card(output, end, layouts, u.kind as usize, update(u));
+    put_u8(output, end, card.kind);
+    put_card(output, end, layouts, card.kind as usize, card);
 }
 
 pub fn put_updates(output: &mut Output, end: &mut usize, list: UpdateList) {
@@ -39,8 +39,7 @@ pub fn put_updates(output: &mut Output, end: &mut usize, list: UpdateList) {
     let n = with_slots(count, UPDATES);
     let mut i = 0;
     while i < n {
-        let u = list.items[i];
-        put_update(output, end, u);
+        put_update(output, end, update_at(list, i));
         i += 1;
     }
 }

@@ -2,29 +2,24 @@
 use crate::template::say_part;
 use cards::card::Card;
 use cards::card::List;
-use cards::card::counted;
-use cards::card::element;
-use fitting::with_slots;
+use cards::item::item_at;
+use cards::item::items;
 use numbers::output::Output;
 
-// A template for each width: an id, and the source id, direction and nulls of a sort field.
-fn say_element(output: &mut Output, end: &mut usize, list: List, i: usize) {
-    let templates = b";\
-        ?3{|, }#0;;\
-        ?3{|, }#0 ?1{ascending|descending~in direction #1} nulls ?2{first|last~#2}";
-    say_part(output, end, templates, list.width, 0, element(list, i));
-}
-
+// A template for each kind of item: the word for no elements, an id, the source id, direction and nulls of a sort field, and how many more
+// are counted than there are slots for.
 fn say_list(output: &mut Output, end: &mut usize, list: List) {
-    let counts = counted(list.count, list.slots);
-    say_part(output, end, b"?0{none|}", 0, 0, counts);
-    let n = with_slots(list.count, list.slots);
+    let templates = b"none\
+        ;?3{|, }#0\
+        ;?3{|, }#0 ?1{ascending|descending~in direction #1} nulls ?2{first|last~#2}\
+        ; and %1 more";
+    let n = items(list);
     let mut i = 0;
     while i < n {
-        say_element(output, end, list, i);
+        let item = item_at(list, i);
+        say_part(output, end, templates, item.kind as usize, 0, item);
         i += 1;
     }
-    say_part(output, end, b"?1{| and %1 more}", 0, 0, counts);
 }
 
 // The template of the ids of a removal, behind those of the elements of each table.
@@ -32,16 +27,17 @@ pub const OF_IDS: usize = 8;
 
 // As `5 (parent 4, sequence 7, at 300000 (1970-01-01 00:05:00 UTC))`. Past the last template nothing is said.
 pub fn say_record(output: &mut Output, end: &mut usize, record: usize, card: Card) {
-    let templates = b"#0 (?1{no parent|parent #2}, sequence #3, at @4?5{|, %1 rows from row %0});\
-        ?1{ref of kind #1|branch|tag~ref of kind #1} $ at snapshot #0\
-        ?2{|, keeps at least #3 snapshots}?4{|, keeps snapshots for #5 ms}?6{|, stays for #7 ms};\
-        #0 from @1;\
-        $ from @0;\
-        #0 (fields: *);\
-        #0 (fields: *);\
-        snapshot #0: file $, #1 bytes;\
-        snapshot #0: file $, #1 bytes;\
-        *";
+    let templates =
+        b"#0 (?1{no parent|parent #2}, sequence #3, at #4 (@4)?5{|, %1 rows from row %0})\
+        ;?1{ref of kind #1|branch|tag~ref of kind #1} $ at snapshot #0\
+        ?2{|, keeps at least #3 snapshots}?4{|, keeps snapshots for #5 ms}?6{|, stays for #7 ms}\
+        ;#0 from #1 (@1)\
+        ;$ from #0 (@0)\
+        ;#0 (fields: *)\
+        ;#0 (fields: *)\
+        ;snapshot #0: file $, #1 bytes\
+        ;snapshot #0: file $, #1 bytes\
+        ;*";
     say_part(output, end, templates, record, 0, card);
     if card.list.width > 0 {
         say_list(output, end, card.list);

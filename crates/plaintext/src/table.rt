@@ -3,7 +3,6 @@ use crate::number::say_count;
 use crate::record::say_record;
 use crate::template::say_part;
 use crate::text::say;
-use cards::card::Card;
 use cards::card::counted;
 use cards::table::card_at;
 use cards::table::count_of;
@@ -36,15 +35,16 @@ pub fn say_none(output: &mut Output, end: &mut usize, count: usize) {
 }
 
 // A line for a table, above those of its elements.
-pub fn say_heading(output: &mut Output, end: &mut usize, heading: &[u8], counts: Card) {
+pub fn say_heading(output: &mut Output, end: &mut usize, heading: &[u8], count: usize) {
     say(output, end, b"  ");
     say(output, end, heading);
-    say_part(output, end, b": %0\n", 0, 0, counts);
+    say_part(output, end, b": %0\n", 0, 0, counted(count, 0));
 }
 
 // A line below them.
-pub fn say_end(output: &mut Output, end: &mut usize, counts: Card) {
-    say_part(output, end, b"?1{|    and %1 more\n}", 0, 0, counts);
+pub fn say_end(output: &mut Output, end: &mut usize, count: usize, slots: usize) {
+    let template = b"?1{|    and %1 more\n}";
+    say_part(output, end, template, 0, 0, counted(count, slots));
 }
 
 fn say_element(
@@ -59,22 +59,15 @@ fn say_element(
     say(output, end, b"\n");
 }
 
-pub fn say_table(
-    output: &mut Output,
-    end: &mut usize,
-    heading: &[u8],
-    metadata: TableMetadata,
-    table: usize,
-) {
+// What stands below a heading.
+pub fn say_elements(output: &mut Output, end: &mut usize, metadata: TableMetadata, table: usize) {
     let count = count_of(metadata, table);
     let slots = slots_of(table);
-    let counts = counted(count, slots);
-    say_heading(output, end, heading, counts);
     let n = with_slots(count, slots);
     let mut i = 0;
     while i < n {
         say_element(output, end, metadata, table, i);
         i += 1;
     }
-    say_end(output, end, counts);
+    say_end(output, end, count, slots);
 }

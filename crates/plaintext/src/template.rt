@@ -1,5 +1,5 @@
 // A template is a sentence with marks for what a card holds. `#3` is its signed number 3, counted from 0, `%0` its unsigned number 0, and
-// `@4` its signed number 4 as a moment with its date; `$` is its text as a name and `^` its text as a uuid.
+// `@4` the date of its signed number 4, a moment; `$` is its text as a name and `^` its text as a uuid.
 // `?1{no parent|parent #2}` says the alternative that its signed number 1 chooses, counted from 0; what stands after a `~` is said for every
 // number that chooses none of those before it. Many templates in one literal are parted by `;`, and one is chosen by its number. A `*` stands
 // for the card's list, and parts a template in two.
@@ -9,7 +9,7 @@ use crate::name::say_uuid;
 use crate::number::say_i64;
 use crate::number::say_u64;
 use crate::text::say_byte;
-use crate::time::say_time;
+use crate::time::say_date;
 use cards::card::Card;
 use cards::card::signed_at;
 use cards::card::unsigned_at;
@@ -128,7 +128,7 @@ fn say_mark(output: &mut Output, end: &mut usize, mark: u8, byte: u8, card: Card
         ITSELF => say_byte(output, end, byte),
         b'#' => say_i64(output, end, signed_at(card, digit(byte))),
         b'%' => say_u64(output, end, unsigned_at(card, digit(byte))),
-        b'@' => say_time(output, end, Time(signed_at(card, digit(byte)))),
+        b'@' => say_date(output, end, Time(signed_at(card, digit(byte)))),
         b'$' => say_text(output, end, card.text),
         b'^' => say_uuid(output, end, card.text),
         _ => {}

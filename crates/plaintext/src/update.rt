@@ -5,6 +5,7 @@ use crate::table::say_end;
 use crate::table::say_heading;
 use crate::template::say_part;
 use crate::text::say;
+use cards::card::Card;
 use cards::card::counted;
 use cards::table::OF_REFS;
 use cards::table::OF_SCHEMAS;
@@ -12,6 +13,7 @@ use cards::table::OF_SNAPSHOTS;
 use cards::table::OF_SORT_ORDERS;
 use cards::table::OF_STATISTICS;
 use cards::update::update;
+use cards::update::update_at;
 use fitting::with_slots;
 use numbers::output::Output;
 use records::capacities::UPDATES;
@@ -41,49 +43,57 @@ fn record_of(kind: u8) -> usize {
     }
 }
 
-// A template for each kind, in the order of their numbers; the first is for all others.
-pub fn say_update(output: &mut Output, end: &mut usize, u: TableUpdate) {
-    let templates = b"update of unknown kind #0;\
-        assign uuid ^;\
-        upgrade to format version #0;\
-        set location $;\
-        add snapshot ;\
-        commit to branch $: snapshot ;\
-        remove snapshots ;\
-        set ;\
-        remove ref $;\
-        add schema ;\
-        set current schema to #0?1{| (the last added)};\
-        remove schemas ;\
-        add sort order ;\
-        set default sort order to #0?1{| (the last added)};\
-        set statistics of ;\
-        remove statistics of snapshot #0;\
-        set partition statistics of ;\
-        remove partition statistics of snapshot #0";
-    let kind = if u.kind > REMOVE_PARTITION_STATISTICS {
-        0
-    } else {
-        u.kind
-    };
-    let card = update(u);
-    say_part(output, end, templates, kind as usize, 0, card);
-    say_record(output, end, record_of(kind), card);
+// The template of a kind: the first is for all that are unknown.
+fn template_of(kind: u8) -> usize {
+    if kind > REMOVE_PARTITION_STATISTICS {
+        return 0;
+    }
+    kind as usize
 }
 
-// A line each, with its place from 0.
+// A template for each kind, in the order of their numbers.
+fn say_card(output: &mut Output, end: &mut usize, card: Card) {
+    let templates = b"update of unknown kind #0\
+        ;assign uuid ^\
+        ;upgrade to format version #0\
+        ;set location $\
+        ;add snapshot \
+        ;commit to branch $: snapshot \
+        ;remove snapshots \
+        ;set \
+        ;remove ref $\
+        ;add schema \
+        ;set current schema to #0?1{| (the last added)}\
+        ;remove schemas \
+        ;add sort order \
+        ;set default sort order to #0?1{| (the last added)}\
+        ;set statistics of \
+        ;remove statistics of snapshot #0\
+        ;set partition statistics of \
+        ;remove partition statistics of snapshot #0";
+    say_part(output, end, templates, template_of(card.kind), 0, card);
+    say_record(output, end, record_of(card.kind), card);
+}
+
+pub fn say_update(output: &mut Output, end: &mut usize, u: TableUpdate) {
+    say_card(output, end, update(u));
+}
+
+// With its place from 0.
+fn say_update_line(output: &mut Output, end: &mut usize, list: UpdateList, i: usize) {
+    say_part(output, end, b"    %0: ", 0, 0, counted(i, 0));
+    say_card(output, end, update_at(list, i));
+    say(output, end, b"\n");
+}
+
 pub fn say_updates(output: &mut Output, end: &mut usize, heading: &[u8], list: UpdateList) {
     let count = list.count;
-    let counts = counted(count, UPDATES);
-    say_heading(output, end, heading, counts);
+    say_heading(output, end, heading, count);
     let n = with_slots(count, UPDATES);
     let mut i = 0;
     while i < n {
-        let u = list.items[i];
-        say_part(output, end, b"    %0: ", 0, 0, counted(i, UPDATES));
-        say_update(output, end, u);
-        say(output, end, b"\n");
+        say_update_line(output, end, list, i);
         i += 1;
     }
-    say_end(output, end, counts);
+    say_end(output, end, count, UPDATES);
 }

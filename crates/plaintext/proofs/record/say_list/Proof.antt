@@ -5,10 +5,10 @@ use Rattle.plaintext.proofs.record.say_list.Statement.{statement}
 use Rattle.plaintext.proofs.record.say_list.Tie as tie
 
 abbrev Inv-loop : tie.InvT-loop
-Inv-loop output₀ end₀ list counts n i₀ t8 output end i = Unit {0}
+Inv-loop output₀ end₀ list templates n i₀ output end i = Unit {0}
 
 abbrev μ-loop : tie.MeasureT-loop
-μ-loop output₀ end₀ list counts n i₀ t8 output end i = n - i
+μ-loop output₀ end₀ list templates n i₀ output end i = n - i
 
 pub say-list-spec : {M : Type 1} → statement M
 say-list-spec =
@@ -19,12 +19,9 @@ say-list-spec =
     (λ c κs. search needs)
     (λ c. search needs)
     (λ c κs. search needs)
-    (λ c κs. search needs)
     (λ c. search needs)
     (λ c κs. search needs)
     (λ c. search needs)
     (λ c. search needs)
     (λ c. search needs)
-    (λ c. search needs)
-    (λ c κs. search needs)
     (λ c. search needs))
