@@ -204,8 +204,8 @@ none-left-out first last moment log h k = go (currentAt moment (answeredWithin f
 abbrev entry : ℕ → ℕ → LogEntry
 entry id time = record { snapshot = pos id; time = pos time }
 
--- an entry at the first millisecond is the first answer, and one at the last is listed
-pub at-both-ends : currentDuring (pos 200) (pos 300) (entry 1 100 ∷ entry 2 200 ∷ entry 3 300 ∷ []) ≡ (some (entry 2 200), entry 3 300 ∷ [])
+-- an entry at the first millisecond is the first answer, one at the last is listed, and one after it is not
+pub at-both-ends : currentDuring (pos 200) (pos 300) (entry 1 100 ∷ entry 2 200 ∷ entry 3 300 ∷ entry 4 301 ∷ []) ≡ (some (entry 2 200), entry 3 300 ∷ [])
 unfolding currentAt answeredWithin
 at-both-ends = refl
 

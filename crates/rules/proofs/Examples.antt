@@ -19,7 +19,7 @@ use Rattle.rules.specs.Close.{isDefaultUnfit, intermediates, rebuilt, en
 use Rattle.rules.specs.Moment.{currentAt, entriesRead, isWhole, removesAndAdds}
 use Rattle.rules.specs.RowIds.{rowNumber, rowNext}
 use Rattle.rules.specs.Run.{listSum, runFrom, close, startChecks, run}
-use Rattle.rules.specs.Rows.{newSnapshots, isApart}
+use Rattle.rules.specs.Rows.{newSnapshots, endOver, isApart}
 use Rattle.rules.specs.Replay.{strip}
 use Rattle.rules.specs.Examples.{Example, replyTo, examples}
 
@@ -29,5 +29,5 @@ unfolding limitOf trimmed isBefore snapshotsFormed refsFormed snapshotLogFormed 
 computed terms m us = run terms m us
 
 pub examples-hold : map (λ (e : Example). replyTo (e .asked)) examples ≡ map (λ (e : Example). e .reply) examples
-unfolding computed limitOf follow ancestors currentAt entriesRead isWhole removesAndAdds rowNumber rowNext newSnapshots isApart strip
+unfolding computed limitOf follow ancestors currentAt entriesRead isWhole removesAndAdds rowNumber rowNext newSnapshots endOver isApart strip
 examples-hold = refl
