@@ -8,14 +8,8 @@ use numbers::number::put_count;
 use numbers::output::Output;
 use records::metadata::TableMetadata;
 
-// A line for each table, in the order of their numbers.
-fn put_element(
-    output: &mut Output,
-    end: &mut usize,
-    metadata: TableMetadata,
-    table: usize,
-    i: usize,
-) {
+pub fn put_table(output: &mut Output, end: &mut usize, metadata: TableMetadata, table: usize) {
+    // A line for each table, in the order of their numbers.
     let layouts = b"abcdefAB\n\
         L$abcdefgh\n\
         ab\n\
@@ -24,16 +18,12 @@ fn put_element(
         aN*\n\
         aL$b\n\
         aL$b\n";
-    put_card(output, end, layouts, table, card_at(metadata, table, i));
-}
-
-pub fn put_table(output: &mut Output, end: &mut usize, metadata: TableMetadata, table: usize) {
     let count = count_of(metadata, table);
     put_count(output, end, count);
     let n = with_slots(count, slots_of(table));
     let mut i = 0;
     while i < n {
-        put_element(output, end, metadata, table, i);
+        put_card(output, end, layouts, table, card_at(metadata, table, i));
         i += 1;
     }
 }

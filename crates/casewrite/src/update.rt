@@ -1,7 +1,7 @@
 // Updates: a kind, then what that kind uses. Nothing follows an unknown kind.
 use crate::layout::put_card;
 use cards::card::Card;
-use cards::update::update_at;
+use cards::update::update;
 use fitting::with_slots;
 use numbers::number::put_count;
 use numbers::number::put_u8;
@@ -39,7 +39,8 @@ pub fn put_updates(output: &mut Output, end: &mut usize, list: UpdateList) {
     let n = with_slots(count, UPDATES);
     let mut i = 0;
     while i < n {
-        put_update(output, end, update_at(list, i));
+        let u = list.items[i];
+        put_update(output, end, update(u));
         i += 1;
     }
 }
