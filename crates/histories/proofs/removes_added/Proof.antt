@@ -6,8 +6,7 @@ use lib.IntN.{ℤ}
 use Rattle.records.specs.declared.update.TableUpdate.{TableUpdate}
 use Rattle.rules.specs.Words.{any}
 use Rattle.rules.specs.Register.{Update}
-use Rattle.rules.specs.ChangeLog.{logsAddition}
-use Rattle.rules.specs.Moment.{removedIds}
+use Rattle.rules.specs.ChangeLog.{removedIds, logsAddition}
 use Rattle.rules.specs.Layout.{readSnapshotIds}
 use Rattle.rules.specs.Kinds.{removeSnapshotsKind, isTidyUpdate, readKind, readUpdate, readUpdates}
 use Rattle.histories.proofs.OfKind.{read-tidy, other-kind}

@@ -12,8 +12,8 @@ use Rattle.records.specs.declared.update.UpdateList.{UpdateList}
 use Rattle.rules.specs.Words.{any}
 use Rattle.rules.specs.Capacities.{listRoom}
 use Rattle.rules.specs.Register.{Update}
-use Rattle.rules.specs.ChangeLog.{logsAddition}
-use Rattle.rules.specs.Moment.{removedIds, logsRemoved, removesAndAdds}
+use Rattle.rules.specs.ChangeLog.{removedIds, logsAddition}
+use Rattle.rules.specs.Moment.{logsRemoved, removesAndAdds}
 use Rattle.rules.specs.Kinds.{readUpdate, readUpdates}
 use Rattle.rules.proofs.ReplayLists.{any-append}
 use Rattle.formed.proofs.Scans.{slots}
