@@ -1,4 +1,4 @@
-// The tables of metadata by their numbers, and the card of an element. Past the slots an element is blank.
+// The tables of metadata by their numbers, and the card of an element. Past the slots it is that of the last.
 use crate::card::Card;
 use crate::record::file;
 use crate::record::log_entry;
@@ -7,6 +7,7 @@ use crate::record::schema;
 use crate::record::snapshot;
 use crate::record::sort_order;
 use crate::record::statistics_file;
+use fitting::with_slots;
 use records::capacities::METADATA_LOG;
 use records::capacities::REFS;
 use records::capacities::SCHEMAS;
@@ -42,59 +43,45 @@ pub const OF_PARTITION_STATISTICS: usize = 7;
 pub const TABLES: usize = 8;
 
 fn snapshot_at(table: Snapshots, i: usize) -> Card {
-    if i < SNAPSHOTS {
-        let s = table.items[i];
-        return snapshot(s);
-    }
-    Card::of_number(0)
+    let at = with_slots(i, SNAPSHOTS - 1);
+    let s = table.items[at];
+    snapshot(s)
 }
 
 fn ref_at(table: Refs, i: usize) -> Card {
-    if i < REFS {
-        let r = table.items[i];
-        return named_ref(r);
-    }
-    Card::of_number(0)
+    let at = with_slots(i, REFS - 1);
+    let r = table.items[at];
+    named_ref(r)
 }
 
 fn entry_at(log: SnapshotLog, i: usize) -> Card {
-    if i < SNAPSHOT_LOG {
-        let entry = log.items[i];
-        return log_entry(entry);
-    }
-    Card::of_number(0)
+    let at = with_slots(i, SNAPSHOT_LOG - 1);
+    let entry = log.items[at];
+    log_entry(entry)
 }
 
 fn file_at(log: MetadataLog, i: usize) -> Card {
-    if i < METADATA_LOG {
-        let entry = log.items[i];
-        return file(entry);
-    }
-    Card::of_number(0)
+    let at = with_slots(i, METADATA_LOG - 1);
+    let entry = log.items[at];
+    file(entry)
 }
 
 fn schema_at(table: Schemas, i: usize) -> Card {
-    if i < SCHEMAS {
-        let s = table.items[i];
-        return schema(s);
-    }
-    Card::of_number(0)
+    let at = with_slots(i, SCHEMAS - 1);
+    let s = table.items[at];
+    schema(s)
 }
 
 fn sort_order_at(table: SortOrders, i: usize) -> Card {
-    if i < SORT_ORDERS {
-        let order = table.items[i];
-        return sort_order(order);
-    }
-    Card::of_number(0)
+    let at = with_slots(i, SORT_ORDERS - 1);
+    let order = table.items[at];
+    sort_order(order)
 }
 
 fn statistics_at(table: StatisticsFiles, i: usize) -> Card {
-    if i < STATISTICS {
-        let f = table.items[i];
-        return statistics_file(f);
-    }
-    Card::of_number(0)
+    let at = with_slots(i, STATISTICS - 1);
+    let f = table.items[at];
+    statistics_file(f)
 }
 
 pub fn card_at(metadata: TableMetadata, table: usize, i: usize) -> Card {

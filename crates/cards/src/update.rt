@@ -12,6 +12,7 @@ use crate::record::snapshot;
 use crate::record::snapshot_ids;
 use crate::record::sort_order;
 use crate::record::statistics_file;
+use fitting::with_slots;
 use records::capacities::UPDATES;
 use records::update::ADD_SCHEMA;
 use records::update::ADD_SNAPSHOT;
@@ -75,11 +76,9 @@ pub fn update(u: TableUpdate) -> Card {
     card.with_kind(u.kind)
 }
 
-// Past the slots an update is blank.
+// Past the slots it is that of the last.
 pub fn update_at(list: UpdateList, i: usize) -> Card {
-    if i < UPDATES {
-        let u = list.items[i];
-        return update(u);
-    }
-    Card::of_number(0)
+    let at = with_slots(i, UPDATES - 1);
+    let u = list.items[at];
+    update(u)
 }
