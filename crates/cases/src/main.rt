@@ -89,7 +89,7 @@ fn answer_all(output: &mut Output, end: &mut usize) {
 fn main() {
     let mut output = empty_output();
     let mut end: usize = 0;
-    let help = b"cases < CASES: answers of every entry point, in numbers\n\
+    let help = b"cases < CASES: answers of the run, the walks and the small functions, in numbers\n\
         It reads cases in the case format (docs/CASES.md), any number of them, and prints for each a line with its answer.\n\
         Example: ./soritauba cases < crates/cases/stdin\n";
     if goes_on(&mut output, &mut end, help) {

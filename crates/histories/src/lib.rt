@@ -1,6 +1,6 @@
 // The two conditions under which a run keeps the answers about a moment: whether metadata holds every snapshot that its history names, and whether
 // a change log both removes and adds one snapshot. Nothing is refused: any metadata and any log are answered.
-// Document 02, request (i), as the crate `rules` writes it in Moment; the conditions are this project's.
+// The conditions are this project's own, as the crate `rules` writes them in Moment; no document asks for them.
 ghost use mathlib.Core.Path.{_≡_};
 ghost use mathlib.Core.Bool.{cond, _&&_};
 ghost use Prim.Native.Nat.{_≤_};

@@ -1,5 +1,5 @@
 -- Document 01, in the order in which it is read: words, records, leaves, well-formed records, updates, the close, the run, the layout of records;
--- and what document 02 adds: statistics files (StatisticsUpdates), which snapshot was current at a time (Moment) and which during a span (During), row ids over a sequence of runs (Rows).
+-- and what document 02 adds: statistics files (StatisticsUpdates), which snapshot was current at a time (Moment), row ids over a sequence of runs (Rows). During is this project's own.
 pub mod Words
 pub mod Replies
 pub mod Capacities
