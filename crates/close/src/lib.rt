@@ -15,6 +15,7 @@ ghost use Rattle.tables.specs.Laid.{LaidSnapshotLog, LaidRefs, LaidSchemas, Lai
 ghost use Rattle.builder.specs.Pieces.{laidBuilder};
 ghost use Rattle.close.specs.Answers.{HistoryOf, Handed, endsOff};
 use builder::builder::TableMetadataBuilder;
+use equality::ids::same_snapshot;
 use history::History;
 use records::counters::Time;
 use records::metadata::SingleFields;
@@ -26,7 +27,6 @@ use records::replies::MAIN_DISAGREES;
 use records::replies::TOO_MANY_FILES;
 use records::schema::Schemas;
 use records::sort_order::SortOrders;
-use tables::ids::same_snapshot;
 
 pub mod files;
 pub mod history;

@@ -6,9 +6,9 @@ use lib.IntN.{ℤ}
 use Rattle.rules.specs.Words.{eqZ, sameBytes}
 use Rattle.records.specs.declared.metadata.SingleFields.{SingleFields}
 use Rattle.records.specs.declared.metadata.TableMetadata.{TableMetadata}
+use Rattle.equality.specs.Same.{sameLocation, sameSnapshot, sameRef, sameLogEntry, sameFileEntry, sameSchema, sameSortOrder, sameStatisticsFile}
 use Rattle.compare.specs.declared.difference.Difference.{Difference}
 use Rattle.compare.specs.First.{Part, field, table, first}
-use Rattle.compare.specs.Same.{sameLocation, sameSnapshot, sameRef, sameLogEntry, sameFileEntry, sameSchema, sameSortOrder, sameStatisticsFile}
 
 -- a flag, and the number behind it
 abbrev pub sameFlagged : Bool × ℤ → Bool × ℤ → Bool

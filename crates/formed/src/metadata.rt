@@ -21,6 +21,7 @@ use crate::slots::schemas_filled;
 use crate::slots::snapshot_log_formed;
 use crate::slots::snapshots_filled;
 use crate::slots::statistics_filled;
+use equality::ids::same_snapshot;
 use records::capacities::LOCATION;
 use records::metadata::SingleFields;
 use records::metadata::TableMetadata;
@@ -29,7 +30,6 @@ use records::schema::Schemas;
 use records::snapshot::Snapshots;
 use records::sort_order::SortOrders;
 use records::statistics::StatisticsFiles;
-use tables::ids::same_snapshot;
 use tables::names::is_main_name;
 use tables::snapshots::holds;
 

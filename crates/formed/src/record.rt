@@ -16,6 +16,7 @@ use crate::bounds::order_id_zero;
 use crate::bounds::schema_id_formed;
 use crate::bounds::sequence_formed;
 use crate::bounds::snapshot_id_formed;
+use equality::ids::same_field;
 use records::capacities::FILE_NAME;
 use records::capacities::REF_NAME;
 use records::capacities::REMOVALS;
@@ -31,7 +32,6 @@ use records::snapshot::SnapshotIds;
 use records::sort_order::SortField;
 use records::sort_order::SortOrder;
 use records::statistics::StatisticsFile;
-use tables::ids::same_field;
 
 pub fn snapshot_formed(s: Snapshot) -> bool
     ensures { λ r. ⌜ r ≡ snapshotFormed (readSnapshot s) ⌝ }

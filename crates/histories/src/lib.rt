@@ -14,6 +14,7 @@ ghost use Rattle.rules.specs.Blanks.{isTidyMetadata};
 ghost use Rattle.rules.specs.Layout.{readSnapshotIds, readSnapshotLog, readSnapshots, readMetadata};
 ghost use Rattle.rules.specs.Kinds.{readUpdate, readUpdates};
 ghost use Rattle.tables.specs.Laid.{LaidSnapshots};
+use equality::ids::same_snapshot;
 use formed::update::is_tidy;
 use records::capacities::REMOVALS;
 use records::capacities::UPDATES;
@@ -26,7 +27,6 @@ use records::update::ADD_SNAPSHOT;
 use records::update::REMOVE_SNAPSHOTS;
 use records::update::TableUpdate;
 use records::update::UpdateList;
-use tables::ids::same_snapshot;
 use tables::snapshots::holds;
 
 // ---- metadata

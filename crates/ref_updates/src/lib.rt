@@ -8,14 +8,14 @@ ghost use lib.Dec.{eqb, leb};
 ghost use mathlib.Core.Option.{Option, none, some};
 ghost use lib.IntN.{ℤ};
 ghost use lib.ListN.{length};
-ghost use Rattle.rules.specs.Words.{eqZ, sameOption, ascending, put, firstOf};
+ghost use Rattle.rules.specs.Words.{ascending, put, firstOf};
 ghost use Rattle.rules.specs.Capacities.{refRoom, snapshotLogRoom, refNameRoom};
 ghost use Rattle.rules.specs.Replies.{snapshotNotHeld, tableFull};
 ghost use Rattle.rules.specs.Register as plain;
 ghost use Rattle.rules.specs.Register.{Terms, State, SetRef, withCurrent, withOwn, onFields};
 ghost use Rattle.rules.specs.WellFormed.{refBelow};
-ghost use Rattle.rules.specs.RefUpdates.{sameReference, isTag, asMain};
-ghost use Rattle.rules.specs.Layout.{given, readRefName, readReference, laidReference, readRefs, laidRefs};
+ghost use Rattle.rules.specs.RefUpdates.{isTag, asMain};
+ghost use Rattle.rules.specs.Layout.{readRefName, readReference, laidReference, readRefs, laidRefs};
 ghost use Rattle.rules.specs.Kinds.{setBranchSnapshotKind, setRefKind, removeRefKind, isTidyUpdate, laidUpdate};
 ghost use Rattle.tables.specs.Laid.{LaidName, LaidRefs};
 ghost use Rattle.builder.specs.Pieces.{laidBuilder};
@@ -23,15 +23,13 @@ ghost use Rattle.builder.specs.Answers.{Decides};
 ghost use Rattle.ref_updates.specs.Refs.{wantedRef, askedRef, RefAsked, RefDecided, NewRef};
 use builder::builder::TableMetadataBuilder;
 use builder::builder::own_or;
-use builder::checks::both;
 use builder::checks::choose;
 use builder::checks::is_full;
 use builder::decision::Decision;
 use builder::decision::decided;
+use equality::read::same_reference;
 use records::capacities::REFS;
 use records::capacities::SNAPSHOT_LOG;
-use records::counters::Age;
-use records::counters::MinSnapshots;
 use records::counters::SnapshotId;
 use records::counters::Time;
 use records::reference::NamedRef;
@@ -46,88 +44,12 @@ use records::text::RefName;
 use records::update::SET_BRANCH_SNAPSHOT;
 use records::update::SET_REF;
 use records::update::TableUpdate;
-use tables::ids::same_snapshot;
 use tables::names::is_main_name;
 
 // The kinds of a ref.
 const BRANCH: u8 = 1;
 
 const TAG: u8 = 2;
-
-fn is_age(a: Age, b: Age) -> bool
-    ensures { λ r. ⌜ r ≡ eqZ (a .0) (b .0) ⌝ }
-{
-    let x = a.0;
-    let y = b.0;
-    x == y
-}
-
-fn is_min(a: MinSnapshots, b: MinSnapshots) -> bool
-    ensures { λ r. ⌜ r ≡ eqZ (a .0) (b .0) ⌝ }
-{
-    let x = a.0;
-    let y = b.0;
-    x == y
-}
-
-fn same_age(h: bool, a: Age, g: bool, b: Age) -> bool
-    ensures { λ r. ⌜ r ≡ sameOption eqZ (given h (a .0)) (given g (b .0)) ⌝ }
-{
-    let same = is_age(a, b);
-    same_present(h, g, same)
-}
-
-fn same_min(h: bool, a: MinSnapshots, g: bool, b: MinSnapshots) -> bool
-    ensures { λ r. ⌜ r ≡ sameOption eqZ (given h (a .0)) (given g (b .0)) ⌝ }
-{
-    let same = is_min(a, b);
-    same_present(h, g, same)
-}
-
-// Both absent, or both there and the same.
-fn same_present(h: bool, g: bool, same: bool) -> bool
-    ensures { λ r. ⌜ r ≡ cond h (g && same) (not g) ⌝ }
-{
-    if !h {
-        return !g;
-    }
-    if !g {
-        return false;
-    }
-    same
-}
-
-fn same_reference(a: SnapshotReference, b: SnapshotReference) -> bool
-    ensures { λ r. ⌜ r ≡ sameReference (readReference a) (readReference b) ⌝ }
-{
-    let i = a.snapshot_id;
-    let j = b.snapshot_id;
-    let k = a.kind;
-    let l = b.kind;
-    let s = same_snapshot(i, j);
-    let m = same_min(
-        a.has_min,
-        a.min_snapshots_to_keep,
-        b.has_min,
-        b.min_snapshots_to_keep,
-    );
-    let n = same_age(
-        a.has_age,
-        a.max_snapshot_age_ms,
-        b.has_age,
-        b.max_snapshot_age_ms,
-    );
-    let o = same_age(
-        a.has_ref_age,
-        a.max_ref_age_ms,
-        b.has_ref_age,
-        b.max_ref_age_ms,
-    );
-    let x = both(s, k == l);
-    let y = both(x, m);
-    let z = both(y, n);
-    both(z, o)
-}
 
 // `main`: current snapshot set, and the clock is the last update if none.
 fn as_main(b: TableMetadataBuilder, clock: Time, id: SnapshotId) -> TableMetadataBuilder

@@ -20,6 +20,7 @@ use builder::builder::TableMetadataBuilder;
 use builder::checks::choose;
 use builder::decision::Decision;
 use builder::decision::decided;
+use equality::ids::same_schema;
 use records::capacities::SCHEMAS;
 use records::counters::FieldId;
 use records::counters::SchemaId;
@@ -32,7 +33,6 @@ use records::replies::UNKNOWN_ID;
 use records::schema::Schema;
 use records::schema::Schemas;
 use records::update::TableUpdate;
-use tables::ids::same_schema;
 use tables::schemas::find_equal;
 use tables::schemas::highest;
 

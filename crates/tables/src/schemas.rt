@@ -13,9 +13,10 @@ ghost use Rattle.search.specs.Places.{indexOf};
 ghost use Rattle.tables.specs.Laid.{LaidSchema, LaidSchemas, LaidSchemaIds};
 use crate::ids::has_schema;
 use crate::ids::push_schema;
-use crate::ids::same_field;
-use crate::ids::same_schema;
 use crate::ids::schema_below;
+use equality::ids::same_field;
+use equality::ids::same_schema;
+use equality::read::same_fields;
 use records::counters::FieldId;
 use records::counters::SchemaId;
 use records::schema::Schema;
@@ -46,31 +47,6 @@ pub fn holds(t: Schemas, id: SchemaId) -> bool
     let n = t.count;
     let i = find(t, id);
     i < n
-}
-
-// The same fields one by one.
-pub fn same_fields(a: Schema, b: Schema) -> bool
-    requires { ⌜ LaidSchema a ⌝ }
-    requires { ⌜ LaidSchema b ⌝ }
-    ensures { λ r. ⌜ r ≡ sameList sameSchemaField (readSchema a .fields) (readSchema b .fields) ⌝ }
-{
-    let n = a.count;
-    let m = b.count;
-    if n != m {
-        return false;
-    }
-    let mut i = 0;
-    while i < n {
-        let x = a.items[i];
-        let y = b.items[i];
-        let p = x.id;
-        let q = y.id;
-        if !same_field(p, q) {
-            return false;
-        }
-        i += 1;
-    }
-    true
 }
 
 // Where the first with equal fields stands; the count where there is none.

@@ -8,16 +8,15 @@ ghost use lib.ListN.{take, drop};
 ghost use Rattle.rules.specs.Words.{put as putBy, any, isIn, sameList, larger, highest as highestOf};
 ghost use Rattle.rules.specs.WellFormed.{orderBelow, hasOrder, fieldIds};
 ghost use Rattle.rules.specs.OrderUpdates.{holdsOrder, sameSortField, orderIds};
-ghost use Rattle.rules.specs.Layout.{readSchema, readSortField, readSortOrder, readSortOrders, laidSortOrders};
+ghost use Rattle.rules.specs.Layout.{readSchema, readSortOrder, readSortOrders, laidSortOrders};
 ghost use Rattle.search.specs.Places.{indexOf};
 ghost use Rattle.tables.specs.Laid.{LaidSchema, LaidOrder, LaidOrders};
 use crate::ids::order_below;
-use crate::ids::same_field;
-use crate::ids::same_order;
 use crate::schemas::has_field;
+use equality::ids::same_order;
+use equality::read::same_sort_fields;
 use records::counters::SortOrderId;
 use records::schema::Schema;
-use records::sort_order::SortField;
 use records::sort_order::SortOrder;
 use records::sort_order::SortOrders;
 
@@ -47,46 +46,6 @@ pub fn holds(t: SortOrders, id: SortOrderId) -> bool
     i < n
 }
 
-fn same_sort_field(a: SortField, b: SortField) -> bool
-    ensures { λ r. ⌜ r ≡ sameSortField (readSortField a) (readSortField b) ⌝ }
-{
-    let x = a.source_id;
-    let y = b.source_id;
-    let p = a.direction;
-    let q = b.direction;
-    let u = a.null_order;
-    let v = b.null_order;
-    if !same_field(x, y) {
-        return false;
-    }
-    if p != q {
-        return false;
-    }
-    u == v
-}
-
-pub fn same_fields(a: SortOrder, b: SortOrder) -> bool
-    requires { ⌜ LaidOrder a ⌝ }
-    requires { ⌜ LaidOrder b ⌝ }
-    ensures { λ r. ⌜ r ≡ sameList sameSortField (readSortOrder a .fields) (readSortOrder b .fields) ⌝ }
-{
-    let n = a.count;
-    let m = b.count;
-    if n != m {
-        return false;
-    }
-    let mut i = 0;
-    while i < n {
-        let x = a.items[i];
-        let y = b.items[i];
-        if !same_sort_field(x, y) {
-            return false;
-        }
-        i += 1;
-    }
-    true
-}
-
 pub fn find_equal(t: SortOrders, o: SortOrder) -> usize
     requires { ⌜ LaidOrders t ⌝ }
     requires { ⌜ LaidOrder o ⌝ }
@@ -96,7 +55,7 @@ pub fn find_equal(t: SortOrders, o: SortOrder) -> usize
     let mut i = 0;
     while i < n {
         let x = t.items[i];
-        if same_fields(x, o) {
+        if same_sort_fields(x, o) {
             return i;
         }
         i += 1;
