@@ -12,7 +12,7 @@ use Rattle.compare.specs.declared.difference.Difference.{Difference}
 use Rattle.compare.specs.First.{Part, place, inPart, first}
 use Rattle.compare.specs.Parts.{parts, noDifference, firstDifference}
 use Rattle.compare.proofs.Places.{FirstPlace, Compared, compared}
-use Rattle.compare.proofs.Told.{counts-told, flagged-told, locations-told, snapshots-told, refs-told, log-entries-told, file-entries-told, schemas-told, sort-orders-told, statistics-files-told}
+use Rattle.compare.proofs.Told.{counts-told, flagged-told, texts-told, snapshots-told, refs-told, log-entries-told, file-entries-told, schemas-told, sort-orders-told, statistics-files-told}
 
 -- ---- parts
 
@@ -70,7 +70,7 @@ unfolding parts
 parts-told a b =
     counts-told
     and names-told
-    and locations-told
+    and texts-told
     and numbers-told
     and numbers-told
     and counts-told
