@@ -6,23 +6,19 @@ use mathlib.Core.List.{List, [], _∷_}
 use lib.Dec.{eqb}
 use lib.ListN.{length, replicate}
 use borrow.Author.Tests.{eq-eqb, eqb-true}
-use Rattle.records.specs.Blanks.{noUpdate, noSnapshotId, noSnapshotIds, noSchemaId, noSchemaIds, noLocation}
+use Rattle.records.specs.Blanks.{noUpdate, noSnapshotId, noSnapshotIds, noSchemaId, noSchemaIds}
 use Rattle.records.specs.declared.update.TableUpdate.{TableUpdate}
-use Rattle.records.specs.declared.text.Location.{Location}
 use Rattle.records.specs.declared.snapshot.SnapshotIds.{SnapshotIds}
 use Rattle.records.specs.declared.schema.SchemaIds.{SchemaIds}
 use Rattle.rules.specs.Words.{any, all}
 use Rattle.rules.specs.WellFormed.{updateFormed}
-use Rattle.rules.specs.Capacities.{locationRoom, removalRoom}
-use Rattle.rules.specs.Blanks.{isZero, isZeroZ, isBlankLocation, isBlankSnapshot, isBlankSnapshotId, isBlankSnapshotIds, isBlankRefName, isBlankReference, isBlankSchema, isBlankSchemaId, isBlankSchemaIds, isBlankSortOrder, isBlankStatisticsFile}
+use Rattle.rules.specs.Capacities.{removalRoom}
+use Rattle.rules.specs.Blanks.{isZero, isZeroZ, isBlankText, isBlankSnapshot, isBlankSnapshotId, isBlankSnapshotIds, isBlankRefName, isBlankReference, isBlankSchema, isBlankSchemaId, isBlankSchemaIds, isBlankSortOrder, isBlankStatisticsFile}
 use Rattle.rules.specs.Kinds.{usedBy, isUnusedBlank, isUsedTidy, isTidyUpdate, readKind, readUpdate, assignUuidKind, upgradeFormatVersionKind, setLocationKind, addSnapshotKind, setBranchSnapshotKind, removeSnapshotsKind, setRefKind, removeRefKind, addSchemaKind, setCurrentSchemaKind, removeSchemasKind, addSortOrderKind, setDefaultSortOrderKind, setStatisticsKind, removeStatisticsKind, setPartitionStatisticsKind, removePartitionStatisticsKind}
 use Rattle.rules.proofs.Checks.{both, and-left, by-either, parts}
-use Rattle.rules.proofs.Relaid.{zero, zeroZ, unused, blank-ref-name, blank-snapshot, blank-reference, blank-schema, blank-sort-order, blank-statistics-file}
+use Rattle.rules.proofs.Relaid.{zero, zeroZ, unused, blank-text, blank-ref-name, blank-snapshot, blank-reference, blank-schema, blank-sort-order, blank-statistics-file}
 
 -- ---- blank records
-
-no-location : (t : Location) → isBlankLocation t ≡ true → t ≡ noLocation
-no-location t e = let k = unused 0 isZero zero locationRoom (t .len) (t .bytes) e in λ i. record { bytes = k .0 i; len = k .1 i }
 
 no-snapshot-ids : (t : SnapshotIds) → isBlankSnapshotIds t ≡ true → t ≡ noSnapshotIds
 unfolding isBlankSnapshotIds
@@ -81,7 +77,7 @@ own-kind u n e =
     let h =
     parts (usedBy (assignUuidKind ∷ []) k (all isZero (u .uuid)))
     (usedBy (upgradeFormatVersionKind ∷ []) k (isZero (u .«format_version»))
-    ∷ usedBy (setLocationKind ∷ []) k (isBlankLocation (u .location))
+    ∷ usedBy (setLocationKind ∷ []) k (isBlankText (u .location))
     ∷ usedBy (addSnapshotKind ∷ setBranchSnapshotKind ∷ []) k (isBlankSnapshot (u .snapshot))
     ∷ usedBy (removeSnapshotsKind ∷ []) k (isBlankSnapshotIds (u .«snapshot_ids»))
     ∷ usedBy (setBranchSnapshotKind ∷ setRefKind ∷ removeRefKind ∷ []) k (isBlankRefName (u .«ref_name»))
@@ -99,7 +95,7 @@ own-kind u n e =
       kind = k;
       uuid = used-is (assignUuidKind ∷ []) k _ (u .uuid) (noUpdate .uuid) (no-bytes (u .uuid) 16 n) (h .0) i;
       «format_version» = used-is (upgradeFormatVersionKind ∷ []) k _ (u .«format_version») 0 (zero (u .«format_version»)) (h .1 .0) i;
-      location = used-is (setLocationKind ∷ []) k _ (u .location) (noUpdate .location) (no-location (u .location)) (h .1 .1 .0) i;
+      location = used-is (setLocationKind ∷ []) k _ (u .location) (noUpdate .location) (blank-text (u .location)) (h .1 .1 .0) i;
       snapshot = used-is (addSnapshotKind ∷ setBranchSnapshotKind ∷ []) k _ (u .snapshot) (noUpdate .snapshot) (blank-snapshot (u .snapshot)) (h .1 .1 .1 .0) i;
       «snapshot_ids» = used-is (removeSnapshotsKind ∷ []) k _ (u .«snapshot_ids») (noUpdate .«snapshot_ids») (no-snapshot-ids (u .«snapshot_ids»)) (h .1 .1 .1 .1 .0) i;
       «ref_name» = used-is (setBranchSnapshotKind ∷ setRefKind ∷ removeRefKind ∷ []) k _ (u .«ref_name») (noUpdate .«ref_name») (blank-ref-name (u .«ref_name»)) (h .1 .1 .1 .1 .1 .0) i;

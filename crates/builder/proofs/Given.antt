@@ -15,8 +15,8 @@ use Rattle.records.specs.declared.counters.SchemaId.{SchemaId}
 use Rattle.rules.specs.Words.{all, unequal}
 use Rattle.rules.specs.Capacities.{locationRoom, schemaFieldRoom, sortFieldRoom, removalRoom}
 use Rattle.rules.specs.WellFormed.{atLeastOne, fieldIds, schemaFormed, sortFieldFormed, offeredOrderFormed, statisticsFileFormed, removalFormed, locationFormed}
-use Rattle.rules.specs.Blanks.{isTidyLocation, isTidySnapshot, isTidySnapshotIds, isTidyRefName, isTidyReference, isTidySchema, isBlankSchemaId, isTidySchemaIds, isTidySortOrder, isTidyStatisticsFile}
-use Rattle.rules.specs.Layout.{readLocation, readSchema, readSchemaIds, laidSchemaIds, readSortOrder, readStatisticsFile}
+use Rattle.rules.specs.Blanks.{isTidyText, isTidySnapshot, isTidySnapshotIds, isTidyRefName, isTidyReference, isTidySchema, isBlankSchemaId, isTidySchemaIds, isTidySortOrder, isTidyStatisticsFile}
+use Rattle.rules.specs.Layout.{readText, readSchema, readSchemaIds, laidSchemaIds, readSortOrder, readStatisticsFile}
 use Rattle.rules.specs.Kinds.{isUnusedBlank, isUsedTidy, isTidyUpdate}
 use Rattle.rules.proofs.Checks.{Hold, and-left, and-right, parts}
 use Rattle.rules.proofs.Relaid.{zeroZ, length-counted, fields-back, back-schema, back-sort-order, back-statistics-file}
@@ -24,14 +24,14 @@ use Rattle.tables.specs.Laid.{LaidSchema, LaidOrder, LaidStatisticsFile, LaidSc
 
 module _ (u : TableUpdate) (e : isTidyUpdate u ≡ true) where
   -- every record is tidy
-  pub used : Hold (isTidyLocation (u .location) ∷ isTidySnapshot (u .snapshot) ∷ isTidySnapshotIds (u .«snapshot_ids») ∷ isTidyRefName (u .«ref_name») ∷ isTidyReference (u .reference) ∷ isTidySchema (u .schema) ∷ isTidySchemaIds (u .«schema_ids») ∷ isTidySortOrder (u .«sort_order») ∷ isTidyStatisticsFile (u .statistics) ∷ [])
+  pub used : Hold (isTidyText (u .location) ∷ isTidySnapshot (u .snapshot) ∷ isTidySnapshotIds (u .«snapshot_ids») ∷ isTidyRefName (u .«ref_name») ∷ isTidyReference (u .reference) ∷ isTidySchema (u .schema) ∷ isTidySchemaIds (u .«schema_ids») ∷ isTidySortOrder (u .«sort_order») ∷ isTidyStatisticsFile (u .statistics) ∷ [])
   unfolding isUsedTidy
   used =
-      parts (isTidyLocation (u .location)) (isTidySnapshot (u .snapshot) ∷ isTidySnapshotIds (u .«snapshot_ids») ∷ isTidyRefName (u .«ref_name») ∷ isTidyReference (u .reference) ∷ isTidySchema (u .schema) ∷ isTidySchemaIds (u .«schema_ids») ∷ isTidySortOrder (u .«sort_order») ∷ isTidyStatisticsFile (u .statistics) ∷ [])
+      parts (isTidyText (u .location)) (isTidySnapshot (u .snapshot) ∷ isTidySnapshotIds (u .«snapshot_ids») ∷ isTidyRefName (u .«ref_name») ∷ isTidyReference (u .reference) ∷ isTidySchema (u .schema) ∷ isTidySchemaIds (u .«schema_ids») ∷ isTidySortOrder (u .«sort_order») ∷ isTidyStatisticsFile (u .statistics) ∷ [])
       (and-right (isUnusedBlank u) (isUsedTidy u) e)
 
-  pub given-location : locationFormed (readLocation (u .location)) ≡ true → u .location .len ≤ locationRoom
-  given-location f = omega (arith, leb-true (length (readLocation (u .location))) locationRoom f, length-counted 0 (u .location .bytes) (u .location .len))
+  pub given-location : locationFormed (readText (u .location)) ≡ true → u .location .len ≤ locationRoom
+  given-location f = omega (arith, leb-true (length (readText (u .location))) locationRoom f, length-counted 0 (u .location .bytes) (u .location .len))
 
   pub given-schema : schemaFormed (readSchema (u .schema)) ≡ true → LaidSchema (u .schema)
   given-schema f =

@@ -19,8 +19,6 @@ use records::snapshot::SnapshotIds;
 use records::snapshot::SnapshotLogEntry;
 use records::sort_order::SortOrder;
 use records::statistics::StatisticsFile;
-use records::text::FileName;
-use records::text::Location;
 use records::text::RefName;
 
 // id, has_parent, parent, sequence, time, has_rows; first row, added rows
@@ -62,12 +60,12 @@ pub fn ref_name(name: RefName) -> Text {
     text_of(&bytes, name.len)
 }
 
-pub fn location(location: Location) -> Text {
+pub fn location(location: records::text::Text) -> Text {
     let bytes = location.bytes;
     text_of(&bytes, location.len)
 }
 
-fn file_name(name: FileName) -> Text {
+fn file_name(name: records::text::Text) -> Text {
     let bytes = name.bytes;
     text_of(&bytes, name.len)
 }

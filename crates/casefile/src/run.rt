@@ -16,7 +16,7 @@ use records::counters::Age;
 use records::counters::Time;
 use records::metadata::TableMetadata;
 use records::run::RunTerms;
-use records::text::FileName;
+use records::text::Text;
 use records::update::UpdateList;
 
 // The text comes first: the checker looks for its length there, and not behind all of the metadata.
@@ -41,7 +41,7 @@ pub fn is_run(kind: u64) -> bool {
 fn read_terms(input: &mut Input, place: &mut Place) -> RunTerms {
     let clock_ms = Time(read_i64(input, place));
     let has_file = read_flag(input, place);
-    let mut file = FileName::blank();
+    let mut file = Text::blank();
     if has_file {
         file = read_file_name(input, place);
     }

@@ -5,12 +5,10 @@ use numbers::field::read_u8;
 use numbers::input::Input;
 use numbers::input::Place;
 use numbers::input::is_good;
-use records::capacities::FILE_NAME;
-use records::capacities::LOCATION;
 use records::capacities::REF_NAME;
-use records::text::FileName;
-use records::text::Location;
+use records::capacities::TEXT;
 use records::text::RefName;
+use records::text::Text;
 
 fn read_slots(input: &mut Input, place: &mut Place, slots: &mut [u8], len: usize) {
     let mut i = 0;
@@ -39,14 +37,14 @@ pub fn read_ref_name(input: &mut Input, place: &mut Place) -> RefName {
     RefName { bytes, len }
 }
 
-pub fn read_location(input: &mut Input, place: &mut Place) -> Location {
-    let mut bytes = [0u8; LOCATION];
+pub fn read_location(input: &mut Input, place: &mut Place) -> Text {
+    let mut bytes = [0u8; TEXT];
     let len = read_bytes(input, place, &mut bytes);
-    Location { bytes, len }
+    Text { bytes, len }
 }
 
-pub fn read_file_name(input: &mut Input, place: &mut Place) -> FileName {
-    let mut bytes = [0u8; FILE_NAME];
+pub fn read_file_name(input: &mut Input, place: &mut Place) -> Text {
+    let mut bytes = [0u8; TEXT];
     let len = read_bytes(input, place, &mut bytes);
-    FileName { bytes, len }
+    Text { bytes, len }
 }

@@ -14,7 +14,7 @@ use numbers::number::put_flag;
 use numbers::number::put_u8;
 use numbers::number::put_u64;
 use numbers::output::Output;
-use records::capacities::LOCATION;
+use records::capacities::TEXT;
 use records::counters::Age;
 use records::counters::RowId;
 use records::counters::Time;
@@ -70,10 +70,10 @@ pub fn row_ids(input: &mut Input, place: &mut Place, output: &mut Output, end: &
 
 // A location above its slots is trimmed whole, and as many of its bytes are written as there are slots.
 pub fn trim(input: &mut Input, place: &mut Place, output: &mut Output, end: &mut usize) {
-    let mut slots = [0u8; LOCATION];
+    let mut slots = [0u8; TEXT];
     let len = read_untrimmed(input, place, &mut slots);
     if is_good(place) {
-        if len <= LOCATION {
+        if len <= TEXT {
             let trimmed = leaves::location::trim(&slots[..len]);
             put_bytes(output, end, trimmed, trimmed.len());
         } else {

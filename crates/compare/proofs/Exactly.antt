@@ -10,7 +10,7 @@ use lib.ListN.{take}
 use Rattle.rules.specs.Words.{eqZ}
 use Rattle.rules.proofs.Orders.{Tells, numbers-told, names-told}
 use Rattle.rules.proofs.Checks.{parts as tests, both}
-use Rattle.equality.proofs.Told.{counts-told, flags-told, locations-told, snapshots-told, refs-told, log-entries-told, file-entries-told, schemas-told, sort-orders-told, statistics-files-told}
+use Rattle.equality.proofs.Told.{counts-told, flags-told, texts-told, snapshots-told, refs-told, log-entries-told, file-entries-told, schemas-told, sort-orders-told, statistics-files-told}
 use Rattle.records.specs.declared.metadata.TableMetadata.{TableMetadata}
 use Rattle.compare.specs.declared.difference.Difference.{Difference}
 use Rattle.compare.specs.First.{Part, place, inPart, first}
@@ -80,7 +80,7 @@ unfolding parts
 parts-told a b =
     counts-told
     and names-told
-    and locations-told
+    and texts-told
     and numbers-told
     and numbers-told
     and counts-told

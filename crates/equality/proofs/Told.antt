@@ -7,7 +7,7 @@ use lib.Dec.{eqb}
 use Rattle.rules.specs.Words.{eqZ, sameBytes, sameList}
 use Rattle.rules.proofs.Orders.{Tells, numbers-told, names-told}
 use Rattle.rules.proofs.Checks.{parts, both, and-left, and-right}
-use Rattle.equality.specs.Same.{sameRefName, sameLocation, sameFileName, sameSnapshot, sameLogEntry, sameReference, sameRef, sameFileEntry, sameSchemaField, sameSchema, sameSortField, sameSortOrder, sameStatisticsFile}
+use Rattle.equality.specs.Same.{sameRefName, sameText, sameSnapshot, sameLogEntry, sameReference, sameRef, sameFileEntry, sameSchemaField, sameSchema, sameSortField, sameSortOrder, sameStatisticsFile}
 
 -- ---- numbers and flags
 
@@ -58,22 +58,9 @@ ref-names-told =
       itself = λ a. simp (counts-told .itself, names-told .itself);
     }
 
-pub locations-told : Tells sameLocation
-unfolding sameLocation
-locations-told =
-    record {
-      equal = λ a b e.
-          let k = parts (eqb (a .len) (b .len)) (sameBytes (a .bytes) (b .bytes) ∷ []) e in
-          λ i. record {
-            len = counts-told .equal (a .len) (b .len) (k .0) i;
-            bytes = names-told .equal (a .bytes) (b .bytes) (k .1 .0) i;
-          };
-      itself = λ a. simp (counts-told .itself, names-told .itself);
-    }
-
-pub file-names-told : Tells sameFileName
-unfolding sameFileName
-file-names-told =
+pub texts-told : Tells sameText
+unfolding sameText
+texts-told =
     record {
       equal = λ a b e.
           let k = parts (eqb (a .len) (b .len)) (sameBytes (a .bytes) (b .bytes) ∷ []) e in
@@ -155,12 +142,12 @@ unfolding sameFileEntry
 file-entries-told =
     record {
       equal = λ a b e.
-          let k = parts (sameFileName (a .«metadata_file») (b .«metadata_file»)) (eqZ (a .«timestamp_ms» .0) (b .«timestamp_ms» .0) ∷ []) e in
+          let k = parts (sameText (a .«metadata_file») (b .«metadata_file»)) (eqZ (a .«timestamp_ms» .0) (b .«timestamp_ms» .0) ∷ []) e in
           λ i. record {
-            «metadata_file» = file-names-told .equal (a .«metadata_file») (b .«metadata_file») (k .0) i;
+            «metadata_file» = texts-told .equal (a .«metadata_file») (b .«metadata_file») (k .0) i;
             «timestamp_ms» = record { 0 = numbers-told .equal (a .«timestamp_ms» .0) (b .«timestamp_ms» .0) (k .1 .0) i };
           };
-      itself = λ a. simp (file-names-told .itself, numbers-told .itself);
+      itself = λ a. simp (texts-told .itself, numbers-told .itself);
     }
 
 pub sort-fields-told : Tells sameSortField
@@ -213,11 +200,11 @@ unfolding sameStatisticsFile
 statistics-files-told =
     record {
       equal = λ a b e.
-          let k = parts (eqZ (a .«snapshot_id» .0) (b .«snapshot_id» .0)) (sameFileName (a .«statistics_path») (b .«statistics_path») ∷ eqZ (a .«file_size_in_bytes» .0) (b .«file_size_in_bytes» .0) ∷ []) e in
+          let k = parts (eqZ (a .«snapshot_id» .0) (b .«snapshot_id» .0)) (sameText (a .«statistics_path») (b .«statistics_path») ∷ eqZ (a .«file_size_in_bytes» .0) (b .«file_size_in_bytes» .0) ∷ []) e in
           λ i. record {
             «snapshot_id» = record { 0 = numbers-told .equal (a .«snapshot_id» .0) (b .«snapshot_id» .0) (k .0) i };
-            «statistics_path» = file-names-told .equal (a .«statistics_path») (b .«statistics_path») (k .1 .0) i;
+            «statistics_path» = texts-told .equal (a .«statistics_path») (b .«statistics_path») (k .1 .0) i;
             «file_size_in_bytes» = record { 0 = numbers-told .equal (a .«file_size_in_bytes» .0) (b .«file_size_in_bytes» .0) (k .1 .1 .0) i };
           };
-      itself = λ a. simp (numbers-told .itself, file-names-told .itself);
+      itself = λ a. simp (numbers-told .itself, texts-told .itself);
     }

@@ -3,8 +3,7 @@ use mathlib.Core.Bool.{Bool, Bool·beq, _&&_}
 use lib.Dec.{eqb}
 use Rattle.rules.specs.Words.{eqZ, sameList, sameBytes}
 use Rattle.records.specs.declared.text.RefName.{RefName}
-use Rattle.records.specs.declared.text.Location.{Location}
-use Rattle.records.specs.declared.text.FileName.{FileName}
+use Rattle.records.specs.declared.text.Text.{Text}
 use Rattle.records.specs.declared.snapshot.Snapshot.{Snapshot}
 use Rattle.records.specs.declared.snapshot.SnapshotLogEntry.{SnapshotLogEntry}
 use Rattle.records.specs.declared.reference.SnapshotReference.{SnapshotReference}
@@ -21,11 +20,8 @@ use Rattle.records.specs.declared.metadata.MetadataLogEntry.{MetadataLogEntry}
 unfoldable pub sameRefName : RefName → RefName → Bool
 sameRefName a b = eqb (a .len) (b .len) && sameBytes (a .bytes) (b .bytes)
 
-unfoldable pub sameLocation : Location → Location → Bool
-sameLocation a b = eqb (a .len) (b .len) && sameBytes (a .bytes) (b .bytes)
-
-unfoldable pub sameFileName : FileName → FileName → Bool
-sameFileName a b = eqb (a .len) (b .len) && sameBytes (a .bytes) (b .bytes)
+unfoldable pub sameText : Text → Text → Bool
+sameText a b = eqb (a .len) (b .len) && sameBytes (a .bytes) (b .bytes)
 
 -- ---- snapshots
 
@@ -62,7 +58,7 @@ sameRef a b = sameRefName (a .name) (b .name) && sameReference (a .reference) (b
 -- ---- the metadata log
 
 unfoldable pub sameFileEntry : MetadataLogEntry → MetadataLogEntry → Bool
-sameFileEntry a b = sameFileName (a .«metadata_file») (b .«metadata_file») && eqZ (a .«timestamp_ms» .0) (b .«timestamp_ms» .0)
+sameFileEntry a b = sameText (a .«metadata_file») (b .«metadata_file») && eqZ (a .«timestamp_ms» .0) (b .«timestamp_ms» .0)
 
 -- ---- schemas and sort orders
 
@@ -86,5 +82,5 @@ sameSortOrder a b = eqZ (a .«order_id» .0) (b .«order_id» .0) && eqb (a .cou
 unfoldable pub sameStatisticsFile : StatisticsFile → StatisticsFile → Bool
 sameStatisticsFile a b =
     eqZ (a .«snapshot_id» .0) (b .«snapshot_id» .0)
-    && sameFileName (a .«statistics_path») (b .«statistics_path»)
+    && sameText (a .«statistics_path») (b .«statistics_path»)
     && eqZ (a .«file_size_in_bytes» .0) (b .«file_size_in_bytes» .0)

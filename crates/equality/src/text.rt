@@ -1,11 +1,10 @@
 // Texts compared: all their bytes, and how many of them count.
 ghost use mathlib.Core.Path.{_≡_};
 ghost use Rattle.rules.specs.Words.{sameBytes};
-ghost use Rattle.equality.specs.Same.{sameRefName, sameLocation, sameFileName};
+ghost use Rattle.equality.specs.Same.{sameRefName, sameText};
 use leaves::names::same_bytes;
-use records::text::FileName;
-use records::text::Location;
 use records::text::RefName;
+use records::text::Text;
 
 pub fn same_uuid(a: [u8; 16], b: [u8; 16]) -> bool
     ensures { λ r. ⌜ r ≡ sameBytes a b ⌝ }
@@ -23,18 +22,8 @@ pub fn same_ref_name(a: RefName, b: RefName) -> bool
     (m == n) & same_bytes(&x, &y)
 }
 
-pub fn same_location(a: Location, b: Location) -> bool
-    ensures { λ r. ⌜ r ≡ sameLocation a b ⌝ }
-{
-    let m = a.len;
-    let n = b.len;
-    let x = a.bytes;
-    let y = b.bytes;
-    (m == n) & same_bytes(&x, &y)
-}
-
-pub fn same_file_name(a: FileName, b: FileName) -> bool
-    ensures { λ r. ⌜ r ≡ sameFileName a b ⌝ }
+pub fn same_text(a: Text, b: Text) -> bool
+    ensures { λ r. ⌜ r ≡ sameText a b ⌝ }
 {
     let m = a.len;
     let n = b.len;

@@ -9,8 +9,8 @@ use crate::number::same_sequence;
 use crate::number::same_time;
 use crate::slots::same_fields;
 use crate::slots::same_sort_fields;
-use crate::text::same_file_name;
 use crate::text::same_ref_name;
+use crate::text::same_text;
 use records::capacities::SCHEMA_FIELDS;
 use records::capacities::SORT_FIELDS;
 use records::metadata::MetadataLogEntry;
@@ -65,7 +65,7 @@ pub fn same_ref(a: NamedRef, b: NamedRef) -> bool
 pub fn same_file_entry(a: MetadataLogEntry, b: MetadataLogEntry) -> bool
     ensures { λ r. ⌜ r ≡ sameFileEntry a b ⌝ }
 {
-    same_file_name(a.metadata_file, b.metadata_file) & same_time(a.timestamp_ms, b.timestamp_ms)
+    same_text(a.metadata_file, b.metadata_file) & same_time(a.timestamp_ms, b.timestamp_ms)
 }
 
 pub fn same_schema(a: Schema, b: Schema) -> bool
@@ -88,6 +88,6 @@ pub fn same_statistics_file(a: StatisticsFile, b: StatisticsFile) -> bool
     ensures { λ r. ⌜ r ≡ sameStatisticsFile a b ⌝ }
 {
     ids::same_snapshot(a.snapshot_id, b.snapshot_id)
-        & same_file_name(a.statistics_path, b.statistics_path)
+        & same_text(a.statistics_path, b.statistics_path)
         & same_file_size(a.file_size_in_bytes, b.file_size_in_bytes)
 }

@@ -24,7 +24,7 @@ use records::snapshot::SnapshotLog;
 use records::snapshot::SnapshotLogEntry;
 use records::snapshot::Snapshots;
 use records::sort_order::SortOrders;
-use records::text::FileName;
+use records::text::Text;
 
 fn fields(version: u8, next: u64, updated: i64) -> SingleFields {
     let mut fields = SingleFields::blank();
@@ -134,8 +134,8 @@ pub fn three() -> TableMetadata {
 }
 
 // A name of one byte.
-pub fn file_name(byte: u8) -> FileName {
-    let mut name = FileName::blank();
+pub fn file_name(byte: u8) -> Text {
+    let mut name = Text::blank();
     name.bytes[0] = byte;
     name.len = 1;
     name

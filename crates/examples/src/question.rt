@@ -8,14 +8,14 @@ use records::metadata::TableMetadata;
 use records::run::Answer;
 use records::run::DEFAULT_TOLERANCE_MS;
 use records::run::RunTerms;
-use records::text::FileName;
+use records::text::Text;
 use records::update::UpdateList;
 
 const CLOCK: i64 = 500000;
 
 // No current file, and no limit.
 pub fn ask(m: TableMetadata, us: UpdateList) -> Answer {
-    let file = FileName::blank();
+    let file = Text::blank();
     let terms = RunTerms {
         clock_ms: Time(CLOCK),
         tolerance_ms: Age(DEFAULT_TOLERANCE_MS),
@@ -26,7 +26,7 @@ pub fn ask(m: TableMetadata, us: UpdateList) -> Answer {
 }
 
 // A current file that joins the metadata log, and the text of its limit.
-pub fn ask_with_file(m: TableMetadata, us: UpdateList, file: FileName, limit: &[u8]) -> Answer {
+pub fn ask_with_file(m: TableMetadata, us: UpdateList, file: Text, limit: &[u8]) -> Answer {
     let terms = RunTerms {
         clock_ms: Time(CLOCK),
         tolerance_ms: Age(DEFAULT_TOLERANCE_MS),

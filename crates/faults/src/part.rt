@@ -7,7 +7,7 @@ ghost use Rattle.rules.specs.Words.{firstOf};
 ghost use Rattle.faults.specs.Faults.{fieldFaults, snapshotFaults, refFaults, snapshotLogFaults, metadataLogFaults, schemaFaults, orderFaults, statisticsFaults};
 use crate::fault;
 use crate::pick::unless;
-use formed::blanks::location_tidy;
+use formed::blanks::text_tidy;
 use formed::bounds::sequence_formed;
 use formed::bounds::snapshot_id_zero;
 use formed::metadata::orders_formed;
@@ -52,7 +52,7 @@ pub fn fields_fault(f: SingleFields) -> u8
         from_current,
     );
     let from_location = unless(
-        location_tidy(l) & (n <= capacities::LOCATION),
+        text_tidy(l) & (n <= capacities::TEXT),
         fault::LOCATION,
         from_sequence,
     );

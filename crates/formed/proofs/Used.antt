@@ -20,7 +20,7 @@ use Rattle.rules.specs.Register.{Update}
 use Rattle.rules.specs.Register.Update.{NotFormed}
 use Rattle.rules.specs.WellFormed.{statisticsFileFormed, updateFormed}
 use Rattle.rules.specs.Kinds.{assignUuidKind, upgradeFormatVersionKind, setLocationKind, addSnapshotKind, setBranchSnapshotKind, removeSnapshotsKind, setRefKind, removeRefKind, addSchemaKind, setCurrentSchemaKind, removeSchemasKind, addSortOrderKind, setDefaultSortOrderKind, setStatisticsKind, removeStatisticsKind, setPartitionStatisticsKind, removePartitionStatisticsKind, usedBy, isUnusedBlank, isUsedTidy, isTidyUpdate, readKind}
-use Rattle.rules.specs.Blanks.{isZero, isZeroZ, restBlank, noneUsed, isTidyLocation, isBlankLocation, isTidyRefName, isBlankRefName, isBlankSnapshotId, isBlankSchemaField, isBlankSchemaId, isBlankSortField, isTidySnapshot, isBlankSnapshot, isTidySnapshotIds, isBlankSnapshotIds, isTidyReference, isBlankReference, isTidySchema, isBlankSchema, isTidySchemaIds, isBlankSchemaIds, isTidySortOrder, isBlankSortOrder, isTidyStatisticsFile, isBlankStatisticsFile}
+use Rattle.rules.specs.Blanks.{isZero, isZeroZ, restBlank, noneUsed, isTidyText, isBlankText, isTidyRefName, isBlankRefName, isBlankSnapshotId, isBlankSchemaField, isBlankSchemaId, isBlankSortField, isTidySnapshot, isBlankSnapshot, isTidySnapshotIds, isBlankSnapshotIds, isTidyReference, isBlankReference, isTidySchema, isBlankSchema, isTidySchemaIds, isBlankSchemaIds, isTidySortOrder, isBlankSortOrder, isTidyStatisticsFile, isBlankStatisticsFile}
 use Rattle.rules.specs.Layout.{readStatisticsFile}
 use Rattle.rules.specs.Capacities.{removalRoom, schemaFieldRoom, sortFieldRoom}
 use Rattle.rules.proofs.Checks.{and-left, and-right}
@@ -100,7 +100,7 @@ records-apart a b c d e f g h i j k l m n c′ d′ e′ f′ g′ h′ j′ k�
 -- what is found of each record
 pub update-tidy : (u : TableUpdate) {a c d e f g h i j k l m n : Bool}
     → a ≡ all isZero (u .uuid)
-    → c ≡ (usedBy (setLocationKind ∷ []) (u .kind) (isBlankLocation (u .location)) && isTidyLocation (u .location))
+    → c ≡ (usedBy (setLocationKind ∷ []) (u .kind) (isBlankText (u .location)) && isTidyText (u .location))
     → d ≡ (usedBy (addSnapshotKind ∷ setBranchSnapshotKind ∷ []) (u .kind) (isBlankSnapshot (u .snapshot)) && isTidySnapshot (u .snapshot))
     → e ≡ (usedBy (removeSnapshotsKind ∷ []) (u .kind) (isBlankSnapshotIds (u .«snapshot_ids»)) && isTidySnapshotIds (u .«snapshot_ids»))
     → f ≡ (usedBy (setBranchSnapshotKind ∷ setRefKind ∷ removeRefKind ∷ []) (u .kind) (isBlankRefName (u .«ref_name»)) && isTidyRefName (u .«ref_name»))
@@ -119,7 +119,7 @@ update-tidy u pa pc pd pe pf pg ph pi pj pk pl pm pn =
     ∙ records-apart
     (usedBy (assignUuidKind ∷ []) (u .kind) (all isZero (u .uuid)))
     (usedBy (upgradeFormatVersionKind ∷ []) (u .kind) (isZero (u .«format_version»)))
-    (usedBy (setLocationKind ∷ []) (u .kind) (isBlankLocation (u .location)))
+    (usedBy (setLocationKind ∷ []) (u .kind) (isBlankText (u .location)))
     (usedBy (addSnapshotKind ∷ setBranchSnapshotKind ∷ []) (u .kind) (isBlankSnapshot (u .snapshot)))
     (usedBy (removeSnapshotsKind ∷ []) (u .kind) (isBlankSnapshotIds (u .«snapshot_ids»)))
     (usedBy (setBranchSnapshotKind ∷ setRefKind ∷ removeRefKind ∷ []) (u .kind) (isBlankRefName (u .«ref_name»)))
@@ -131,7 +131,7 @@ update-tidy u pa pc pd pe pf pg ph pi pj pk pl pm pn =
     (usedBy (setDefaultSortOrderKind ∷ []) (u .kind) (isZeroZ (u .«sort_order_id» .0)))
     (usedBy (setStatisticsKind ∷ setPartitionStatisticsKind ∷ []) (u .kind) (isBlankStatisticsFile (u .statistics)))
     (usedBy (removeStatisticsKind ∷ removePartitionStatisticsKind ∷ []) (u .kind) (isZeroZ (u .«statistics_id» .0)))
-    (isTidyLocation (u .location))
+    (isTidyText (u .location))
     (isTidySnapshot (u .snapshot))
     (isTidySnapshotIds (u .«snapshot_ids»))
     (isTidyRefName (u .«ref_name»))

@@ -3,7 +3,7 @@ ghost use mathlib.Core.Path.{_≡_};
 ghost use lib.ListN.{drop};
 ghost use Rattle.rules.specs.Words.{all};
 ghost use Rattle.rules.specs.Capacities.{schemaFieldRoom, sortFieldRoom, removalRoom};
-ghost use Rattle.rules.specs.Blanks.{isZero, restBlank, isTidyRefName, isBlankRefName, isTidyLocation, isBlankLocation, isTidyFileName, isBlankFileName, isTidySnapshot, isBlankSnapshot, isBlankSnapshotId, isTidySnapshotIds, isBlankSnapshotIds, isBlankLogEntry, isTidyReference, isBlankReference, isTidyRef, isBlankRef, isBlankSchemaField, isTidySchema, isBlankSchema, isBlankSchemaId, isTidySchemaIds, isBlankSchemaIds, isBlankSortField, isTidySortOrder, isBlankSortOrder, isTidyStatisticsFile, isBlankStatisticsFile, isTidyMetadataLogEntry, isBlankMetadataLogEntry};
+ghost use Rattle.rules.specs.Blanks.{isZero, restBlank, isTidyRefName, isBlankRefName, isTidyText, isBlankText, isTidySnapshot, isBlankSnapshot, isBlankSnapshotId, isTidySnapshotIds, isBlankSnapshotIds, isBlankLogEntry, isTidyReference, isBlankReference, isTidyRef, isBlankRef, isBlankSchemaField, isTidySchema, isBlankSchema, isBlankSchemaId, isTidySchemaIds, isBlankSchemaIds, isBlankSortField, isTidySortOrder, isBlankSortOrder, isTidyStatisticsFile, isBlankStatisticsFile, isTidyMetadataLogEntry, isBlankMetadataLogEntry};
 use crate::bounds::age_zero;
 use crate::bounds::field_id_zero;
 use crate::bounds::file_size_zero;
@@ -27,9 +27,8 @@ use records::snapshot::SnapshotLogEntry;
 use records::sort_order::SortField;
 use records::sort_order::SortOrder;
 use records::statistics::StatisticsFile;
-use records::text::FileName;
-use records::text::Location;
 use records::text::RefName;
+use records::text::Text;
 
 // Every byte from a place on is 0.
 pub fn zeros_from(bytes: &[u8], from: usize) -> bool
@@ -60,32 +59,16 @@ pub fn ref_name_blank(t: RefName) -> bool
     (n == 0) & zeros_from(&b, 0)
 }
 
-pub fn location_tidy(t: Location) -> bool
-    ensures { λ r. ⌜ r ≡ isTidyLocation t ⌝ }
+pub fn text_tidy(t: Text) -> bool
+    ensures { λ r. ⌜ r ≡ isTidyText t ⌝ }
 {
     let n = t.len;
     let b = t.bytes;
     zeros_from(&b, n)
 }
 
-pub fn location_blank(t: Location) -> bool
-    ensures { λ r. ⌜ r ≡ isBlankLocation t ⌝ }
-{
-    let n = t.len;
-    let b = t.bytes;
-    (n == 0) & zeros_from(&b, 0)
-}
-
-pub fn file_name_tidy(t: FileName) -> bool
-    ensures { λ r. ⌜ r ≡ isTidyFileName t ⌝ }
-{
-    let n = t.len;
-    let b = t.bytes;
-    zeros_from(&b, n)
-}
-
-pub fn file_name_blank(t: FileName) -> bool
-    ensures { λ r. ⌜ r ≡ isBlankFileName t ⌝ }
+pub fn text_blank(t: Text) -> bool
+    ensures { λ r. ⌜ r ≡ isBlankText t ⌝ }
 {
     let n = t.len;
     let b = t.bytes;
@@ -300,7 +283,7 @@ pub fn statistics_file_tidy(f: StatisticsFile) -> bool
     ensures { λ r. ⌜ r ≡ isTidyStatisticsFile f ⌝ }
 {
     let p = f.statistics_path;
-    file_name_tidy(p)
+    text_tidy(p)
 }
 
 pub fn statistics_file_blank(f: StatisticsFile) -> bool
@@ -309,14 +292,14 @@ pub fn statistics_file_blank(f: StatisticsFile) -> bool
     let id = f.snapshot_id;
     let p = f.statistics_path;
     let s = f.file_size_in_bytes;
-    snapshot_id_zero(id) & file_name_blank(p) & file_size_zero(s)
+    snapshot_id_zero(id) & text_blank(p) & file_size_zero(s)
 }
 
 pub fn file_entry_tidy(e: MetadataLogEntry) -> bool
     ensures { λ r. ⌜ r ≡ isTidyMetadataLogEntry e ⌝ }
 {
     let f = e.metadata_file;
-    file_name_tidy(f)
+    text_tidy(f)
 }
 
 pub fn file_entry_blank(e: MetadataLogEntry) -> bool
@@ -324,5 +307,5 @@ pub fn file_entry_blank(e: MetadataLogEntry) -> bool
 {
     let f = e.metadata_file;
     let t = e.timestamp_ms;
-    file_name_blank(f) & time_zero(t)
+    text_blank(f) & time_zero(t)
 }

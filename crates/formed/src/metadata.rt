@@ -6,7 +6,7 @@ ghost use Rattle.rules.specs.WellFormed.{snapshotsFormed, refsFormed, schemasFo
 ghost use Rattle.rules.specs.Blanks.{isTidySnapshots, isTidyRefs, isTidySchemas, isTidySortOrders, isTidyStatistics, isTidyFields, isTidyMetadata};
 ghost use Rattle.rules.specs.Layout.{readSnapshots, readRefs, readSchemas, readSortOrders, readStatistics, readFields, readMetadata};
 ghost use Rattle.tables.specs.Laid.{LaidSnapshots, LaidRefs};
-use crate::blanks::location_tidy;
+use crate::blanks::text_tidy;
 use crate::bounds::sequence_formed;
 use crate::bounds::snapshot_id_zero;
 use crate::order::orders_ascend;
@@ -22,7 +22,7 @@ use crate::slots::snapshot_log_formed;
 use crate::slots::snapshots_filled;
 use crate::slots::statistics_filled;
 use equality::ids::same_snapshot;
-use records::capacities::LOCATION;
+use records::capacities::TEXT;
 use records::metadata::SingleFields;
 use records::metadata::TableMetadata;
 use records::reference::Refs;
@@ -87,8 +87,8 @@ fn fields_formed(f: SingleFields) -> bool
     let s = f.last_sequence_number;
     let h = f.has_current;
     let c = f.current_snapshot_id;
-    (location_tidy(l) & (h | snapshot_id_zero(c)))
-        & ((1 <= v) & (v <= 3) & (n <= LOCATION) & sequence_formed(s))
+    (text_tidy(l) & (h | snapshot_id_zero(c)))
+        & ((1 <= v) & (v <= 3) & (n <= TEXT) & sequence_formed(s))
 }
 
 pub fn refs_held(r: Refs, t: Snapshots) -> bool

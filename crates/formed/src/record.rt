@@ -17,11 +17,11 @@ use crate::bounds::schema_id_formed;
 use crate::bounds::sequence_formed;
 use crate::bounds::snapshot_id_formed;
 use equality::ids::same_field;
-use records::capacities::FILE_NAME;
 use records::capacities::REF_NAME;
 use records::capacities::REMOVALS;
 use records::capacities::SCHEMA_FIELDS;
 use records::capacities::SORT_FIELDS;
+use records::capacities::TEXT;
 use records::counters::FieldId;
 use records::reference::NamedRef;
 use records::reference::SnapshotReference;
@@ -192,5 +192,5 @@ pub fn statistics_file_formed(f: StatisticsFile) -> bool
     let p = f.statistics_path;
     let n = p.len;
     let s = f.file_size_in_bytes;
-    snapshot_id_formed(id) & (n <= FILE_NAME) & file_size_formed(s)
+    snapshot_id_formed(id) & (n <= TEXT) & file_size_formed(s)
 }

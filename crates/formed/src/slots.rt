@@ -8,7 +8,7 @@ ghost use Rattle.rules.specs.Words.{all};
 ghost use Rattle.rules.specs.Capacities.{snapshotRoom, refRoom, schemaRoom, sortOrderRoom, statisticsRoom};
 ghost use Rattle.rules.specs.WellFormed.{fileNameFormed, snapshotFormed, refFormed, schemaFormed, orderFormed, statisticsFileFormed, snapshotLogFormed, metadataLogFormed};
 ghost use Rattle.rules.specs.Blanks.{isTidySnapshot, isBlankSnapshot, isTidySnapshots, isBlankLogEntry, isTidySnapshotLog, isTidyRef, isBlankRef, isTidyRefs, isTidySchema, isBlankSchema, isTidySchemas, isTidySortOrder, isBlankSortOrder, isTidySortOrders, isTidyStatisticsFile, isBlankStatisticsFile, isTidyStatistics, isTidyMetadataLogEntry, isBlankMetadataLogEntry, isTidyMetadataLog};
-ghost use Rattle.rules.specs.Layout.{readFileName, readSnapshot, readSnapshots, readSnapshotLog, readRef, readRefs, readSchema, readSchemas, readSortOrder, readSortOrders, readStatisticsFile, readStatistics, readMetadataLog};
+ghost use Rattle.rules.specs.Layout.{readText, readSnapshot, readSnapshots, readSnapshotLog, readRef, readRefs, readSchema, readSchemas, readSortOrder, readSortOrders, readStatisticsFile, readStatistics, readMetadataLog};
 use crate::blanks::file_entry_blank;
 use crate::blanks::file_entry_tidy;
 use crate::blanks::log_entry_blank;
@@ -28,7 +28,6 @@ use crate::record::ref_formed;
 use crate::record::schema_formed;
 use crate::record::snapshot_formed;
 use crate::record::statistics_file_formed;
-use records::capacities::FILE_NAME;
 use records::capacities::METADATA_LOG;
 use records::capacities::REFS;
 use records::capacities::SCHEMAS;
@@ -36,6 +35,7 @@ use records::capacities::SNAPSHOT_LOG;
 use records::capacities::SNAPSHOTS;
 use records::capacities::SORT_ORDERS;
 use records::capacities::STATISTICS;
+use records::capacities::TEXT;
 use records::metadata::MetadataLog;
 use records::metadata::MetadataLogEntry;
 use records::reference::NamedRef;
@@ -122,12 +122,12 @@ pub fn snapshot_log_formed(t: SnapshotLog) -> bool
 }
 
 fn file_slot(used: bool, e: MetadataLogEntry) -> bool
-    ensures { λ r. ⌜ r ≡ cond used (isTidyMetadataLogEntry e && fileNameFormed (readFileName (e .«metadata_file»))) (isBlankMetadataLogEntry e) ⌝ }
+    ensures { λ r. ⌜ r ≡ cond used (isTidyMetadataLogEntry e && fileNameFormed (readText (e .«metadata_file»))) (isBlankMetadataLogEntry e) ⌝ }
 {
     let f = e.metadata_file;
     let n = f.len;
     if used {
-        return file_entry_tidy(e) & (n <= FILE_NAME);
+        return file_entry_tidy(e) & (n <= TEXT);
     }
     file_entry_blank(e)
 }

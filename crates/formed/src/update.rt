@@ -3,10 +3,8 @@ ghost use mathlib.Core.Path.{_≡_};
 ghost use mathlib.Core.Bool.{_&&_};
 ghost use mathlib.Core.List.{[], _∷_};
 ghost use Rattle.rules.specs.WellFormed.{updateFormed};
-ghost use Rattle.rules.specs.Blanks.{isTidyLocation, isBlankLocation, isTidySnapshot, isBlankSnapshot, isTidySnapshotIds, isBlankSnapshotIds, isTidyRefName, isBlankRefName, isTidyReference, isBlankReference, isTidySchema, isBlankSchema, isTidySchemaIds, isBlankSchemaIds, isTidySortOrder, isBlankSortOrder, isTidyStatisticsFile, isBlankStatisticsFile};
+ghost use Rattle.rules.specs.Blanks.{isTidyText, isBlankText, isTidySnapshot, isBlankSnapshot, isTidySnapshotIds, isBlankSnapshotIds, isTidyRefName, isBlankRefName, isTidyReference, isBlankReference, isTidySchema, isBlankSchema, isTidySchemaIds, isBlankSchemaIds, isTidySortOrder, isBlankSortOrder, isTidyStatisticsFile, isBlankStatisticsFile};
 ghost use Rattle.rules.specs.Kinds.{setLocationKind, addSnapshotKind, setBranchSnapshotKind, removeSnapshotsKind, setRefKind, removeRefKind, addSchemaKind, removeSchemasKind, addSortOrderKind, setStatisticsKind, setPartitionStatisticsKind, usedBy, isTidyUpdate, readKind, readUpdate};
-use crate::blanks::location_blank;
-use crate::blanks::location_tidy;
 use crate::blanks::order_blank;
 use crate::blanks::order_tidy;
 use crate::blanks::ref_name_blank;
@@ -23,6 +21,8 @@ use crate::blanks::snapshot_ids_tidy;
 use crate::blanks::snapshot_tidy;
 use crate::blanks::statistics_file_blank;
 use crate::blanks::statistics_file_tidy;
+use crate::blanks::text_blank;
+use crate::blanks::text_tidy;
 use crate::blanks::zeros_from;
 use crate::bounds::order_choice_formed;
 use crate::bounds::order_id_zero;
@@ -37,8 +37,8 @@ use crate::record::schema_ids_formed;
 use crate::record::snapshot_formed;
 use crate::record::snapshot_ids_formed;
 use crate::record::statistics_file_formed;
-use records::capacities::LOCATION;
 use records::capacities::REF_NAME;
+use records::capacities::TEXT;
 use records::reference::SnapshotReference;
 use records::schema::Schema;
 use records::schema::SchemaIds;
@@ -46,8 +46,8 @@ use records::snapshot::Snapshot;
 use records::snapshot::SnapshotIds;
 use records::sort_order::SortOrder;
 use records::statistics::StatisticsFile;
-use records::text::Location;
 use records::text::RefName;
+use records::text::Text;
 use records::update::ADD_SCHEMA;
 use records::update::ADD_SNAPSHOT;
 use records::update::ADD_SORT_ORDER;
@@ -67,13 +67,13 @@ use records::update::SET_STATISTICS;
 use records::update::TableUpdate;
 use records::update::UPGRADE_FORMAT_VERSION;
 
-fn location_fits(k: u8, x: Location) -> bool
-    ensures { λ r. ⌜ r ≡ (usedBy (setLocationKind ∷ []) k (isBlankLocation x) && isTidyLocation x) ⌝ }
+fn location_fits(k: u8, x: Text) -> bool
+    ensures { λ r. ⌜ r ≡ (usedBy (setLocationKind ∷ []) k (isBlankText x) && isTidyText x) ⌝ }
 {
     if k == SET_LOCATION {
-        return location_tidy(x);
+        return text_tidy(x);
     }
-    location_blank(x)
+    text_blank(x)
 }
 
 fn snapshot_fits(k: u8, x: Snapshot) -> bool
@@ -207,7 +207,7 @@ fn used_formed(u: TableUpdate) -> bool
     match k {
         ASSIGN_UUID => true,
         UPGRADE_FORMAT_VERSION => (1 <= version) & (version <= 3),
-        SET_LOCATION => a <= LOCATION,
+        SET_LOCATION => a <= TEXT,
         ADD_SNAPSHOT => snapshot_formed(snapshot),
         SET_BRANCH_SNAPSHOT => (b <= REF_NAME) & snapshot_formed(snapshot),
         REMOVE_SNAPSHOTS => snapshot_ids_formed(snapshot_ids),

@@ -21,7 +21,7 @@ use Rattle.rules.specs.WellFormed.{snapshotFormed, refFormed, schemaFormed, ord
 use lib.Signed.{nonNeg}
 use Rattle.rules.specs.ChangeLog.{logsMain, logsRemoval}
 use Rattle.rules.specs.Run.{started, listSum}
-use Rattle.rules.specs.Layout.{given, pad, readMetadata, readSnapshots, readRefs, readSnapshotLog, readSchemas, readSortOrders, readStatistics, laidStatistics, laidFields, readFields, laidLocation, laidMetadata}
+use Rattle.rules.specs.Layout.{given, pad, readMetadata, readSnapshots, readRefs, readSnapshotLog, readSchemas, readSortOrders, readStatistics, laidStatistics, laidFields, readFields, laidText, laidMetadata}
 use Rattle.rules.proofs.Sound.{formed-sound, statistics-formed}
 use Rattle.rules.proofs.Relaid.{relaid}
 use Rattle.rules.proofs.Reread.{reread-snapshots, reread-refs, reread-snapshot-log, reread-schemas, reread-sort-orders, reread-statistics, reread-fields}
@@ -175,7 +175,7 @@ module _ {g : Given} {st : State} {p : Pieces} (E : Represents g st p) where
 
   -- the location of the builder
   pub location-fits : p .held .builder .fields .location .len ≤ locationRoom
-  unfolding laidBuilder laidFields laidLocation fieldsFormed
+  unfolding laidBuilder laidFields laidText fieldsFormed
   location-fits =
       let k = parts (versionFormed (st .metadata .fields .version)) (locationFormed (st .metadata .fields .location) ∷ nonNeg (st .metadata .fields .lastSequence .0) ∷ []) (E .sound .fields) in
       rw (E .tables .builder) (leb-true (length (st .metadata .fields .location)) locationRoom (k .1 .0))

@@ -4,6 +4,7 @@ use native.Mathlib.Omega.{arith}
 use mathlib.Core.Path.{_≡_, refl, sym, ap, _∙_}
 use mathlib.Core.Bool.{Bool, true, cond}
 use mathlib.Core.List.{List, _++_}
+use mathlib.Core.Option.{Option}
 use lib.Dec.{ltb}
 use lib.IntN.{ℤ, pos}
 use lib.Signed.{ltZ}
@@ -24,7 +25,7 @@ use Rattle.rules.specs.Limit.{limitOf, isNumber, afterPlus}
 use Rattle.rules.proofs.Checks.{by-test, passed}
 use Rattle.rules.specs.Close.{staying, expired, closeChecks, closed}
 use Rattle.rules.specs.Run.{close}
-use Rattle.rules.specs.Layout.{pad, laidSnapshots, laidFields, laidMetadata, readMetadataLog, laidMetadataLog}
+use Rattle.rules.specs.Layout.{given, pad, laidSnapshots, laidFields, laidMetadata, readMetadataLog, laidMetadataLog}
 use Rattle.rules.specs.Kinds.{laidUpdates}
 use Rattle.rules.specs.Answer.{laidOutcome}
 use Rattle.rules.proofs.Reread.{reread-fields}
@@ -33,6 +34,7 @@ use Rattle.rules.specs.Register as plain
 use Rattle.builder.specs.declared.builder.TableMetadataBuilder.{TableMetadataBuilder}
 use Rattle.builder.specs.Pieces.{laidBuilder, idsOf}
 use Rattle.builder.proofs.Positions.{ids-ascend}
+use Rattle.builder.proofs.State.{its-own}
 use Rattle.tables.specs.Laid.{LaidMetadataLog}
 use Rattle.tables.proofs.Table.{within}
 use Rattle.tables.proofs.Each.{tidy-metadata-log}
@@ -169,13 +171,14 @@ module _ {g : Given} {st : State} {p : Pieces} (E : Represents g st p) where
 
   pub close-accepted : (place : ℕ) → firstOf checks ≡ 0 → {y : History} → HistoryOf (st .log) (st .metadata) y
       → {stay gone : MetadataLog} → stay ≡ laidMetadataLog (staying (termsOf g) (st .metadata)) → gone ≡ laidMetadataLog (expired (termsOf g) (st .metadata))
-      → {x : Time} → x .0 ≡ orElse (st .own) (g .terms .«clock_ms» .0)
+      → {x : Time} → x .0 ≡ orElse (given (p .held .builder .«has_own») (p .held .builder .own .0)) (g .terms .«clock_ms» .0)
       → _≡_ {A = Answer} (record { number = 0; place = 0; metadata = record { fields = updated x (p .held .builder .fields); snapshots = p .held .snapshots; refs = p .held .refs; «snapshot_log» = y .log; «metadata_log» = stay; schemas = p .held .shelf .schemas; «sort_orders» = p .held .shelf .orders; statistics = p .held .shelf .statistics; «partition_statistics» = p .held .shelf .partitionStatistics }; changes = record { items = p .changes .entries; count = p .changes .count }; expired = gone })
       (laidOutcome (g .metadata) (close (termsOf g) place (st .log) st))
   unfolding laidOutcome closed laidMetadata laidFields laidUpdates
   close-accepted place e {y} Y S G {x} u =
       let T = E .tables in
-      let F : updated x (p .held .builder .fields) ≡ updated (record { 0 = orElse (st .own) (g .terms .«clock_ms» .0) }) (laidFields (st .metadata .fields)) = λ i. updated (record { 0 = u i }) (fields-laid i) in
+      let own : x .0 ≡ orElse (st .own) (g .terms .«clock_ms» .0) = u ∙ ap (λ (o : Option ℤ). orElse o (g .terms .«clock_ms» .0)) (its-own st (T .builder)) in
+      let F : updated x (p .held .builder .fields) ≡ updated (record { 0 = orElse (st .own) (g .terms .«clock_ms» .0) }) (laidFields (st .metadata .fields)) = λ i. updated (record { 0 = own i }) (fields-laid i) in
       (λ i. record { number = 0; place = 0; metadata = record { fields = F i; snapshots = T .snapshots i; refs = T .refs i; «snapshot_log» = Y .log i; «metadata_log» = S i; schemas = T .shelf .schemas i; «sort_orders» = T .shelf .orders i; statistics = T .shelf .statistics i; «partition_statistics» = T .shelf .partitionStatistics i }; changes = record { items = E .logs .entries i; count = E .logs .count i }; expired = G i })
       ∙ ap (laidOutcome (g .metadata)) (sym (accepts e place))
 

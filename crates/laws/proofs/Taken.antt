@@ -14,7 +14,7 @@ use Rattle.records.specs.declared.update.TableUpdate.{TableUpdate}
 use Rattle.rules.specs.Capacities.{removalRoom, refNameRoom}
 use Rattle.rules.specs.Register as plain
 use Rattle.rules.specs.WellFormed.{updateFormed, removalFormed, refNameFormed}
-use Rattle.rules.specs.Blanks.{isTidyLocation, isTidySnapshot, isTidySnapshotIds, isBlankSnapshotId, isTidyRefName, isTidyReference, isTidySchema, isTidySchemaIds, isTidySortOrder, isTidyStatisticsFile}
+use Rattle.rules.specs.Blanks.{isTidyText, isTidySnapshot, isTidySnapshotIds, isBlankSnapshotId, isTidyRefName, isTidyReference, isTidySchema, isTidySchemaIds, isTidySortOrder, isTidyStatisticsFile}
 use Rattle.rules.specs.Layout.{readRefName, readSnapshot, laidSnapshot, readReference, laidReference, readSnapshotIds, laidSnapshotIds}
 use Rattle.rules.specs.Kinds.{readUpdate, isUnusedBlank, isUsedTidy, setBranchSnapshotKind, removeSnapshotsKind, setRefKind, removeRefKind, removeSchemasKind}
 use Rattle.rules.proofs.Checks.{Hold, parts, and-left, and-right}
@@ -40,9 +40,9 @@ module _ (u : TableUpdate) (f : updateFormed (readUpdate u) ≡ true) where
   abbrev uses : List Bool
   uses = isTidySnapshot (u .snapshot) ∷ isTidySnapshotIds (u .«snapshot_ids») ∷ isTidyRefName (u .«ref_name») ∷ isTidyReference (u .reference) ∷ isTidySchema (u .schema) ∷ isTidySchemaIds (u .«schema_ids») ∷ isTidySortOrder (u .«sort_order») ∷ isTidyStatisticsFile (u .statistics) ∷ []
 
-  used : Hold (isTidyLocation (u .location) ∷ uses)
+  used : Hold (isTidyText (u .location) ∷ uses)
   unfolding isUsedTidy
-  used = parts (isTidyLocation (u .location)) uses (and-right (isUnusedBlank u) (isUsedTidy u) (formed-tidy u f))
+  used = parts (isTidyText (u .location)) uses (and-right (isUnusedBlank u) (isUsedTidy u) (formed-tidy u f))
 
   pub snapshot-back : laidSnapshot (readSnapshot (u .snapshot)) ≡ u .snapshot
   snapshot-back = back-snapshot (u .snapshot) (used .1 .0)

@@ -12,8 +12,8 @@ use crate::snapshot::Snapshot;
 use crate::snapshot::SnapshotIds;
 use crate::sort_order::SortOrder;
 use crate::statistics::StatisticsFile;
-use crate::text::Location;
 use crate::text::RefName;
+use crate::text::Text;
 
 // The kinds, in the order of a table's life.
 pub const ASSIGN_UUID: u8 = 1;
@@ -54,7 +54,7 @@ pub struct TableUpdate {
     pub kind: u8,
     pub uuid: [u8; 16],
     pub format_version: u8,
-    pub location: Location,
+    pub location: Text,
     pub snapshot: Snapshot,
     pub snapshot_ids: SnapshotIds,
     pub ref_name: RefName,
@@ -78,7 +78,7 @@ impl TableUpdate {
     pub fn blank() -> TableUpdate
         ensures { λ r. ⌜ r ≡ noUpdate ⌝ }
     {
-        let location = Location::blank();
+        let location = Text::blank();
         let snapshot = Snapshot::blank();
         let snapshot_ids = SnapshotIds::blank();
         let ref_name = RefName::blank();

@@ -6,6 +6,7 @@ ghost use mathlib.Core.Bool.{cond};
 ghost use Prim.Native.Nat.{_+_, _<_};
 ghost use Rattle.rules.specs.Answer.{answer};
 use builder::builder::TableMetadataBuilder;
+use builder::builder::own_or;
 use builder::decision::assign_uuid;
 use builder::decision::decided;
 use builder::decision::set_location;
@@ -19,7 +20,6 @@ use close::files::part;
 use close::files::staying;
 use close::files::surplus;
 use close::history::close_log;
-use close::last_update;
 use leaves::limit::limit;
 use order_updates::add_sort_order;
 use order_updates::orders_after;
@@ -307,7 +307,7 @@ pub fn run(metadata: TableMetadata, updates: UpdateList, terms: RunTerms, text: 
     }
     let expired = part(metadata.metadata_log, 0, gone);
     let metadata_log = staying(metadata.metadata_log, gone, terms, first.last_updated_ms);
-    let updated = last_update(builder, clock);
+    let updated = own_or(builder, clock);
     let mut closed = fields;
     closed.last_updated_ms = updated;
     let snapshot_log = history.log;

@@ -7,6 +7,7 @@ ghost use Rattle.builder.specs.Pieces.{idsOf};
 ghost use Rattle.start.specs.Start.{startNumber};
 use crate::Kept;
 use builder::builder::TableMetadataBuilder;
+use builder::builder::own_or;
 use builder::facts::ids_of;
 use casefile::run::RUN;
 use casefile::run::Run;
@@ -17,7 +18,6 @@ use close::files::part;
 use close::files::staying;
 use close::files::surplus;
 use close::history::close_log;
-use close::last_update;
 use fitting::lent;
 use formed::metadata::is_formed;
 use leaves::limit::limit;
@@ -94,7 +94,7 @@ fn close_once(m: TableMetadata, ids: &[i64], none: &[i64], terms: RunTerms, text
     }
     let expired = part(m.metadata_log, 0, gone);
     let metadata_log = staying(m.metadata_log, gone, terms, first.last_updated_ms);
-    let updated = last_update(builder, terms.clock_ms);
+    let updated = own_or(builder, terms.clock_ms);
     let mut fields = first;
     fields.last_updated_ms = updated;
     let metadata = ended(m, fields, history.log, metadata_log);

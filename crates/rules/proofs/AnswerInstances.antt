@@ -4,7 +4,7 @@ use mathlib.Core.Path.{_≡_, refl}
 use mathlib.Core.Bool.{true, false}
 use mathlib.Core.List.{List, [], _∷_}
 use lib.IntN.{pos}
-use Rattle.records.specs.Blanks.{noFileName}
+use Rattle.records.specs.Blanks.{noText}
 use Rattle.records.specs.declared.metadata.TableMetadata.{TableMetadata}
 use Rattle.records.specs.declared.run.RunTerms.{RunTerms}
 use Rattle.rules.specs.Words.{all}
@@ -26,7 +26,7 @@ use Rattle.rules.proofs.AnswerReplays.{again, Replays, answer-replays}
 
 -- the terms of the examples as a record, beside which an empty limit text is lent
 abbrev pub callTerms : RunTerms
-callTerms = record { «clock_ms» = record { 0 = pos 500000 }; «tolerance_ms» = record { 0 = defaultTolerance }; «has_file» = false; file = noFileName }
+callTerms = record { «clock_ms» = record { 0 = pos 500000 }; «tolerance_ms» = record { 0 = defaultTolerance }; «has_file» = false; file = noText }
 
 pub call-terms-read : readTerms callTerms [] ≡ terms
 call-terms-read = refl

@@ -13,14 +13,14 @@ use lib.Seq.{take-at, drop-at}
 use borrow.Author.Tests.{leb-true, eq-eqb}
 use Rattle.records.specs.Blanks.{noSnapshotId, noSnapshot, noLogEntry, noRef, noSchemaField, noSchema, noSchemaId, noSortField, noSortOrder, noStatisticsFile, noMetadataLogEntry, noUpdate}
 use Rattle.rules.specs.Words.{isSome, orElse, all, unequal, ascending}
-use Rattle.rules.specs.Capacities.{snapshotRoom, refRoom, snapshotLogRoom, metadataLogRoom, schemaRoom, schemaFieldRoom, sortOrderRoom, sortFieldRoom, statisticsRoom, removalRoom, refNameRoom, locationRoom, fileNameRoom}
+use Rattle.rules.specs.Capacities.{snapshotRoom, refRoom, snapshotLogRoom, metadataLogRoom, schemaRoom, schemaFieldRoom, sortOrderRoom, sortFieldRoom, statisticsRoom, removalRoom, refNameRoom, textRoom}
 use Rattle.rules.specs.Register as plain
 use Rattle.rules.specs.Register.{Update}
 use Rattle.rules.specs.Register.Update.{AssignUuid, UpgradeFormatVersion, SetLocation, AddSnapshot, SetBranchSnapshot, RemoveSnapshots, SetRef, RemoveRef, AddSchema, SetCurrentSchema, RemoveSchemas, AddSortOrder, SetDefaultSortOrder, SetStatistics, RemoveStatistics, NotFormed}
 use Rattle.rules.specs.Register.StatisticsTable.{Statistics, PartitionStatistics}
 use Rattle.rules.specs.WellFormed.{snapshotFormed, refFormed, refNameFormed, fileNameFormed, schemaFormed, orderFormed, offeredOrderFormed, sortFieldFormed, statisticsFileFormed, removalFormed, atLeastOne, versionFormed, locationFormed, fieldIds, snapshotBelow, refBelow, schemaBelow, orderBelow, statisticsBelow, snapshotsFormed, refsFormed, snapshotLogFormed, metadataLogFormed, schemasFormed, ordersFormed, statisticsFormed, fieldsFormed, refsHeld, mainAgrees, currentSchemaHeld, defaultOrderHeld, metadataFormed, updateFormed}
-use Rattle.rules.specs.Blanks.{isZero, isZeroZ, restBlank, tidySlots, isTidyRefName, isTidyLocation, isTidyFileName, isTidySnapshot, isBlankSnapshot, isTidySnapshots, isBlankSnapshotId, isTidySnapshotIds, isBlankSnapshotIds, isBlankLogEntry, isTidySnapshotLog, isTidyReference, isBlankReference, isTidyRef, isBlankRef, isTidyRefs, isBlankSchemaField, isTidySchema, isBlankSchema, isTidySchemas, isBlankSchemaId, isTidySchemaIds, isBlankSchemaIds, isBlankSortField, isTidySortOrder, isBlankSortOrder, isTidySortOrders, isTidyStatisticsFile, isBlankStatisticsFile, isTidyStatistics, isTidyMetadataLogEntry, isBlankMetadataLogEntry, isTidyMetadataLog, isTidyFields, isTidyMetadata}
-use Rattle.rules.specs.Layout.{pad, firstRow, addedRows, laidRefName, laidLocation, laidFileName, laidSnapshot, laidSnapshots, laidSnapshotIds, laidLogEntry, laidSnapshotLog, laidReference, laidRef, laidRefs, laidSchemaField, laidSchema, laidSchemas, laidSchemaIds, laidSortField, laidSortOrder, laidSortOrders, laidStatisticsFile, laidStatistics, laidMetadataLogEntry, laidMetadataLog, laidFields, laidMetadata}
+use Rattle.rules.specs.Blanks.{isZero, isZeroZ, restBlank, tidySlots, isTidyRefName, isTidyText, isTidySnapshot, isBlankSnapshot, isTidySnapshots, isBlankSnapshotId, isTidySnapshotIds, isBlankSnapshotIds, isBlankLogEntry, isTidySnapshotLog, isTidyReference, isBlankReference, isTidyRef, isBlankRef, isTidyRefs, isBlankSchemaField, isTidySchema, isBlankSchema, isTidySchemas, isBlankSchemaId, isTidySchemaIds, isBlankSchemaIds, isBlankSortField, isTidySortOrder, isBlankSortOrder, isTidySortOrders, isTidyStatisticsFile, isBlankStatisticsFile, isTidyStatistics, isTidyMetadataLogEntry, isBlankMetadataLogEntry, isTidyMetadataLog, isTidyFields, isTidyMetadata}
+use Rattle.rules.specs.Layout.{pad, firstRow, addedRows, laidRefName, laidText, laidSnapshot, laidSnapshots, laidSnapshotIds, laidLogEntry, laidSnapshotLog, laidReference, laidRef, laidRefs, laidSchemaField, laidSchema, laidSchemas, laidSchemaIds, laidSortField, laidSortOrder, laidSortOrders, laidStatisticsFile, laidStatistics, laidMetadataLogEntry, laidMetadataLog, laidFields, laidMetadata}
 use Rattle.rules.specs.Kinds.{isUnusedBlank, isUsedTidy, isTidyUpdate, laidUpdate}
 use Rattle.rules.proofs.Checks.{both, and-left, and-right, parts, whole}
 
@@ -75,13 +75,9 @@ pub tidy-ref-name : (l : List ℕ) → refNameFormed l ≡ true → isTidyRefNam
 unfolding laidRefName
 tidy-ref-name l h = tidy-bytes refNameRoom l h
 
-pub tidy-location : (l : List ℕ) → locationFormed l ≡ true → isTidyLocation (laidLocation l) ≡ true
-unfolding laidLocation
-tidy-location l h = tidy-bytes locationRoom l h
-
-pub tidy-file-name : (l : List ℕ) → fileNameFormed l ≡ true → isTidyFileName (laidFileName l) ≡ true
-unfolding laidFileName
-tidy-file-name l h = tidy-bytes fileNameRoom l h
+pub tidy-text : (l : List ℕ) → leb (length l) textRoom ≡ true → isTidyText (laidText l) ≡ true
+unfolding laidText
+tidy-text l h = tidy-bytes textRoom l h
 
 -- ---- snapshots
 
@@ -179,7 +175,7 @@ tidy-sort-orders l f =
 
 pub tidy-statistics-file : (f : plain.StatisticsFile) → statisticsFileFormed f ≡ true → isTidyStatisticsFile (laidStatisticsFile f) ≡ true
 unfolding isTidyStatisticsFile laidStatisticsFile
-tidy-statistics-file f e = tidy-file-name (f .path) (parts (nonNeg (f .snapshot)) (fileNameFormed (f .path) ∷ nonNeg (f .size) ∷ []) e .1 .0)
+tidy-statistics-file f e = tidy-text (f .path) (parts (nonNeg (f .snapshot)) (fileNameFormed (f .path) ∷ nonNeg (f .size) ∷ []) e .1 .0)
 
 no-statistics-file : isBlankStatisticsFile noStatisticsFile ≡ true
 unfolding isBlankStatisticsFile
@@ -195,7 +191,7 @@ tidy-statistics l f =
 
 pub tidy-metadata-log-entry : (e : plain.FileEntry) → fileNameFormed (e .file) ≡ true → isTidyMetadataLogEntry (laidMetadataLogEntry e) ≡ true
 unfolding isTidyMetadataLogEntry laidMetadataLogEntry
-tidy-metadata-log-entry e f = tidy-file-name (e .file) f
+tidy-metadata-log-entry e f = tidy-text (e .file) f
 
 no-metadata-log-entry : isBlankMetadataLogEntry noMetadataLogEntry ≡ true
 unfolding isBlankMetadataLogEntry
@@ -212,7 +208,7 @@ pub tidy-fields : (f : plain.SingleFields) → fieldsFormed f ≡ true → isTid
 unfolding isTidyFields laidFields fieldsFormed
 tidy-fields f e =
     let k = parts (versionFormed (f .version)) (locationFormed (f .location) ∷ nonNeg (f .lastSequence .0) ∷ []) e in
-    both (tidy-location (f .location) (k .1 .0)) (absent-zero (f .current))
+    both (tidy-text (f .location) (k .1 .0)) (absent-zero (f .current))
 
 -- metadata that is well formed is laid out tidily
 pub tidy-metadata : (p : plain.Metadata) → metadataFormed p ≡ true → isTidyMetadata (laidMetadata p) ≡ true
@@ -277,7 +273,7 @@ used-tidy : (u : Update) → updateFormed u ≡ true → isUsedTidy (laidUpdate 
 unfolding isUsedTidy laidUpdate updateFormed noUpdate noSchema noSortOrder isTidySnapshot isTidySnapshotIds isTidyReference isTidySchema isTidySchemaIds isTidySortOrder isBlankSortField isTidyStatisticsFile
 used-tidy (AssignUuid uuid) f = refl
 used-tidy (UpgradeFormatVersion v) f = refl
-used-tidy (SetLocation location) f = rw (tidy-location location f)
+used-tidy (SetLocation location) f = rw (tidy-text location f)
 used-tidy (AddSnapshot s) f = rw (tidy-snapshot s)
 used-tidy (SetBranchSnapshot name s) f = rw (tidy-ref-name name (and-left (refNameFormed name) _ f), tidy-snapshot s)
 used-tidy (RemoveSnapshots ids) f = rw (tidy-snapshot-ids ids f)

@@ -12,11 +12,10 @@ use lib.Signed.{nonNeg}
 use lib.ListN.{length, set, take, drop, replicate, length-append, length-replicate, length-take, length-drop, length-map, take-append-drop}
 use lib.Seq.{set-at}
 use borrow.Author.Tests.{eqb-true, leb-true, not-true}
-use Rattle.records.specs.Blanks.{noRefName, noFileName, noSnapshot, noLogEntry, noReference, noRef, noSchemaField, noSchema, noSortField, noSortOrder, noStatisticsFile, noMetadataLogEntry}
+use Rattle.records.specs.Blanks.{noRefName, noText, noSnapshot, noLogEntry, noReference, noRef, noSchemaField, noSchema, noSortField, noSortOrder, noStatisticsFile, noMetadataLogEntry}
 use Rattle.records.specs.declared.counters.RowId.{RowId}
 use Rattle.records.specs.declared.text.RefName.{RefName}
-use Rattle.records.specs.declared.text.Location.{Location}
-use Rattle.records.specs.declared.text.FileName.{FileName}
+use Rattle.records.specs.declared.text.Text.{Text}
 use Rattle.records.specs.declared.snapshot.SnapshotLogEntry.{SnapshotLogEntry}
 use Rattle.records.specs.declared.snapshot.SnapshotLog.{SnapshotLog}
 use Rattle.records.specs.declared.reference.SnapshotReference.{SnapshotReference}
@@ -37,10 +36,10 @@ use Rattle.records.specs.declared.metadata.TableMetadata.{TableMetadata}
 use Rattle.records.specs.declared.snapshot.Snapshot.{Snapshot}
 use Rattle.records.specs.declared.snapshot.Snapshots.{Snapshots}
 use Rattle.rules.specs.Words.{isSome, orElse, all, unequal, ascending}
-use Rattle.rules.specs.Capacities.{snapshotRoom, refRoom, snapshotLogRoom, metadataLogRoom, schemaRoom, schemaFieldRoom, sortOrderRoom, sortFieldRoom, statisticsRoom, refNameRoom, locationRoom, fileNameRoom}
+use Rattle.rules.specs.Capacities.{snapshotRoom, refRoom, snapshotLogRoom, metadataLogRoom, schemaRoom, schemaFieldRoom, sortOrderRoom, sortFieldRoom, statisticsRoom, refNameRoom, textRoom}
 use Rattle.rules.specs.WellFormed.{snapshotFormed, refFormed, refNameFormed, fileNameFormed, schemaFormed, orderFormed, offeredOrderFormed, sortFieldFormed, statisticsFileFormed, atLeastOne, versionFormed, locationFormed, fieldIds, snapshotBelow, refBelow, schemaBelow, orderBelow, statisticsBelow, snapshotsFormed, refsFormed, snapshotLogFormed, metadataLogFormed, schemasFormed, ordersFormed, statisticsFormed, fieldsFormed, refsHeld, mainAgrees, currentSchemaHeld, defaultOrderHeld, metadataFormed}
-use Rattle.rules.specs.Blanks.{isZero, isZeroZ, restBlank, tidySlots, noneUsed, isTidyRefName, isBlankRefName, isTidyLocation, isTidyFileName, isBlankFileName, isTidySnapshot, isBlankSnapshot, isTidySnapshots, isBlankLogEntry, isTidySnapshotLog, isTidyReference, isBlankReference, isTidyRef, isBlankRef, isTidyRefs, isBlankSchemaField, isTidySchema, isBlankSchema, isTidySchemas, isBlankSortField, isTidySortOrder, isBlankSortOrder, isTidySortOrders, isTidyStatisticsFile, isBlankStatisticsFile, isTidyStatistics, isTidyMetadataLogEntry, isBlankMetadataLogEntry, isTidyMetadataLog, isTidyFields, isTidyMetadata}
-use Rattle.rules.specs.Layout.{counted, pad, given, firstRow, addedRows, readRefName, laidRefName, readLocation, laidLocation, readFileName, laidFileName, readSnapshot, laidSnapshot, readSnapshots, laidSnapshots, readLogEntry, laidLogEntry, readSnapshotLog, laidSnapshotLog, readReference, laidReference, readRef, laidRef, readRefs, laidRefs, readSchemaField, laidSchemaField, readSchema, laidSchema, readSchemas, laidSchemas, readSortField, laidSortField, readSortOrder, laidSortOrder, readSortOrders, laidSortOrders, readStatisticsFile, laidStatisticsFile, readStatistics, laidStatistics, readMetadataLogEntry, laidMetadataLogEntry, readMetadataLog, laidMetadataLog, readFields, laidFields, readMetadata, laidMetadata}
+use Rattle.rules.specs.Blanks.{isZero, isZeroZ, restBlank, tidySlots, noneUsed, isTidyRefName, isBlankRefName, isTidyText, isBlankText, isTidySnapshot, isBlankSnapshot, isTidySnapshots, isBlankLogEntry, isTidySnapshotLog, isTidyReference, isBlankReference, isTidyRef, isBlankRef, isTidyRefs, isBlankSchemaField, isTidySchema, isBlankSchema, isTidySchemas, isBlankSortField, isTidySortOrder, isBlankSortOrder, isTidySortOrders, isTidyStatisticsFile, isBlankStatisticsFile, isTidyStatistics, isTidyMetadataLogEntry, isBlankMetadataLogEntry, isTidyMetadataLog, isTidyFields, isTidyMetadata}
+use Rattle.rules.specs.Layout.{counted, pad, given, firstRow, addedRows, readRefName, laidRefName, readText, laidText, readSnapshot, laidSnapshot, readSnapshots, laidSnapshots, readLogEntry, laidLogEntry, readSnapshotLog, laidSnapshotLog, readReference, laidReference, readRef, laidRef, readRefs, laidRefs, readSchemaField, laidSchemaField, readSchema, laidSchema, readSchemas, laidSchemas, readSortField, laidSortField, readSortOrder, laidSortOrder, readSortOrders, laidSortOrders, readStatisticsFile, laidStatisticsFile, readStatistics, laidStatistics, readMetadataLogEntry, laidMetadataLogEntry, readMetadataLog, laidMetadataLog, readFields, laidFields, readMetadata, laidMetadata}
 use Rattle.rules.specs.Register as plain
 use Rattle.rules.proofs.Orders.{eqZ-equal}
 use Rattle.rules.proofs.Checks.{and-left, and-right, parts}
@@ -160,20 +159,14 @@ back-ref-name t e h =
     let n : length (readRefName t) ≡ t .len = length-counted 0 (t .bytes) (t .len) in
     λ i. record { bytes = bytes-back refNameRoom (t .bytes) (t .len) e (omega arith) i; len = n i }
 
-pub back-location : (t : Location) → isTidyLocation t ≡ true → length (readLocation t) ≤ locationRoom → laidLocation (readLocation t) ≡ t
-unfolding laidLocation
-back-location t e h =
-    let n : length (readLocation t) ≡ t .len = length-counted 0 (t .bytes) (t .len) in
-    λ i. record { bytes = bytes-back locationRoom (t .bytes) (t .len) e (omega arith) i; len = n i }
+pub blank-text : (t : Text) → isBlankText t ≡ true → t ≡ noText
+blank-text t e = let k : (t .bytes ≡ replicate textRoom 0) × (t .len ≡ 0) = unused 0 isZero zero textRoom (t .len) (t .bytes) e in λ i. record { bytes = k .0 i; len = k .1 i }
 
-pub blank-file-name : (t : FileName) → isBlankFileName t ≡ true → t ≡ noFileName
-blank-file-name t e = let k : (t .bytes ≡ replicate fileNameRoom 0) × (t .len ≡ 0) = unused 0 isZero zero fileNameRoom (t .len) (t .bytes) e in λ i. record { bytes = k .0 i; len = k .1 i }
-
-pub back-file-name : (t : FileName) → isTidyFileName t ≡ true → length (readFileName t) ≤ fileNameRoom → laidFileName (readFileName t) ≡ t
-unfolding laidFileName
-back-file-name t e h =
-    let n : length (readFileName t) ≡ t .len = length-counted 0 (t .bytes) (t .len) in
-    λ i. record { bytes = bytes-back fileNameRoom (t .bytes) (t .len) e (omega arith) i; len = n i }
+pub back-text : (t : Text) → isTidyText t ≡ true → length (readText t) ≤ textRoom → laidText (readText t) ≡ t
+unfolding laidText
+back-text t e h =
+    let n : length (readText t) ≡ t .len = length-counted 0 (t .bytes) (t .len) in
+    λ i. record { bytes = bytes-back textRoom (t .bytes) (t .len) e (omega arith) i; len = n i }
 
 -- ---- snapshots
 
@@ -355,8 +348,8 @@ back-sort-orders t e f =
 pub blank-statistics-file : (f : StatisticsFile) → isBlankStatisticsFile f ≡ true → f ≡ noStatisticsFile
 unfolding isBlankStatisticsFile
 blank-statistics-file f e =
-    let h = parts (isZeroZ (f .«snapshot_id» .0)) (isBlankFileName (f .«statistics_path») ∷ isZeroZ (f .«file_size_in_bytes» .0) ∷ []) e in
-    let n : f .«statistics_path» ≡ noFileName = blank-file-name (f .«statistics_path») (h .1 .0) in
+    let h = parts (isZeroZ (f .«snapshot_id» .0)) (isBlankText (f .«statistics_path») ∷ isZeroZ (f .«file_size_in_bytes» .0) ∷ []) e in
+    let n : f .«statistics_path» ≡ noText = blank-text (f .«statistics_path») (h .1 .0) in
     λ i. record {
       «snapshot_id» = record { 0 = zeroZ (f .«snapshot_id» .0) (h .0) i };
       «statistics_path» = n i;
@@ -366,8 +359,8 @@ blank-statistics-file f e =
 pub back-statistics-file : (f : StatisticsFile) → isTidyStatisticsFile f ≡ true → statisticsFileFormed (readStatisticsFile f) ≡ true → laidStatisticsFile (readStatisticsFile f) ≡ f
 unfolding isTidyStatisticsFile laidStatisticsFile
 back-statistics-file f e g =
-    let k = parts (nonNeg (f .«snapshot_id» .0)) (fileNameFormed (readFileName (f .«statistics_path»)) ∷ nonNeg (f .«file_size_in_bytes» .0) ∷ []) g in
-    let n : laidFileName (readFileName (f .«statistics_path»)) ≡ f .«statistics_path» = back-file-name (f .«statistics_path») e (leb-true _ fileNameRoom (k .1 .0)) in
+    let k = parts (nonNeg (f .«snapshot_id» .0)) (fileNameFormed (readText (f .«statistics_path»)) ∷ nonNeg (f .«file_size_in_bytes» .0) ∷ []) g in
+    let n : laidText (readText (f .«statistics_path»)) ≡ f .«statistics_path» = back-text (f .«statistics_path») e (leb-true _ textRoom (k .1 .0)) in
     λ i. record { «snapshot_id» = f .«snapshot_id»; «statistics_path» = n i; «file_size_in_bytes» = f .«file_size_in_bytes» }
 
 pub back-statistics : (t : StatisticsFiles) → isTidyStatistics t ≡ true → statisticsFormed (readStatistics t) ≡ true → laidStatistics (readStatistics t) ≡ t
@@ -382,15 +375,15 @@ back-statistics t e f =
 pub blank-metadata-log-entry : (x : MetadataLogEntry) → isBlankMetadataLogEntry x ≡ true → x ≡ noMetadataLogEntry
 unfolding isBlankMetadataLogEntry
 blank-metadata-log-entry x e =
-    let n : x .«metadata_file» ≡ noFileName = blank-file-name (x .«metadata_file») (and-left (isBlankFileName (x .«metadata_file»)) _ e) in
-    let t : x .«timestamp_ms» .0 ≡ pos 0 = zeroZ (x .«timestamp_ms» .0) (and-right (isBlankFileName (x .«metadata_file»)) _ e) in
+    let n : x .«metadata_file» ≡ noText = blank-text (x .«metadata_file») (and-left (isBlankText (x .«metadata_file»)) _ e) in
+    let t : x .«timestamp_ms» .0 ≡ pos 0 = zeroZ (x .«timestamp_ms» .0) (and-right (isBlankText (x .«metadata_file»)) _ e) in
     λ i. record { «metadata_file» = n i; «timestamp_ms» = record { 0 = t i } }
 
 pub back-metadata-log-entry : (x : MetadataLogEntry) → isTidyMetadataLogEntry x ≡ true → fileNameFormed (readMetadataLogEntry x .file) ≡ true
     → laidMetadataLogEntry (readMetadataLogEntry x) ≡ x
 unfolding isTidyMetadataLogEntry laidMetadataLogEntry
 back-metadata-log-entry x e f =
-    let n : laidFileName (readFileName (x .«metadata_file»)) ≡ x .«metadata_file» = back-file-name (x .«metadata_file») e (leb-true _ fileNameRoom f) in
+    let n : laidText (readText (x .«metadata_file»)) ≡ x .«metadata_file» = back-text (x .«metadata_file») e (leb-true _ textRoom f) in
     λ i. record { «metadata_file» = n i; «timestamp_ms» = x .«timestamp_ms» }
 
 pub back-metadata-log : (t : MetadataLog) → isTidyMetadataLog t ≡ true → metadataLogFormed (readMetadataLog t) ≡ true → laidMetadataLog (readMetadataLog t) ≡ t
@@ -403,8 +396,8 @@ back-metadata-log t e f =
 pub back-fields : (f : SingleFields) → isTidyFields f ≡ true → fieldsFormed (readFields f) ≡ true → laidFields (readFields f) ≡ f
 unfolding isTidyFields laidFields fieldsFormed
 back-fields f e g =
-    let k = parts (versionFormed (f .«format_version»)) (locationFormed (readLocation (f .location)) ∷ nonNeg (f .«last_sequence_number» .0) ∷ []) g in
-    let l : laidLocation (readLocation (f .location)) ≡ f .location = back-location (f .location) (and-left (isTidyLocation (f .location)) _ e) (leb-true _ locationRoom (k .1 .0)) in
+    let k = parts (versionFormed (f .«format_version»)) (locationFormed (readText (f .location)) ∷ nonNeg (f .«last_sequence_number» .0) ∷ []) g in
+    let l : laidText (readText (f .location)) ≡ f .location = back-text (f .location) (and-left (isTidyText (f .location)) _ e) (leb-true _ textRoom (k .1 .0)) in
     λ i. record {
       «format_version» = f .«format_version»;
       «table_uuid» = f .«table_uuid»;
@@ -414,7 +407,7 @@ back-fields f e g =
       «next_row_id» = f .«next_row_id»;
       «last_column_id» = f .«last_column_id»;
       «has_current» = flag-given (f .«has_current») (f .«current_snapshot_id» .0) i;
-      «current_snapshot_id» = record { 0 = number-given (f .«has_current») (f .«current_snapshot_id» .0) (and-right (isTidyLocation (f .location)) _ e) i };
+      «current_snapshot_id» = record { 0 = number-given (f .«has_current») (f .«current_snapshot_id» .0) (and-right (isTidyText (f .location)) _ e) i };
       «current_schema_id» = f .«current_schema_id»;
       «default_sort_order_id» = f .«default_sort_order_id»;
     }

@@ -15,6 +15,7 @@ use Rattle.rules.specs.WellFormed.{updateFormed}
 use Rattle.rules.specs.SingleUpdates.{assignUuid, upgradeFormatVersion, setLocation}
 use Rattle.rules.specs.Updates.{checks, updateNumber, effect}
 use Rattle.rules.specs.Replay.{strip}
+use Rattle.rules.proofs.SoundSingles.{trimmed-length}
 use Rattle.rules.proofs.SoundUpdates.{accepted-form}
 use Rattle.rules.proofs.ReplaySteps.{accepted-if, Replays, nothing, once}
 
@@ -61,20 +62,11 @@ trimmed-again (b ∷ bs) = go (all isSlash (b ∷ bs)) refl (trimmed-again bs)
     go true q ih = refl
     go false q ih = rw (trimmed-slashes bs, q, ih)
 
-trimmed-shorter : (l : List ℕ) → length (trimmed l) ≤ length l
-unfolding trimmed
-trimmed-shorter [] = omega arith
-trimmed-shorter (b ∷ bs) = go (all isSlash (b ∷ bs)) (trimmed-shorter bs)
-  where
-    go : (t : Bool) → length (trimmed bs) ≤ length bs → length (cond t [] (b ∷ trimmed bs)) ≤ length (b ∷ bs)
-    go true ih = omega arith
-    go false ih = omega arith
-
 trimmed-accepted : (terms : Terms) (location : List ℕ) (st : State) → updateNumber terms (SetLocation location) st ≡ 0 → updateNumber terms (SetLocation (trimmed location)) st ≡ 0
 unfolding checks updateFormed
 trimmed-accepted terms location st e =
     let h : length location ≤ 96 = leb-true (length location) 96 (accepted-form terms (SetLocation location) st e) in
-    accepted-if terms (SetLocation (trimmed location)) st (le-leb (length (trimmed location)) 96 (omega (arith, trimmed-shorter location))) refl
+    accepted-if terms (SetLocation (trimmed location)) st (le-leb (length (trimmed location)) 96 (omega (arith, trimmed-length location))) refl
 
 pub location-replays : (terms : Terms) (location : List ℕ) (st : State) → updateNumber terms (SetLocation location) st ≡ 0 → Replays terms 1 st (effect terms (SetLocation location) st)
 unfolding effect setLocation strip

@@ -12,13 +12,13 @@ use Rattle.records.specs.Blanks.{noSnapshotId, noSnapshot, noLogEntry, noRef, n
 use Rattle.records.specs.declared.counters.SnapshotId.{SnapshotId}
 use Rattle.records.specs.declared.counters.SchemaId.{SchemaId}
 use Rattle.rules.specs.Words.{isSome, orElse, all}
-use Rattle.rules.specs.Capacities.{snapshotRoom, refRoom, snapshotLogRoom, metadataLogRoom, schemaRoom, schemaFieldRoom, sortOrderRoom, sortFieldRoom, statisticsRoom, removalRoom, refNameRoom, locationRoom, fileNameRoom, listRoom}
+use Rattle.rules.specs.Capacities.{snapshotRoom, refRoom, snapshotLogRoom, metadataLogRoom, schemaRoom, schemaFieldRoom, sortOrderRoom, sortFieldRoom, statisticsRoom, removalRoom, refNameRoom, textRoom, listRoom}
 use Rattle.rules.specs.Register as plain
 use Rattle.rules.specs.Register.{Update}
 use Rattle.rules.specs.Register.Update.{AssignUuid, UpgradeFormatVersion, SetLocation, AddSnapshot, SetBranchSnapshot, RemoveSnapshots, SetRef, RemoveRef, AddSchema, SetCurrentSchema, RemoveSchemas, AddSortOrder, SetDefaultSortOrder, SetStatistics, RemoveStatistics, NotFormed}
 use Rattle.rules.specs.Register.StatisticsTable.{Statistics, PartitionStatistics}
 use Rattle.rules.specs.WellFormed.{updateFormed}
-use Rattle.rules.specs.Layout.{counted, pad, given, firstRow, addedRows, readRefName, laidRefName, readLocation, laidLocation, readFileName, laidFileName, readSnapshot, laidSnapshot, readSnapshots, laidSnapshots, readSnapshotIds, laidSnapshotIds, readLogEntry, laidLogEntry, readSnapshotLog, laidSnapshotLog, readReference, laidReference, readRef, laidRef, readRefs, laidRefs, readSchemaField, laidSchemaField, readSchema, laidSchema, readSchemas, laidSchemas, readSchemaIds, laidSchemaIds, readSortField, laidSortField, readSortOrder, laidSortOrder, readSortOrders, laidSortOrders, readStatisticsFile, laidStatisticsFile, readStatistics, laidStatistics, readMetadataLogEntry, laidMetadataLogEntry, readMetadataLog, laidMetadataLog, readFields, laidFields, readMetadata, laidMetadata}
+use Rattle.rules.specs.Layout.{counted, pad, given, firstRow, addedRows, readRefName, laidRefName, readText, laidText, readSnapshot, laidSnapshot, readSnapshots, laidSnapshots, readSnapshotIds, laidSnapshotIds, readLogEntry, laidLogEntry, readSnapshotLog, laidSnapshotLog, readReference, laidReference, readRef, laidRef, readRefs, laidRefs, readSchemaField, laidSchemaField, readSchema, laidSchema, readSchemas, laidSchemas, readSchemaIds, laidSchemaIds, readSortField, laidSortField, readSortOrder, laidSortOrder, readSortOrders, laidSortOrders, readStatisticsFile, laidStatisticsFile, readStatistics, laidStatistics, readMetadataLogEntry, laidMetadataLogEntry, readMetadataLog, laidMetadataLog, readFields, laidFields, readMetadata, laidMetadata}
 use Rattle.rules.specs.Kinds.{readKind, readUpdate, laidUpdate, readUpdates, laidUpdates}
 use Rattle.rules.proofs.Checks.{and-left, and-right}
 use Rattle.rules.proofs.Laid.{tidy-update}
@@ -69,13 +69,9 @@ pub reread-ref-name : (l : List ℕ) → readRefName (laidRefName l) ≡ l
 unfolding laidRefName
 reread-ref-name l = counted-pad refNameRoom 0 l
 
-pub reread-location : (l : List ℕ) → readLocation (laidLocation l) ≡ l
-unfolding laidLocation
-reread-location l = counted-pad locationRoom 0 l
-
-pub reread-file-name : (l : List ℕ) → readFileName (laidFileName l) ≡ l
-unfolding laidFileName
-reread-file-name l = counted-pad fileNameRoom 0 l
+pub reread-text : (l : List ℕ) → readText (laidText l) ≡ l
+unfolding laidText
+reread-text l = counted-pad textRoom 0 l
 
 -- ---- snapshots
 
@@ -137,7 +133,7 @@ reread-sort-orders l = table-reread readSortOrder laidSortOrder reread-sort-orde
 
 pub reread-statistics-file : (f : plain.StatisticsFile) → readStatisticsFile (laidStatisticsFile f) ≡ f
 unfolding laidStatisticsFile
-reread-statistics-file f = λ i. record { snapshot = f .snapshot; path = reread-file-name (f .path) i; size = f .size }
+reread-statistics-file f = λ i. record { snapshot = f .snapshot; path = reread-text (f .path) i; size = f .size }
 
 pub reread-statistics : (l : List plain.StatisticsFile) → readStatistics (laidStatistics l) ≡ l
 unfolding laidStatistics
@@ -147,7 +143,7 @@ reread-statistics l = table-reread readStatisticsFile laidStatisticsFile reread-
 
 pub reread-metadata-log-entry : (e : plain.FileEntry) → readMetadataLogEntry (laidMetadataLogEntry e) ≡ e
 unfolding laidMetadataLogEntry
-reread-metadata-log-entry e = λ i. record { file = reread-file-name (e .file) i; time = e .time }
+reread-metadata-log-entry e = λ i. record { file = reread-text (e .file) i; time = e .time }
 
 pub reread-metadata-log : (l : List plain.FileEntry) → readMetadataLog (laidMetadataLog l) ≡ l
 unfolding laidMetadataLog
@@ -159,7 +155,7 @@ reread-fields f =
     λ i. record {
       version = f .version;
       uuid = f .uuid;
-      location = reread-location (f .location) i;
+      location = reread-text (f .location) i;
       lastUpdated = f .lastUpdated;
       lastSequence = f .lastSequence;
       nextRow = f .nextRow;
@@ -192,7 +188,7 @@ reread-kind : (u : Update) → updateFormed u ≡ true → readKind (laidUpdate 
 unfolding laidUpdate updateFormed
 reread-kind (AssignUuid uuid) f = refl
 reread-kind (UpgradeFormatVersion v) f = refl
-reread-kind (SetLocation location) f = ap SetLocation (reread-location location)
+reread-kind (SetLocation location) f = ap SetLocation (reread-text location)
 reread-kind (AddSnapshot s) f = ap AddSnapshot (reread-snapshot s)
 reread-kind (SetBranchSnapshot name s) f = ap₂ SetBranchSnapshot (reread-ref-name name) (reread-snapshot s)
 reread-kind (RemoveSnapshots ids) f = ap RemoveSnapshots (reread-snapshot-ids ids)

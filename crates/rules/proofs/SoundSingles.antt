@@ -40,7 +40,7 @@ module _ (f : SingleFields) (h : fieldsFormed f ≡ true) where
 
 -- ---- a trimmed location
 
-trimmed-length : (l : List ℕ) → length (trimmed l) ≤ length l
+pub trimmed-length : (l : List ℕ) → length (trimmed l) ≤ length l
 unfolding trimmed
 trimmed-length [] = omega arith
 trimmed-length (b ∷ l) =

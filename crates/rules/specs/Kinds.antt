@@ -11,7 +11,7 @@ use Rattle.records.specs.declared.update.UpdateList.{UpdateList}
 use Rattle.records.specs.declared.counters.SchemaId.{SchemaId}
 use Rattle.records.specs.declared.counters.SnapshotId.{SnapshotId}
 use Rattle.records.specs.declared.counters.SortOrderId.{SortOrderId}
-use Rattle.records.specs.declared.text.Location.{Location}
+use Rattle.records.specs.declared.text.Text.{Text}
 use Rattle.records.specs.declared.text.RefName.{RefName}
 use Rattle.records.specs.declared.snapshot.Snapshot.{Snapshot}
 use Rattle.records.specs.declared.snapshot.SnapshotIds.{SnapshotIds}
@@ -25,8 +25,8 @@ use Rattle.rules.specs.Capacities.{listRoom}
 use Rattle.rules.specs.Register.{StatisticsTable, Update}
 use Rattle.rules.specs.Register.StatisticsTable.{Statistics, PartitionStatistics}
 use Rattle.rules.specs.Register.Update.{AssignUuid, UpgradeFormatVersion, SetLocation, AddSnapshot, SetBranchSnapshot, RemoveSnapshots, SetRef, RemoveRef, AddSchema, SetCurrentSchema, RemoveSchemas, AddSortOrder, SetDefaultSortOrder, SetStatistics, RemoveStatistics, NotFormed}
-use Rattle.rules.specs.Blanks.{isZero, isZeroZ, isTidyLocation, isBlankLocation, isTidySnapshot, isBlankSnapshot, isTidySnapshotIds, isBlankSnapshotIds, isTidyRefName, isBlankRefName, isTidyReference, isBlankReference, isTidySchema, isBlankSchema, isTidySchemaIds, isBlankSchemaIds, isTidySortOrder, isBlankSortOrder, isTidyStatisticsFile, isBlankStatisticsFile}
-use Rattle.rules.specs.Layout.{counted, pad, readRefName, laidRefName, readLocation, laidLocation, readSnapshot, laidSnapshot, readSnapshotIds, laidSnapshotIds, readReference, laidReference, readSchema, laidSchema, readSchemaIds, laidSchemaIds, readSortOrder, laidSortOrder, readStatisticsFile, laidStatisticsFile}
+use Rattle.rules.specs.Blanks.{isZero, isZeroZ, isTidyText, isBlankText, isTidySnapshot, isBlankSnapshot, isTidySnapshotIds, isBlankSnapshotIds, isTidyRefName, isBlankRefName, isTidyReference, isBlankReference, isTidySchema, isBlankSchema, isTidySchemaIds, isBlankSchemaIds, isTidySortOrder, isBlankSortOrder, isTidyStatisticsFile, isBlankStatisticsFile}
+use Rattle.rules.specs.Layout.{counted, pad, readRefName, laidRefName, readText, laidText, readSnapshot, laidSnapshot, readSnapshotIds, laidSnapshotIds, readReference, laidReference, readSchema, laidSchema, readSchemaIds, laidSchemaIds, readSortOrder, laidSortOrder, readStatisticsFile, laidStatisticsFile}
 
 -- ---- the kinds, in the order of a table's life
 
@@ -92,7 +92,7 @@ unfoldable pub isUnusedBlank : TableUpdate → Bool
 isUnusedBlank u =
     usedBy (assignUuidKind ∷ []) (u .kind) (all isZero (u .uuid))
     && usedBy (upgradeFormatVersionKind ∷ []) (u .kind) (isZero (u .«format_version»))
-    && usedBy (setLocationKind ∷ []) (u .kind) (isBlankLocation (u .location))
+    && usedBy (setLocationKind ∷ []) (u .kind) (isBlankText (u .location))
     && usedBy (addSnapshotKind ∷ setBranchSnapshotKind ∷ []) (u .kind) (isBlankSnapshot (u .snapshot))
     && usedBy (removeSnapshotsKind ∷ []) (u .kind) (isBlankSnapshotIds (u .«snapshot_ids»))
     && usedBy (setBranchSnapshotKind ∷ setRefKind ∷ removeRefKind ∷ []) (u .kind) (isBlankRefName (u .«ref_name»))
@@ -108,7 +108,7 @@ isUnusedBlank u =
 -- what it does use is tidy (a blank record is)
 unfoldable pub isUsedTidy : TableUpdate → Bool
 isUsedTidy u =
-    isTidyLocation (u .location)
+    isTidyText (u .location)
     && isTidySnapshot (u .snapshot)
     && isTidySnapshotIds (u .«snapshot_ids»)
     && isTidyRefName (u .«ref_name»)
@@ -137,7 +137,7 @@ abbrev pub readings : TableUpdate → List (ℕ × Update)
 readings u =
     (assignUuidKind, AssignUuid (u .uuid))
     ∷ (upgradeFormatVersionKind, UpgradeFormatVersion (u .«format_version»))
-    ∷ (setLocationKind, SetLocation (readLocation (u .location)))
+    ∷ (setLocationKind, SetLocation (readText (u .location)))
     ∷ (addSnapshotKind, AddSnapshot (readSnapshot (u .snapshot)))
     ∷ (setBranchSnapshotKind, SetBranchSnapshot (readRefName (u .«ref_name»)) (readSnapshot (u .snapshot)))
     ∷ (removeSnapshotsKind, RemoveSnapshots (readSnapshotIds (u .«snapshot_ids»)))
@@ -175,7 +175,7 @@ withUuid x u = record { kind = u .kind; uuid = x; «format_version» = u .«form
 abbrev pub withFormatVersion : ℕ → TableUpdate → TableUpdate
 withFormatVersion x u = record { kind = u .kind; uuid = u .uuid; «format_version» = x; location = u .location; snapshot = u .snapshot; «snapshot_ids» = u .«snapshot_ids»; «ref_name» = u .«ref_name»; reference = u .reference; schema = u .schema; «schema_id» = u .«schema_id»; «schema_ids» = u .«schema_ids»; «sort_order» = u .«sort_order»; «sort_order_id» = u .«sort_order_id»; statistics = u .statistics; «statistics_id» = u .«statistics_id» }
 
-abbrev pub withLocation : Location → TableUpdate → TableUpdate
+abbrev pub withLocation : Text → TableUpdate → TableUpdate
 withLocation x u = record { kind = u .kind; uuid = u .uuid; «format_version» = u .«format_version»; location = x; snapshot = u .snapshot; «snapshot_ids» = u .«snapshot_ids»; «ref_name» = u .«ref_name»; reference = u .reference; schema = u .schema; «schema_id» = u .«schema_id»; «schema_ids» = u .«schema_ids»; «sort_order» = u .«sort_order»; «sort_order_id» = u .«sort_order_id»; statistics = u .statistics; «statistics_id» = u .«statistics_id» }
 
 abbrev pub withSnapshot : Snapshot → TableUpdate → TableUpdate
@@ -223,7 +223,7 @@ removingKind PartitionStatistics = removePartitionStatisticsKind
 unfoldable pub laidUpdate : Update → TableUpdate
 laidUpdate (AssignUuid uuid) = withUuid uuid (ofKind assignUuidKind)
 laidUpdate (UpgradeFormatVersion v) = withFormatVersion v (ofKind upgradeFormatVersionKind)
-laidUpdate (SetLocation location) = withLocation (laidLocation location) (ofKind setLocationKind)
+laidUpdate (SetLocation location) = withLocation (laidText location) (ofKind setLocationKind)
 laidUpdate (AddSnapshot s) = withSnapshot (laidSnapshot s) (ofKind addSnapshotKind)
 laidUpdate (SetBranchSnapshot name s) = withRefName (laidRefName name) (withSnapshot (laidSnapshot s) (ofKind setBranchSnapshotKind))
 laidUpdate (RemoveSnapshots ids) = withSnapshotIds (laidSnapshotIds ids) (ofKind removeSnapshotsKind)

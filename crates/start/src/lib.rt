@@ -11,7 +11,7 @@ ghost use Rattle.rules.specs.Run.{listSum};
 ghost use Rattle.rules.specs.Kinds.{kindWeight, readUpdates};
 ghost use Rattle.rules.specs.Answer.{laidOutcome};
 ghost use Rattle.start.specs.Start.{startNumber};
-use records::capacities::FILE_NAME;
+use records::capacities::TEXT;
 use records::capacities::UPDATES;
 use records::counters::Age;
 use records::metadata::MetadataLog;
@@ -69,7 +69,7 @@ pub fn start_number(m: TableMetadata, terms: RunTerms, count: usize, sum: usize)
     if !formed::metadata::is_formed(m) {
         return START_NOT_FORMED;
     }
-    if has_file & (length > FILE_NAME) {
+    if has_file & (length > TEXT) {
         return START_NOT_FORMED;
     }
     if (count > UPDATES) | (sum > UPDATES) {

@@ -1155,7 +1155,7 @@ returns-3 c =
     close-accepted (E f) _ (sym (numbered n) ∙ l .before .before .before .if25 .left) (history f)
     (stay-is (E f) (f .before .limit .ensures) (f .surplus .ensures) (l .before .staying .ensures))
     (gone-is (E f) (f .before .limit .ensures) (f .surplus .ensures) (l .before .before .part .ensures))
-    (l .last-update .ensures (end (closing f) .state) (E f .tables .builder))
+    (l .own-or .ensures)
     ∙ ends (end (closing f)) (passed (closing f))
 
 pub run-spec : {M : Type 1} → statement M

@@ -22,7 +22,7 @@ fields-fault-spec =
     rw (
       c .unless4 .ensures,
       c .before .unless3 .ensures,
-      c .before .before .location-tidy .ensures,
+      c .before .before .text-tidy .ensures,
       s .unless2 .ensures,
       s .before .sequence-formed .ensures,
       s .before .before .unless .ensures,

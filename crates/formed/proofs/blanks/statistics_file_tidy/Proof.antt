@@ -10,4 +10,4 @@ statistics-file-tidy-spec =
     tie.close
     (tie.spec
     (λ c κs. search needs)
-    (λ c. c .file-name-tidy .ensures))
+    (λ c. c .text-tidy .ensures))

@@ -1,4 +1,4 @@
--- What is compared are the bytes that each location's length counts.
+-- What is compared are the bytes that each text's length counts.
 use Prim.Native.Nat.{_≤_}
 use mathlib.Core.Path.{_≡_, sym}
 use native.Mathlib.Omega.{arith}
@@ -6,8 +6,8 @@ use borrow.Author.Needs.{needs}
 use lib.ListN.{length}
 use lib.Seq.{length-take-le}
 use Rattle.rules.proofs.Relaid.{counted-take}
-use Rattle.builder.proofs.builder.same_location.Statement.{statement}
-use Rattle.builder.proofs.builder.same_location.Tie as tie
+use Rattle.builder.proofs.text.same_text.Statement.{statement}
+use Rattle.builder.proofs.text.same_text.Tie as tie
 
 module _ (c : tie.Start) where
   a-fits : c .args .a .len ≤ length (c .args .a .bytes)
@@ -16,8 +16,8 @@ module _ (c : tie.Start) where
   b-fits : c .args .b .len ≤ length (c .args .b .bytes)
   b-fits = let k : length (c .args .b .bytes) ≡ 96 = search needs in omega (arith, c .pre .1)
 
-pub same-location-spec : {M : Type 1} → statement M
-same-location-spec =
+pub same-text-spec : {M : Type 1} → statement M
+same-text-spec =
     tie.close
     (tie.spec
     (λ c. a-fits (c .before .before))

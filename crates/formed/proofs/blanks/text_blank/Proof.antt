@@ -4,11 +4,11 @@ use mathlib.Core.Bool.{Bool, _&&_}
 use borrow.Author.Needs.{needs}
 use Rattle.rules.specs.Blanks.{isZero}
 use Rattle.formed.proofs.Scans.{with-slots}
-use Rattle.formed.proofs.blanks.location_blank.Statement.{statement}
-use Rattle.formed.proofs.blanks.location_blank.Tie as tie
+use Rattle.formed.proofs.blanks.text_blank.Statement.{statement}
+use Rattle.formed.proofs.blanks.text_blank.Tie as tie
 
-pub location-blank-spec : {M : Type 1} → statement M
-location-blank-spec =
+pub text-blank-spec : {M : Type 1} → statement M
+text-blank-spec =
     tie.close
     (tie.spec
     (λ c. search needs)

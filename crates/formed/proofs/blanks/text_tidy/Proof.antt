@@ -2,11 +2,11 @@
 use borrow.Author.Needs.{needs}
 use Rattle.rules.specs.Blanks.{isZero}
 use Rattle.formed.proofs.Scans.{with-slots}
-use Rattle.formed.proofs.blanks.file_name_tidy.Statement.{statement}
-use Rattle.formed.proofs.blanks.file_name_tidy.Tie as tie
+use Rattle.formed.proofs.blanks.text_tidy.Statement.{statement}
+use Rattle.formed.proofs.blanks.text_tidy.Tie as tie
 
-pub file-name-tidy-spec : {M : Type 1} → statement M
-file-name-tidy-spec =
+pub text-tidy-spec : {M : Type 1} → statement M
+text-tidy-spec =
     tie.close
     (tie.spec
     (λ c. search needs)
