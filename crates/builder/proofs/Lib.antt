@@ -6,6 +6,7 @@ pub mod Choices
 pub mod Found
 pub mod NewIds
 pub mod Steps
+pub mod Parts
 pub mod Entries
 pub mod Given
 pub mod Halves

@@ -4,12 +4,13 @@ ghost use mathlib.Core.Bool.{cond};
 ghost use mathlib.Core.List.{[]};
 ghost use Prim.Native.Nat.{_≤_};
 ghost use lib.Dec.{eqb};
+ghost use Rattle.records.specs.Blanks.{noFieldsPart};
 ghost use Rattle.rules.specs.Words.{orElse};
 ghost use Rattle.rules.specs.Capacities.{locationRoom};
 ghost use Rattle.rules.specs.Register.{State};
 ghost use Rattle.rules.specs.SingleUpdates.{assignUuid, upgradeFormatVersionChecks, upgradeFormatVersion, setLocation};
 ghost use Rattle.rules.specs.Layout.{given, readText};
-ghost use Rattle.rules.specs.Kinds.{ofKind, withUuid, withFormatVersion, withLocation, assignUuidKind, upgradeFormatVersionKind, setLocationKind};
+ghost use Rattle.rules.specs.Kinds.{ofKind, withFieldsPart, withUuid, withFormatVersion, withLocation, assignUuidKind, upgradeFormatVersionKind, setLocationKind};
 ghost use Rattle.builder.specs.Pieces.{fresh, laidBuilder};
 ghost use Rattle.builder.specs.Answers.{Answers};
 use crate::checks::choose;
@@ -89,7 +90,7 @@ impl TableMetadataBuilder {
     }
 
     pub fn assign_uuid(self, uuid: [u8; 16]) -> Changed
-        ensures { λ r. ⌜ ((st : State) → self ≡ laidBuilder st → Answers [] st (assignUuid uuid st) (r .number) (r .logs) (r .builder) (withUuid uuid (ofKind assignUuidKind))) ⌝ }
+        ensures { λ r. ⌜ ((st : State) → self ≡ laidBuilder st → Answers [] st (assignUuid uuid st) (r .number) (r .logs) (r .builder) (withFieldsPart (withUuid uuid noFieldsPart) (ofKind assignUuidKind))) ⌝ }
     {
         let f = self.fields;
         let old = f.table_uuid;
@@ -106,7 +107,7 @@ impl TableMetadataBuilder {
     }
 
     pub fn upgrade_format_version(self, version: u8) -> Changed
-        ensures { λ r. ⌜ ((st : State) → self ≡ laidBuilder st → Answers (upgradeFormatVersionChecks version st) st (upgradeFormatVersion version st) (r .number) (r .logs) (r .builder) (withFormatVersion version (ofKind upgradeFormatVersionKind))) ⌝ }
+        ensures { λ r. ⌜ ((st : State) → self ≡ laidBuilder st → Answers (upgradeFormatVersionChecks version st) st (upgradeFormatVersion version st) (r .number) (r .logs) (r .builder) (withFieldsPart (withFormatVersion version noFieldsPart) (ofKind upgradeFormatVersionKind))) ⌝ }
     {
         let f = self.fields;
         let old = f.format_version;
@@ -130,7 +131,7 @@ impl TableMetadataBuilder {
     pub fn set_location(self, location: Text) -> LocationSet
         requires { ⌜ self .fields .location .len ≤ locationRoom ⌝ }
         requires { ⌜ location .len ≤ locationRoom ⌝ }
-        ensures { λ r. ⌜ ((st : State) → self ≡ laidBuilder st → Answers [] st (setLocation (readText location) st) 0 (r .logs) (r .builder) (withLocation (r .location) (ofKind setLocationKind))) ⌝ }
+        ensures { λ r. ⌜ ((st : State) → self ≡ laidBuilder st → Answers [] st (setLocation (readText location) st) 0 (r .logs) (r .builder) (withFieldsPart (withLocation (r .location) noFieldsPart) (ofKind setLocationKind))) ⌝ }
     {
         let f = self.fields;
         let old = f.location;

@@ -44,21 +44,27 @@ use records::update::UpdateList;
 fn read_early_kind(kind: u8, input: &mut Input, place: &mut Place) -> TableUpdate {
     let mut u = TableUpdate::blank();
     u.kind = kind;
+    let mut fields = u.fields;
+    let mut snapshots = u.snapshots;
+    let mut refs = u.refs;
     match kind {
         ASSIGN_UUID => {
             let uuid = read_uuid(input, place);
-            u.uuid = uuid;
+            fields.uuid = uuid;
         }
-        UPGRADE_FORMAT_VERSION => u.format_version = read_u8(input, place),
-        SET_LOCATION => u.location = read_location(input, place),
-        ADD_SNAPSHOT => u.snapshot = read_snapshot(input, place),
+        UPGRADE_FORMAT_VERSION => fields.format_version = read_u8(input, place),
+        SET_LOCATION => fields.location = read_location(input, place),
+        ADD_SNAPSHOT => snapshots.added = read_snapshot(input, place),
         SET_BRANCH_SNAPSHOT => {
-            u.ref_name = read_ref_name(input, place);
-            u.snapshot = read_snapshot(input, place);
+            refs.name = read_ref_name(input, place);
+            snapshots.added = read_snapshot(input, place);
         }
-        REMOVE_SNAPSHOTS => u.snapshot_ids = read_snapshot_ids(input, place),
+        REMOVE_SNAPSHOTS => snapshots.removed = read_snapshot_ids(input, place),
         _ => {}
     }
+    u.fields = fields;
+    u.snapshots = snapshots;
+    u.refs = refs;
     u
 }
 
@@ -66,25 +72,31 @@ fn read_early_kind(kind: u8, input: &mut Input, place: &mut Place) -> TableUpdat
 fn read_late_kind(kind: u8, input: &mut Input, place: &mut Place) -> TableUpdate {
     let mut u = TableUpdate::blank();
     u.kind = kind;
+    let mut refs = u.refs;
+    let mut schemas = u.schemas;
+    let mut orders = u.sort_orders;
     match kind {
         SET_REF => {
-            u.ref_name = read_ref_name(input, place);
-            u.reference = read_reference(input, place);
+            refs.name = read_ref_name(input, place);
+            refs.reference = read_reference(input, place);
         }
-        REMOVE_REF => u.ref_name = read_ref_name(input, place),
-        ADD_SCHEMA => u.schema = read_schema(input, place),
+        REMOVE_REF => refs.name = read_ref_name(input, place),
+        ADD_SCHEMA => schemas.added = read_schema(input, place),
         SET_CURRENT_SCHEMA => {
             let id = SchemaId(read_i32(input, place));
-            u.schema_id = id;
+            schemas.chosen = id;
         }
-        REMOVE_SCHEMAS => u.schema_ids = read_schema_ids(input, place),
-        ADD_SORT_ORDER => u.sort_order = read_sort_order(input, place),
+        REMOVE_SCHEMAS => schemas.removed = read_schema_ids(input, place),
+        ADD_SORT_ORDER => orders.added = read_sort_order(input, place),
         SET_DEFAULT_SORT_ORDER => {
             let id = SortOrderId(read_i64(input, place));
-            u.sort_order_id = id;
+            orders.chosen = id;
         }
         _ => {}
     }
+    u.refs = refs;
+    u.schemas = schemas;
+    u.sort_orders = orders;
     u
 }
 
@@ -92,16 +104,18 @@ fn read_late_kind(kind: u8, input: &mut Input, place: &mut Place) -> TableUpdate
 fn read_statistics_kind(kind: u8, input: &mut Input, place: &mut Place) -> TableUpdate {
     let mut u = TableUpdate::blank();
     u.kind = kind;
+    let mut statistics = u.statistics;
     match kind {
         SET_STATISTICS | SET_PARTITION_STATISTICS => {
-            u.statistics = read_statistics_file(input, place);
+            statistics.file = read_statistics_file(input, place);
         }
         REMOVE_STATISTICS | REMOVE_PARTITION_STATISTICS => {
             let id = SnapshotId(read_i64(input, place));
-            u.statistics_id = id;
+            statistics.removed = id;
         }
         _ => {}
     }
+    u.statistics = statistics;
     u
 }
 

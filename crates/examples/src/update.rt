@@ -5,6 +5,7 @@ use records::counters::SchemaId;
 use records::counters::SequenceNumber;
 use records::counters::SnapshotId;
 use records::counters::Time;
+use records::reference::NamedRef;
 use records::reference::SnapshotReference;
 use records::snapshot::Snapshot;
 use records::text::RefName;
@@ -68,35 +69,42 @@ pub fn branch_to(id: SnapshotId) -> SnapshotReference {
 pub fn add(snapshot: Snapshot) -> TableUpdate {
     let mut u = TableUpdate::blank();
     u.kind = ADD_SNAPSHOT;
-    u.snapshot = snapshot;
+    let mut part = u.snapshots;
+    part.added = snapshot;
+    u.snapshots = part;
     u
 }
 
 pub fn remove(id: i64) -> TableUpdate {
     let mut u = TableUpdate::blank();
-    let mut ids = u.snapshot_ids;
+    let mut part = u.snapshots;
+    let mut ids = part.removed;
     ids.items[0] = SnapshotId(id);
     ids.count = 1;
     u.kind = REMOVE_SNAPSHOTS;
-    u.snapshot_ids = ids;
+    part.removed = ids;
+    u.snapshots = part;
     u
 }
 
 pub fn to_main(id: i64) -> TableUpdate {
     let mut u = TableUpdate::blank();
     u.kind = SET_REF;
-    u.ref_name = main_name();
-    u.reference = branch_to(SnapshotId(id));
+    let name = main_name();
+    let reference = branch_to(SnapshotId(id));
+    u.refs = NamedRef { name, reference };
     u
 }
 
 pub fn remove_schema(id: i32) -> TableUpdate {
     let mut u = TableUpdate::blank();
-    let mut ids = u.schema_ids;
+    let mut part = u.schemas;
+    let mut ids = part.removed;
     ids.items[0] = SchemaId(id);
     ids.count = 1;
     u.kind = REMOVE_SCHEMAS;
-    u.schema_ids = ids;
+    part.removed = ids;
+    u.schemas = part;
     u
 }
 

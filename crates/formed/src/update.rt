@@ -1,10 +1,9 @@
-// Well-formed updates: each record is tidy where the kind uses it and blank where it does not, and what it uses keeps its bounds.
+// Well-formed updates: in each part a record is tidy where the kind uses it and blank where it does not, and what the kind uses keeps its bounds.
 ghost use mathlib.Core.Path.{_≡_};
-ghost use mathlib.Core.Bool.{_&&_};
 ghost use mathlib.Core.List.{[], _∷_};
 ghost use Rattle.rules.specs.WellFormed.{updateFormed};
 ghost use Rattle.rules.specs.Blanks.{isTidyText, isBlankText, isTidySnapshot, isBlankSnapshot, isTidySnapshotIds, isBlankSnapshotIds, isTidyRefName, isBlankRefName, isTidyReference, isBlankReference, isTidySchema, isBlankSchema, isTidySchemaIds, isBlankSchemaIds, isTidySortOrder, isBlankSortOrder, isTidyStatisticsFile, isBlankStatisticsFile};
-ghost use Rattle.rules.specs.Kinds.{setLocationKind, addSnapshotKind, setBranchSnapshotKind, removeSnapshotsKind, setRefKind, removeRefKind, addSchemaKind, removeSchemasKind, addSortOrderKind, setStatisticsKind, setPartitionStatisticsKind, usedBy, isTidyUpdate, readKind, readUpdate};
+ghost use Rattle.rules.specs.Kinds.{setLocationKind, addSnapshotKind, setBranchSnapshotKind, removeSnapshotsKind, setRefKind, removeRefKind, addSchemaKind, removeSchemasKind, addSortOrderKind, setStatisticsKind, setPartitionStatisticsKind, fitsKinds, isTidyFieldsPart, isTidySnapshotsPart, isTidyRefsPart, isTidySchemasPart, isTidySortOrdersPart, isTidyStatisticsPart, isTidyUpdate, readKind, readUpdate};
 use crate::blanks::order_blank;
 use crate::blanks::order_tidy;
 use crate::blanks::ref_name_blank;
@@ -39,6 +38,12 @@ use crate::record::snapshot_ids_formed;
 use crate::record::statistics_file_formed;
 use records::capacities::REF_NAME;
 use records::capacities::TEXT;
+use records::part::FieldsPart;
+use records::part::SchemasPart;
+use records::part::SnapshotsPart;
+use records::part::SortOrdersPart;
+use records::part::StatisticsPart;
+use records::reference::NamedRef;
 use records::reference::SnapshotReference;
 use records::schema::Schema;
 use records::schema::SchemaIds;
@@ -67,8 +72,10 @@ use records::update::SET_STATISTICS;
 use records::update::TableUpdate;
 use records::update::UPGRADE_FORMAT_VERSION;
 
+// ---- the records
+
 fn location_fits(k: u8, x: Text) -> bool
-    ensures { λ r. ⌜ r ≡ (usedBy (setLocationKind ∷ []) k (isBlankText x) && isTidyText x) ⌝ }
+    ensures { λ r. ⌜ r ≡ fitsKinds (setLocationKind ∷ []) k (isBlankText x) (isTidyText x) ⌝ }
 {
     if k == SET_LOCATION {
         return text_tidy(x);
@@ -77,7 +84,7 @@ fn location_fits(k: u8, x: Text) -> bool
 }
 
 fn snapshot_fits(k: u8, x: Snapshot) -> bool
-    ensures { λ r. ⌜ r ≡ (usedBy (addSnapshotKind ∷ setBranchSnapshotKind ∷ []) k (isBlankSnapshot x) && isTidySnapshot x) ⌝ }
+    ensures { λ r. ⌜ r ≡ fitsKinds (addSnapshotKind ∷ setBranchSnapshotKind ∷ []) k (isBlankSnapshot x) (isTidySnapshot x) ⌝ }
 {
     if (k == ADD_SNAPSHOT) | (k == SET_BRANCH_SNAPSHOT) {
         return snapshot_tidy(x);
@@ -86,7 +93,7 @@ fn snapshot_fits(k: u8, x: Snapshot) -> bool
 }
 
 fn snapshot_ids_fit(k: u8, x: SnapshotIds) -> bool
-    ensures { λ r. ⌜ r ≡ (usedBy (removeSnapshotsKind ∷ []) k (isBlankSnapshotIds x) && isTidySnapshotIds x) ⌝ }
+    ensures { λ r. ⌜ r ≡ fitsKinds (removeSnapshotsKind ∷ []) k (isBlankSnapshotIds x) (isTidySnapshotIds x) ⌝ }
 {
     if k == REMOVE_SNAPSHOTS {
         return snapshot_ids_tidy(x);
@@ -95,7 +102,7 @@ fn snapshot_ids_fit(k: u8, x: SnapshotIds) -> bool
 }
 
 fn ref_name_fits(k: u8, x: RefName) -> bool
-    ensures { λ r. ⌜ r ≡ (usedBy (setBranchSnapshotKind ∷ setRefKind ∷ removeRefKind ∷ []) k (isBlankRefName x) && isTidyRefName x) ⌝ }
+    ensures { λ r. ⌜ r ≡ fitsKinds (setBranchSnapshotKind ∷ setRefKind ∷ removeRefKind ∷ []) k (isBlankRefName x) (isTidyRefName x) ⌝ }
 {
     if (k == SET_BRANCH_SNAPSHOT) | ((k == SET_REF) | (k == REMOVE_REF)) {
         return ref_name_tidy(x);
@@ -104,7 +111,7 @@ fn ref_name_fits(k: u8, x: RefName) -> bool
 }
 
 fn reference_fits(k: u8, x: SnapshotReference) -> bool
-    ensures { λ r. ⌜ r ≡ (usedBy (setRefKind ∷ []) k (isBlankReference x) && isTidyReference x) ⌝ }
+    ensures { λ r. ⌜ r ≡ fitsKinds (setRefKind ∷ []) k (isBlankReference x) (isTidyReference x) ⌝ }
 {
     if k == SET_REF {
         return reference_tidy(x);
@@ -113,7 +120,7 @@ fn reference_fits(k: u8, x: SnapshotReference) -> bool
 }
 
 fn schema_fits(k: u8, x: Schema) -> bool
-    ensures { λ r. ⌜ r ≡ (usedBy (addSchemaKind ∷ []) k (isBlankSchema x) && isTidySchema x) ⌝ }
+    ensures { λ r. ⌜ r ≡ fitsKinds (addSchemaKind ∷ []) k (isBlankSchema x) (isTidySchema x) ⌝ }
 {
     if k == ADD_SCHEMA {
         return schema_tidy(x);
@@ -122,7 +129,7 @@ fn schema_fits(k: u8, x: Schema) -> bool
 }
 
 fn schema_ids_fit(k: u8, x: SchemaIds) -> bool
-    ensures { λ r. ⌜ r ≡ (usedBy (removeSchemasKind ∷ []) k (isBlankSchemaIds x) && isTidySchemaIds x) ⌝ }
+    ensures { λ r. ⌜ r ≡ fitsKinds (removeSchemasKind ∷ []) k (isBlankSchemaIds x) (isTidySchemaIds x) ⌝ }
 {
     if k == REMOVE_SCHEMAS {
         return schema_ids_tidy(x);
@@ -131,7 +138,7 @@ fn schema_ids_fit(k: u8, x: SchemaIds) -> bool
 }
 
 fn order_fits(k: u8, x: SortOrder) -> bool
-    ensures { λ r. ⌜ r ≡ (usedBy (addSortOrderKind ∷ []) k (isBlankSortOrder x) && isTidySortOrder x) ⌝ }
+    ensures { λ r. ⌜ r ≡ fitsKinds (addSortOrderKind ∷ []) k (isBlankSortOrder x) (isTidySortOrder x) ⌝ }
 {
     if k == ADD_SORT_ORDER {
         return order_tidy(x);
@@ -140,7 +147,7 @@ fn order_fits(k: u8, x: SortOrder) -> bool
 }
 
 fn statistics_file_fits(k: u8, x: StatisticsFile) -> bool
-    ensures { λ r. ⌜ r ≡ (usedBy (setStatisticsKind ∷ setPartitionStatisticsKind ∷ []) k (isBlankStatisticsFile x) && isTidyStatisticsFile x) ⌝ }
+    ensures { λ r. ⌜ r ≡ fitsKinds (setStatisticsKind ∷ setPartitionStatisticsKind ∷ []) k (isBlankStatisticsFile x) (isTidyStatisticsFile x) ⌝ }
 {
     if (k == SET_STATISTICS) | (k == SET_PARTITION_STATISTICS) {
         return statistics_file_tidy(x);
@@ -148,40 +155,65 @@ fn statistics_file_fits(k: u8, x: StatisticsFile) -> bool
     statistics_file_blank(x)
 }
 
+// ---- the parts
+
+fn fields_fit(k: u8, p: FieldsPart) -> bool
+    ensures { λ r. ⌜ r ≡ isTidyFieldsPart k p ⌝ }
+{
+    let uuid = p.uuid;
+    let version = p.format_version;
+    ((k == ASSIGN_UUID) | zeros_from(&uuid, 0))
+        & ((k == UPGRADE_FORMAT_VERSION) | (version == 0))
+        & location_fits(k, p.location)
+}
+
+fn snapshots_fit(k: u8, p: SnapshotsPart) -> bool
+    ensures { λ r. ⌜ r ≡ isTidySnapshotsPart k p ⌝ }
+{
+    snapshot_fits(k, p.added) & snapshot_ids_fit(k, p.removed)
+}
+
+fn refs_fit(k: u8, p: NamedRef) -> bool
+    ensures { λ r. ⌜ r ≡ isTidyRefsPart k p ⌝ }
+{
+    ref_name_fits(k, p.name) & reference_fits(k, p.reference)
+}
+
+fn schemas_fit(k: u8, p: SchemasPart) -> bool
+    ensures { λ r. ⌜ r ≡ isTidySchemasPart k p ⌝ }
+{
+    schema_fits(k, p.added)
+        & ((k == SET_CURRENT_SCHEMA) | schema_id_zero(p.chosen))
+        & schema_ids_fit(k, p.removed)
+}
+
+fn sort_orders_fit(k: u8, p: SortOrdersPart) -> bool
+    ensures { λ r. ⌜ r ≡ isTidySortOrdersPart k p ⌝ }
+{
+    order_fits(k, p.added) & ((k == SET_DEFAULT_SORT_ORDER) | order_id_zero(p.chosen))
+}
+
+fn statistics_fit(k: u8, p: StatisticsPart) -> bool
+    ensures { λ r. ⌜ r ≡ isTidyStatisticsPart k p ⌝ }
+{
+    statistics_file_fits(k, p.file)
+        & ((k == REMOVE_STATISTICS)
+            | (k == REMOVE_PARTITION_STATISTICS)
+            | snapshot_id_zero(p.removed))
+}
+
+// ---- the update
+
 pub fn is_tidy(u: TableUpdate) -> bool
     ensures { λ r. ⌜ r ≡ isTidyUpdate u ⌝ }
 {
     let k = u.kind;
-    let uuid = u.uuid;
-    let version = u.format_version;
-    let location = u.location;
-    let snapshot = u.snapshot;
-    let snapshot_ids = u.snapshot_ids;
-    let name = u.ref_name;
-    let reference = u.reference;
-    let schema = u.schema;
-    let schema_id = u.schema_id;
-    let schema_ids = u.schema_ids;
-    let order = u.sort_order;
-    let order_id = u.sort_order_id;
-    let statistics = u.statistics;
-    let statistics_id = u.statistics_id;
-    ((k == ASSIGN_UUID) | zeros_from(&uuid, 0))
-        & ((k == UPGRADE_FORMAT_VERSION) | (version == 0))
-        & location_fits(k, location)
-        & snapshot_fits(k, snapshot)
-        & snapshot_ids_fit(k, snapshot_ids)
-        & ref_name_fits(k, name)
-        & reference_fits(k, reference)
-        & schema_fits(k, schema)
-        & ((k == SET_CURRENT_SCHEMA) | schema_id_zero(schema_id))
-        & schema_ids_fit(k, schema_ids)
-        & order_fits(k, order)
-        & ((k == SET_DEFAULT_SORT_ORDER) | order_id_zero(order_id))
-        & statistics_file_fits(k, statistics)
-        & ((k == REMOVE_STATISTICS)
-            | (k == REMOVE_PARTITION_STATISTICS)
-            | snapshot_id_zero(statistics_id))
+    fields_fit(k, u.fields)
+        & snapshots_fit(k, u.snapshots)
+        & refs_fit(k, u.refs)
+        & schemas_fit(k, u.schemas)
+        & sort_orders_fit(k, u.sort_orders)
+        & statistics_fit(k, u.statistics)
 }
 
 // The numbers and lengths that the kind uses keep their bounds.
@@ -189,37 +221,27 @@ fn used_formed(u: TableUpdate) -> bool
     ensures { λ r. ⌜ r ≡ updateFormed (readKind u) ⌝ }
 {
     let k = u.kind;
-    let version = u.format_version;
-    let location = u.location;
-    let snapshot = u.snapshot;
-    let snapshot_ids = u.snapshot_ids;
-    let name = u.ref_name;
-    let reference = u.reference;
-    let schema = u.schema;
-    let schema_id = u.schema_id;
-    let schema_ids = u.schema_ids;
-    let order = u.sort_order;
-    let order_id = u.sort_order_id;
-    let statistics = u.statistics;
-    let statistics_id = u.statistics_id;
-    let a = location.len;
-    let b = name.len;
+    let version = u.fields.format_version;
+    let location = u.fields.location.len;
+    let name = u.refs.name.len;
     match k {
         ASSIGN_UUID => true,
         UPGRADE_FORMAT_VERSION => (1 <= version) & (version <= 3),
-        SET_LOCATION => a <= TEXT,
-        ADD_SNAPSHOT => snapshot_formed(snapshot),
-        SET_BRANCH_SNAPSHOT => (b <= REF_NAME) & snapshot_formed(snapshot),
-        REMOVE_SNAPSHOTS => snapshot_ids_formed(snapshot_ids),
-        SET_REF => (b <= REF_NAME) & reference_formed(reference),
-        REMOVE_REF => b <= REF_NAME,
-        ADD_SCHEMA => schema_formed(schema),
-        SET_CURRENT_SCHEMA => schema_choice_formed(schema_id),
-        REMOVE_SCHEMAS => schema_ids_formed(schema_ids),
-        ADD_SORT_ORDER => offered_order_formed(order),
-        SET_DEFAULT_SORT_ORDER => order_choice_formed(order_id),
-        SET_STATISTICS | SET_PARTITION_STATISTICS => statistics_file_formed(statistics),
-        REMOVE_STATISTICS | REMOVE_PARTITION_STATISTICS => snapshot_id_formed(statistics_id),
+        SET_LOCATION => location <= TEXT,
+        ADD_SNAPSHOT => snapshot_formed(u.snapshots.added),
+        SET_BRANCH_SNAPSHOT => (name <= REF_NAME) & snapshot_formed(u.snapshots.added),
+        REMOVE_SNAPSHOTS => snapshot_ids_formed(u.snapshots.removed),
+        SET_REF => (name <= REF_NAME) & reference_formed(u.refs.reference),
+        REMOVE_REF => name <= REF_NAME,
+        ADD_SCHEMA => schema_formed(u.schemas.added),
+        SET_CURRENT_SCHEMA => schema_choice_formed(u.schemas.chosen),
+        REMOVE_SCHEMAS => schema_ids_formed(u.schemas.removed),
+        ADD_SORT_ORDER => offered_order_formed(u.sort_orders.added),
+        SET_DEFAULT_SORT_ORDER => order_choice_formed(u.sort_orders.chosen),
+        SET_STATISTICS | SET_PARTITION_STATISTICS => statistics_file_formed(u.statistics.file),
+        REMOVE_STATISTICS | REMOVE_PARTITION_STATISTICS => {
+            snapshot_id_formed(u.statistics.removed)
+        }
         _ => false,
     }
 }

@@ -77,7 +77,7 @@ fn is_addition(u: TableUpdate, id: SnapshotId) -> bool
     ensures { λ r. ⌜ r ≡ isAddition (id .0) (readUpdate u) ⌝ }
 {
     let kind = u.kind;
-    let s = u.snapshot;
+    let s = u.snapshots.added;
     let x = s.snapshot_id;
     if kind == ADD_SNAPSHOT {
         return is_tidy(u) & same_snapshot(x, id);
@@ -121,7 +121,7 @@ fn removes_added(changes: UpdateList, u: TableUpdate) -> bool
     ensures { λ r. ⌜ r ≡ any (logsAddition (readUpdates changes)) (removedIds (readUpdate u)) ⌝ }
 {
     let kind = u.kind;
-    let ids = u.snapshot_ids;
+    let ids = u.snapshots.removed;
     if kind == REMOVE_SNAPSHOTS {
         return is_tidy(u) & any_is_added(changes, ids);
     }

@@ -124,7 +124,7 @@ module _ {g : Given} {i : ℕ} {p : Pieces} (S : Standing g i p) (v : Update) (a
           stays = λ y f. absurd (true≢false (sym (D .logs) ∙ f));
         }
 
-  module _ (w : v ≡ SetBranchSnapshot (nameAt g i) x) (u : x ≡ readSnapshot (updateAt g i .snapshot)) (five : updateAt g i .kind ≡ setBranchSnapshotKind) (f : updateFormed (readUpdate (updateAt g i)) ≡ true) {d : Decision} {t : Bool} (tag : t ≡ isTag (nameAt g i) (S .state .metadata .refs)) (D : SnapshotDecided t (termsOf g .tolerance) x (S .state) d) where
+  module _ (w : v ≡ SetBranchSnapshot (nameAt g i) x) (u : x ≡ readSnapshot (updateAt g i .snapshots .added)) (five : updateAt g i .kind ≡ setBranchSnapshotKind) (f : updateFormed (readUpdate (updateAt g i)) ≡ true) {d : Decision} {t : Bool} (tag : t ≡ isTag (nameAt g i) (S .state .metadata .refs)) (D : SnapshotDecided t (termsOf g .tolerance) x (S .state) d) where
     pub commit-refused : (half : Bool) → (d .number ≡ 0 → ⊥) → Decided g i half p d
     unfolding checks setBranchSnapshotChecks
     commit-refused half z =
@@ -183,12 +183,12 @@ module _ {g : Given} {i : ℕ} {p : Pieces} (S : Standing g i p) (v : Update) (a
 -- ---- either of the two, of the update at a place
 
 module _ {g : Given} {i : ℕ} {p : Pieces} (S : Standing g i p) (at : drop i (readUpdates (g .updates)) ≡ readUpdate (updateAt g i) ∷ drop (i + 1) (readUpdates (g .updates))) (one : 1 ≤ weight (readUpdate (updateAt g i))) (e : updateFormed (readUpdate (updateAt g i)) ≡ true)
-    (k : (eqb (updateAt g i .kind) 4 || eqb (updateAt g i .kind) 5) ≡ true) {t : Bool} (tag : t ≡ (eqb (updateAt g i .kind) 5 && isTag (nameAt g i) (readRefs (p .held .refs)))) {d : Decision} (D : SnapshotDecided t (termsOf g .tolerance) (readSnapshot (updateAt g i .snapshot)) (S .state) d) where
+    (k : (eqb (updateAt g i .kind) 4 || eqb (updateAt g i .kind) 5) ≡ true) {t : Bool} (tag : t ≡ (eqb (updateAt g i .kind) 5 && isTag (nameAt g i) (readRefs (p .held .refs)))) {d : Decision} (D : SnapshotDecided t (termsOf g .tolerance) (readSnapshot (updateAt g i .snapshots .added)) (S .state) d) where
   abbrev u : TableUpdate
   u = updateAt g i
 
-  by-itself : u .kind ≡ addSnapshotKind → SnapshotDecided false (termsOf g .tolerance) (readSnapshot (u .snapshot)) (S .state) d
-  by-itself q = subst (λ (x : Bool). SnapshotDecided x (termsOf g .tolerance) (readSnapshot (u .snapshot)) (S .state) d) (tag ∙ rw q) D
+  by-itself : u .kind ≡ addSnapshotKind → SnapshotDecided false (termsOf g .tolerance) (readSnapshot (u .snapshots .added)) (S .state) d
+  by-itself q = subst (λ (x : Bool). SnapshotDecided x (termsOf g .tolerance) (readSnapshot (u .snapshots .added)) (S .state) d) (tag ∙ rw q) D
 
   tagged : u .kind ≡ setBranchSnapshotKind → t ≡ isTag (nameAt g i) (S .state .metadata .refs)
   tagged q = tag ∙ rw (q, read-refs (S .stands))
@@ -196,17 +196,17 @@ module _ {g : Given} {i : ℕ} {p : Pieces} (S : Standing g i p) (at : drop i (r
   pub add-refused : (half : Bool) → (d .number ≡ 0 → ⊥) → Decided g i half p d
   add-refused half z =
       by-either (eqb (u .kind) addSnapshotKind) (eqb (u .kind) setBranchSnapshotKind)
-      (λ a. let q = eqb-true (u .kind) addSnapshotKind a in addition-refused S (readUpdate u) at one e (readSnapshot (u .snapshot)) (read-add-snapshot u e q) (by-itself q) half z)
-      (λ a. let q = eqb-true (u .kind) setBranchSnapshotKind a in commit-refused S (readUpdate u) at one e (readSnapshot (u .snapshot)) (read-set-branch-snapshot u e q) refl q e (tagged q) D half z)
+      (λ a. let q = eqb-true (u .kind) addSnapshotKind a in addition-refused S (readUpdate u) at one e (readSnapshot (u .snapshots .added)) (read-add-snapshot u e q) (by-itself q) half z)
+      (λ a. let q = eqb-true (u .kind) setBranchSnapshotKind a in commit-refused S (readUpdate u) at one e (readSnapshot (u .snapshots .added)) (read-set-branch-snapshot u e q) refl q e (tagged q) D half z)
       k
 
   -- its checks pass where it is decided with 0
-  pub adds-fine : d .number ≡ 0 → firstOf (addSnapshotChecks (termsOf g .tolerance) (readSnapshot (u .snapshot)) (S .state)) ≡ 0
-  adds-fine z = untagged t (firstOf (addSnapshotChecks (termsOf g .tolerance) (readSnapshot (u .snapshot)) (S .state))) (sym (D .number) ∙ z) .1
+  pub adds-fine : d .number ≡ 0 → firstOf (addSnapshotChecks (termsOf g .tolerance) (readSnapshot (u .snapshots .added)) (S .state)) ≡ 0
+  adds-fine z = untagged t (firstOf (addSnapshotChecks (termsOf g .tolerance) (readSnapshot (u .snapshots .added)) (S .state))) (sym (D .number) ∙ z) .1
 
-  pub add-decided : d .number ≡ 0 → {s : Snapshots} {is : List ℤ} {id : ℤ} → s ≡ laidSnapshots (put snapshotBelow (readSnapshot (u .snapshot)) (S .state .metadata .snapshots)) → is ≡ pad 64 (pos 0) (idsOf (put snapshotBelow (readSnapshot (u .snapshot)) (S .state .metadata .snapshots))) → id ≡ u .snapshot .«snapshot_id» .0 → Decided g i (eqb (u .kind) setBranchSnapshotKind) (grown s is id p) d
+  pub add-decided : d .number ≡ 0 → {s : Snapshots} {is : List ℤ} {id : ℤ} → s ≡ laidSnapshots (put snapshotBelow (readSnapshot (u .snapshots .added)) (S .state .metadata .snapshots)) → is ≡ pad 64 (pos 0) (idsOf (put snapshotBelow (readSnapshot (u .snapshots .added)) (S .state .metadata .snapshots))) → id ≡ u .snapshots .added .«snapshot_id» .0 → Decided g i (eqb (u .kind) setBranchSnapshotKind) (grown s is id p) d
   add-decided z a b c =
       by-either (eqb (u .kind) addSnapshotKind) (eqb (u .kind) setBranchSnapshotKind)
-      (λ y. let q = eqb-true (u .kind) addSnapshotKind y in rw q (addition-decided S (readUpdate u) at one e (readSnapshot (u .snapshot)) (read-add-snapshot u e q) (by-itself q) z a b c))
-      (λ y. let q = eqb-true (u .kind) setBranchSnapshotKind y in rw q (commit-decided S (readUpdate u) at one e (readSnapshot (u .snapshot)) (read-set-branch-snapshot u e q) refl q e (tagged q) D z a b c))
+      (λ y. let q = eqb-true (u .kind) addSnapshotKind y in rw q (addition-decided S (readUpdate u) at one e (readSnapshot (u .snapshots .added)) (read-add-snapshot u e q) (by-itself q) z a b c))
+      (λ y. let q = eqb-true (u .kind) setBranchSnapshotKind y in rw q (commit-decided S (readUpdate u) at one e (readSnapshot (u .snapshots .added)) (read-set-branch-snapshot u e q) refl q e (tagged q) D z a b c))
       k

@@ -159,10 +159,10 @@ module _ {g : Given} {st : State} {p : Pieces} (E : Represents g st p) where
       none-in [] x e = refl
       none-in (y ∷ l) x e = absurd (false≢true e)
 
-  pub schemas-grown : (d : Decision) {s : Schemas} {l : List plain.Schema} → s ≡ cond (d .grows) (laidSchemas (put schemaBelow (readSchema (d .entry .schema)) (readSchemas (p .held .shelf .schemas)))) (p .held .shelf .schemas)
-      → l ≡ cond (d .grows) (put schemaBelow (readSchema (d .entry .schema)) (st .metadata .schemas)) (st .metadata .schemas) → s ≡ laidSchemas l
+  pub schemas-grown : (d : Decision) {s : Schemas} {l : List plain.Schema} → s ≡ cond (d .grows) (laidSchemas (put schemaBelow (readSchema (d .entry .schemas .added)) (readSchemas (p .held .shelf .schemas)))) (p .held .shelf .schemas)
+      → l ≡ cond (d .grows) (put schemaBelow (readSchema (d .entry .schemas .added)) (st .metadata .schemas)) (st .metadata .schemas) → s ≡ laidSchemas l
   schemas-grown d q e = q ∙ rw e (cases (d .grows) (λ t. rw (t, read-schemas E)) (λ f. rw f (E .tables .shelf .schemas)))
 
-  pub orders-grown : (d : Decision) {o : SortOrders} {l : List plain.SortOrder} → o ≡ cond (d .grows) (laidSortOrders (put orderBelow (readSortOrder (d .entry .«sort_order»)) (readSortOrders (p .held .shelf .orders)))) (p .held .shelf .orders)
-      → l ≡ cond (d .grows) (put orderBelow (readSortOrder (d .entry .«sort_order»)) (st .metadata .orders)) (st .metadata .orders) → o ≡ laidSortOrders l
+  pub orders-grown : (d : Decision) {o : SortOrders} {l : List plain.SortOrder} → o ≡ cond (d .grows) (laidSortOrders (put orderBelow (readSortOrder (d .entry .«sort_orders» .added)) (readSortOrders (p .held .shelf .orders)))) (p .held .shelf .orders)
+      → l ≡ cond (d .grows) (put orderBelow (readSortOrder (d .entry .«sort_orders» .added)) (st .metadata .orders)) (st .metadata .orders) → o ≡ laidSortOrders l
   orders-grown d q e = q ∙ rw e (cases (d .grows) (λ t. rw (t, read-orders E)) (λ f. rw f (E .tables .shelf .orders)))

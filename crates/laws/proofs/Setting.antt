@@ -27,10 +27,10 @@ use Rattle.rules.specs.ChangeLog.{logsAddition}
 use Rattle.rules.specs.RefUpdates.{refNamed, isHeldRef, setRefChecks, setRef, timeOf, ownAfter}
 use Rattle.rules.specs.Updates.{checks, effect}
 use Rattle.rules.specs.Run.{weight}
-use Rattle.rules.specs.Layout.{given, readRefName, readReference, laidReference, readRefs, laidRefs, readSnapshot, readSnapshots, laidLogEntry, laidSnapshotLog}
+use Rattle.rules.specs.Layout.{given, readRefName, readReference, laidReference, readRef, laidRef, readRefs, laidRefs, readSnapshot, readSnapshots, laidLogEntry, laidSnapshotLog}
 use Rattle.rules.specs.Kinds.{readUpdates, laidUpdate, setRefKind}
 use Rattle.rules.proofs.Checks.{and-left, and-right, passed-unless}
-use Rattle.rules.proofs.Reread.{reread-ref-name, reread-reference}
+use Rattle.rules.proofs.Reread.{reread-ref}
 use Rattle.search.specs.Places.{indexOf}
 use Rattle.tables.proofs.Table.{at, read-length}
 use Rattle.tables.proofs.Each.{tidy-snapshots, tidy-snapshot-log, made-snapshot-log}
@@ -92,14 +92,14 @@ module _ {g : Given} {st : State} {p : Pieces} (E : Represents g st p) where
 -- ---- a ref by itself
 
 pub set-midway : {g : Given} {i : ℕ} {p : Pieces} (S : Standing g i p) (v : Update) (at : drop i (readUpdates (g .updates)) ≡ v ∷ drop (i + 1) (readUpdates (g .updates))) (one : 1 ≤ weight v) (e : updateFormed v ≡ true)
-    → v ≡ SetRef (nameAt g i) (readReference (updateAt g i .reference)) → updateAt g i .kind ≡ setRefKind → Midway g i p
+    → v ≡ SetRef (nameAt g i) (readReference (updateAt g i .refs .reference)) → updateAt g i .kind ≡ setRefKind → Midway g i p
 unfolding checks effect
 set-midway {g} {i} S v at one e q k =
     record {
       state = S .state;
       stands = S .stands;
       more = omega (arith, fits S v at);
-      wanted = readReference (updateAt g i .reference);
+      wanted = readReference (updateAt g i .refs .reference);
       asks = rw k;
       refuses = λ n y. check-refused S v at e (rw q n) y;
       goes = λ n T L. next S v at (accepted S v at e {n = 0} (rw q (sym n)) refl) (rw q T) (rw q L);
@@ -151,13 +151,12 @@ module _ {g : Given} {i : ℕ} {p : Pieces} (W : Midway g i p) {d : Decision} (D
   grows z t = D .grows ∙ rw (t, eq-eqb (d .number) 0 z)
 
   -- the refs after it
-  module _ {r : Refs} (q : r ≡ cond (d .grows) (laidRefs (put refBelow (record { name = readRefName (d .entry .«ref_name»); reference = readReference (d .entry .reference) }) (readRefs (p .held .refs)))) (p .held .refs)) where
+  module _ {r : Refs} (q : r ≡ cond (d .grows) (laidRefs (put refBelow (readRef (d .entry .refs)) (readRefs (p .held .refs)))) (p .held .refs)) where
     refs-after : d .grows ≡ true → r ≡ laidRefs (put refBelow (record { name = name; reference = w }) (W .state .metadata .refs))
-    unfolding laidUpdate
+    unfolding laidUpdate laidRef
     refs-after t =
-        let n : readRefName (d .entry .«ref_name») ≡ name = ap (λ (e : TableUpdate). readRefName (e .«ref_name»)) (D .entry) ∙ reread-ref-name name in
-        let m : readReference (d .entry .reference) ≡ w = ap (λ (e : TableUpdate). readReference (e .reference)) (D .entry) ∙ reread-reference w in
-        q ∙ rw (t, n, m, read-refs (W .stands))
+        let n : readRef (d .entry .refs) ≡ record { name = name; reference = w } = ap (λ (e : TableUpdate). readRef (e .refs)) (D .entry) ∙ reread-ref (record { name = name; reference = w }) in
+        q ∙ rw (t, n, read-refs (W .stands))
 
     pub other-decided : (d .grows && isMain name) ≡ false → Decided g i false (tabled r (p .held .shelf) p) d
     unfolding setRefChecks setRef
@@ -186,14 +185,14 @@ module _ {g : Given} {i : ℕ} {p : Pieces} (W : Midway g i p) {d : Decision} (D
       time = orElse (ownAfter (w .snapshot) (W .state)) (termsOf g .clock)
 
       -- the entry of the snapshot log
-      entry : record { «snapshot_id» = d .entry .reference .«snapshot_id»; «timestamp_ms» = d .builder .own } ≡ laidLogEntry (record { snapshot = w .snapshot; time = time })
+      entry : record { «snapshot_id» = d .entry .refs .reference .«snapshot_id»; «timestamp_ms» = d .builder .own } ≡ laidLogEntry (record { snapshot = w .snapshot; time = time })
       unfolding setRef laidBuilder laidUpdate laidReference time
       entry =
           let y = other (accepts .0) in
           let b : d .builder ≡ laidBuilder (setRef (termsOf g) name w (W .state)) = D .builder (accepts .1) (accepts .0) in
           rw (b, D .entry, y, m)
 
-      pub main-decided : {h : SnapshotLog} {e : SnapshotLogEntry} → e ≡ record { «snapshot_id» = d .entry .reference .«snapshot_id»; «timestamp_ms» = d .builder .own } → p .held .log .count < 128 → h .items ≡ set (p .held .log .items) (p .held .log .count) e → h .count ≡ p .held .log .count + 1 → {id : ℤ} → id ≡ w .snapshot
+      pub main-decided : {h : SnapshotLog} {e : SnapshotLogEntry} → e ≡ record { «snapshot_id» = d .entry .refs .reference .«snapshot_id»; «timestamp_ms» = d .builder .own } → p .held .log .count < 128 → h .items ≡ set (p .held .log .items) (p .held .log .count) e → h .count ≡ p .held .log .count + 1 → {id : ℤ} → id ≡ w .snapshot
           → Decided g i false (mained r h (e .«timestamp_ms») id p) d
       unfolding setRef time
       main-decided {h} {e} a l b c v =

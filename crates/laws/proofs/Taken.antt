@@ -1,71 +1,47 @@
 -- The records that a well-formed update uses, as the tables' functions ask for them.
-use mathlib.Core.Path.{_≡_, refl}
-use mathlib.Core.Bool.{Bool, true}
-use mathlib.Core.List.{List, [], _∷_}
-use lib.Dec.{leb}
-use lib.IntN.{ℤ}
+use mathlib.Core.Path.{_≡_}
+use mathlib.Core.Bool.{true}
 use lib.ListN.{length}
 use borrow.Author.Tests.{leb-true}
-use Rattle.records.specs.Blanks.{noSnapshotId}
-use Rattle.records.specs.declared.counters.SnapshotId.{SnapshotId}
-use Rattle.records.specs.declared.text.RefName.{RefName}
-use Rattle.records.specs.declared.snapshot.SnapshotIds.{SnapshotIds}
 use Rattle.records.specs.declared.update.TableUpdate.{TableUpdate}
-use Rattle.rules.specs.Capacities.{removalRoom, refNameRoom}
-use Rattle.rules.specs.Register as plain
-use Rattle.rules.specs.WellFormed.{updateFormed, removalFormed, refNameFormed}
-use Rattle.rules.specs.Blanks.{isTidyText, isTidySnapshot, isTidySnapshotIds, isBlankSnapshotId, isTidyRefName, isTidyReference, isTidySchema, isTidySchemaIds, isTidySortOrder, isTidyStatisticsFile}
-use Rattle.rules.specs.Layout.{readRefName, readSnapshot, laidSnapshot, readReference, laidReference, readSnapshotIds, laidSnapshotIds}
-use Rattle.rules.specs.Kinds.{readUpdate, isUnusedBlank, isUsedTidy, setBranchSnapshotKind, removeSnapshotsKind, setRefKind, removeRefKind, removeSchemasKind}
-use Rattle.rules.proofs.Checks.{Hold, parts, and-left, and-right}
-use Rattle.rules.proofs.Relaid.{fields-back, back-ref-name, back-snapshot, back-reference, zeroZ}
+use Rattle.rules.specs.Capacities.{refNameRoom}
+use Rattle.rules.specs.WellFormed.{updateFormed, refNameFormed}
+use Rattle.rules.specs.Layout.{readRefName, readSnapshot, laidSnapshot, readReference, laidReference}
+use Rattle.rules.specs.Kinds.{readUpdate, setBranchSnapshotKind, removeSnapshotsKind, setRefKind, removeRefKind, removeSchemasKind}
+use Rattle.rules.proofs.Checks.{and-left}
+use Rattle.rules.proofs.Relaid.{back-ref-name, back-snapshot, back-reference}
 use Rattle.tables.specs.Laid.{LaidName, LaidSnapshotIds, LaidSchemaIds}
 use Rattle.start.proofs.Reading.{formed-tidy, read-set-branch-snapshot, read-remove-snapshots, read-set-ref, read-remove-ref, read-remove-schemas}
-use Rattle.builder.proofs.Given.{given-schema-ids}
-
-blank-id : (x : SnapshotId) → isBlankSnapshotId x ≡ true → x ≡ noSnapshotId
-blank-id x e = λ i. record { 0 = zeroZ (x .0) e i }
-
-ids-laid : (t : SnapshotIds) → isTidySnapshotIds t ≡ true → removalFormed (readSnapshotIds t) ≡ true → LaidSnapshotIds t
-unfolding isTidySnapshotIds laidSnapshotIds
-ids-laid t e f =
-    let n = and-left (leb (length (readSnapshotIds t)) removalRoom) _ f in
-    let r = fields-back noSnapshotId isBlankSnapshotId blank-id (λ (i : SnapshotId). i .0) (λ (z : ℤ). record { 0 = z }) (λ x. refl) removalRoom (t .count) (t .items) e n in
-    record { back = λ i. record { items = r .0 i; count = r .1 i }; fits = leb-true (length (readSnapshotIds t)) removalRoom n }
-
-name-laid : (t : RefName) → isTidyRefName t ≡ true → refNameFormed (readRefName t) ≡ true → LaidName t
-name-laid t e f = let n = leb-true (length (readRefName t)) refNameRoom f in record { back = back-ref-name t e n; fits = n }
+use Rattle.builder.proofs.Parts.{snapshot-tidy, ref-name-tidy, reference-tidy}
+use Rattle.builder.proofs.Given.{given-snapshot-ids, given-schema-ids}
 
 module _ (u : TableUpdate) (f : updateFormed (readUpdate u) ≡ true) where
-  abbrev uses : List Bool
-  uses = isTidySnapshot (u .snapshot) ∷ isTidySnapshotIds (u .«snapshot_ids») ∷ isTidyRefName (u .«ref_name») ∷ isTidyReference (u .reference) ∷ isTidySchema (u .schema) ∷ isTidySchemaIds (u .«schema_ids») ∷ isTidySortOrder (u .«sort_order») ∷ isTidyStatisticsFile (u .statistics) ∷ []
+  pub snapshot-back : laidSnapshot (readSnapshot (u .snapshots .added)) ≡ u .snapshots .added
+  snapshot-back = back-snapshot (u .snapshots .added) (snapshot-tidy u (formed-tidy u f))
 
-  used : Hold (isTidyText (u .location) ∷ uses)
-  unfolding isUsedTidy
-  used = parts (isTidyText (u .location)) uses (and-right (isUnusedBlank u) (isUsedTidy u) (formed-tidy u f))
+  pub reference-back : laidReference (readReference (u .refs .reference)) ≡ u .refs .reference
+  reference-back = back-reference (u .refs .reference) (reference-tidy u (formed-tidy u f))
 
-  pub snapshot-back : laidSnapshot (readSnapshot (u .snapshot)) ≡ u .snapshot
-  snapshot-back = back-snapshot (u .snapshot) (used .1 .0)
-
-  pub reference-back : laidReference (readReference (u .reference)) ≡ u .reference
-  reference-back = back-reference (u .reference) (used .1 .1 .1 .1 .0)
-
-  pub asked-laid : u .kind ≡ removeSnapshotsKind → LaidSnapshotIds (u .«snapshot_ids»)
+  pub asked-laid : u .kind ≡ removeSnapshotsKind → LaidSnapshotIds (u .snapshots .removed)
   unfolding updateFormed
-  asked-laid k = ids-laid (u .«snapshot_ids») (used .1 .1 .0) (rw (read-remove-snapshots u f k) at f)
+  asked-laid k = given-snapshot-ids u (formed-tidy u f) (rw (read-remove-snapshots u f k) at f)
 
-  pub branch-name-laid : u .kind ≡ setBranchSnapshotKind → LaidName (u .«ref_name»)
+  -- a name that fits
+  name-laid : refNameFormed (readRefName (u .refs .name)) ≡ true → LaidName (u .refs .name)
+  name-laid h = let n = leb-true (length (readRefName (u .refs .name))) refNameRoom h in record { back = back-ref-name (u .refs .name) (ref-name-tidy u (formed-tidy u f)) n; fits = n }
+
+  pub branch-name-laid : u .kind ≡ setBranchSnapshotKind → LaidName (u .refs .name)
   unfolding updateFormed
-  branch-name-laid k = name-laid (u .«ref_name») (used .1 .1 .1 .0) (and-left (refNameFormed (readRefName (u .«ref_name»))) _ (rw (read-set-branch-snapshot u f k) at f))
+  branch-name-laid k = name-laid (and-left (refNameFormed (readRefName (u .refs .name))) _ (rw (read-set-branch-snapshot u f k) at f))
 
-  pub set-name-laid : u .kind ≡ setRefKind → LaidName (u .«ref_name»)
+  pub set-name-laid : u .kind ≡ setRefKind → LaidName (u .refs .name)
   unfolding updateFormed
-  set-name-laid k = name-laid (u .«ref_name») (used .1 .1 .1 .0) (and-left (refNameFormed (readRefName (u .«ref_name»))) _ (rw (read-set-ref u f k) at f))
+  set-name-laid k = name-laid (and-left (refNameFormed (readRefName (u .refs .name))) _ (rw (read-set-ref u f k) at f))
 
-  pub removed-name-laid : u .kind ≡ removeRefKind → LaidName (u .«ref_name»)
+  pub removed-name-laid : u .kind ≡ removeRefKind → LaidName (u .refs .name)
   unfolding updateFormed
-  removed-name-laid k = name-laid (u .«ref_name») (used .1 .1 .1 .0) (rw (read-remove-ref u f k) at f)
+  removed-name-laid k = name-laid (rw (read-remove-ref u f k) at f)
 
-  pub schema-ids-laid : u .kind ≡ removeSchemasKind → LaidSchemaIds (u .«schema_ids»)
+  pub schema-ids-laid : u .kind ≡ removeSchemasKind → LaidSchemaIds (u .schemas .removed)
   unfolding updateFormed
   schema-ids-laid k = given-schema-ids u (formed-tidy u f) (rw (read-remove-schemas u f k) at f)

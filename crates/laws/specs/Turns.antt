@@ -5,7 +5,8 @@ use mathlib.Core.Bool.{Bool, true, false, cond}
 use mathlib.Core.List.{List, []}
 use lib.IntN.{pos}
 use lib.ListN.{length, getD}
-use Rattle.records.specs.Blanks.{noSnapshot, noReference}
+use Rattle.records.specs.Blanks.{noSnapshotId, noSnapshot, noReference, noSchemaId}
+use Rattle.records.specs.declared.text.Text.{Text}
 use Rattle.records.specs.declared.update.TableUpdate.{TableUpdate}
 use Rattle.rules.specs.Words.{firstOf}
 use Rattle.rules.specs.Register.{State, Reference}
@@ -19,16 +20,28 @@ use Rattle.builder.specs.declared.decision.Decision.{Decision}
 use Rattle.ref_updates.specs.Refs.{askedRef}
 use Rattle.laws.specs.Standing.{Given, answerOf, termsOf, Pieces, stored, Tables, Logs, Represents, Standing}
 
--- what the logic reads past the end of an array
+-- what the logic reads past the end of an array: every array in it is empty
+abbrev noBytes : Text
+noBytes = record { bytes = []; len = 0 }
+
 abbrev pub nothing : TableUpdate
-nothing = record { kind = 0; uuid = []; «format_version» = 0; location = record { bytes = []; len = 0 }; snapshot = noSnapshot; «snapshot_ids» = record { items = []; count = 0 }; «ref_name» = record { bytes = []; len = 0 }; reference = noReference; schema = record { «schema_id» = record { 0 = pos 0 }; items = []; count = 0 }; «schema_id» = record { 0 = pos 0 }; «schema_ids» = record { items = []; count = 0 }; «sort_order» = record { «order_id» = record { 0 = pos 0 }; items = []; count = 0 }; «sort_order_id» = record { 0 = pos 0 }; statistics = record { «snapshot_id» = record { 0 = pos 0 }; «statistics_path» = record { bytes = []; len = 0 }; «file_size_in_bytes» = record { 0 = pos 0 } }; «statistics_id» = record { 0 = pos 0 } }
+nothing =
+    record {
+      kind = 0;
+      fields = record { uuid = []; «format_version» = 0; location = noBytes };
+      snapshots = record { added = noSnapshot; removed = record { items = []; count = 0 } };
+      refs = record { name = record { bytes = []; len = 0 }; reference = noReference };
+      schemas = record { added = record { «schema_id» = noSchemaId; items = []; count = 0 }; chosen = noSchemaId; removed = record { items = []; count = 0 } };
+      «sort_orders» = record { added = record { «order_id» = record { 0 = pos 0 }; items = []; count = 0 }; chosen = record { 0 = pos 0 } };
+      statistics = record { file = record { «snapshot_id» = noSnapshotId; «statistics_path» = noBytes; «file_size_in_bytes» = record { 0 = pos 0 } }; removed = noSnapshotId };
+    }
 
 -- the update at a place
 abbrev pub updateAt : Given → ℕ → TableUpdate
 updateAt g i = getD (g .updates .items) i nothing
 
 abbrev pub nameAt : Given → ℕ → List ℕ
-nameAt g i = readRefName (updateAt g i .«ref_name»)
+nameAt g i = readRefName (updateAt g i .refs .name)
 
 -- the run is refused with a number, at a place
 abbrev pub RefusedWith : Given → ℕ → ℕ → Type 0

@@ -4,6 +4,7 @@ ghost use mathlib.Core.Path.{_≡_};
 ghost use mathlib.Core.Bool.{true, false, cond, not, _&&_};
 ghost use mathlib.Core.Option.{some};
 ghost use lib.IntN.{sucℤ};
+ghost use Rattle.records.specs.Blanks.{noSortOrdersPart};
 ghost use Rattle.rules.specs.Words.{eqZ, someWith, isEmpty, first, highest as highestOf, put};
 ghost use Rattle.rules.specs.Capacities.{largestSortOrderId};
 ghost use Rattle.rules.specs.Register.{Terms, State};
@@ -11,7 +12,7 @@ ghost use Rattle.rules.specs.WellFormed.{hasSchema, orderBelow, ordersFormed, u
 ghost use Rattle.rules.specs.SchemaUpdates.{holdsSchema, chosen, choiceLogged};
 ghost use Rattle.rules.specs.OrderUpdates.{reusedOrder, orderIds, newOrderId, setDefaultSortOrderChecks, setDefaultSortOrder};
 ghost use Rattle.rules.specs.Layout.{readSchema, readSchemas, readSortOrder, readSortOrders, laidSortOrders};
-ghost use Rattle.rules.specs.Kinds.{isTidyUpdate, readKind, ofKind, withSortOrderId, addSortOrderKind, setDefaultSortOrderKind};
+ghost use Rattle.rules.specs.Kinds.{isTidyUpdate, readKind, ofKind, withSortOrdersPart, withSortOrderId, addSortOrderKind, setDefaultSortOrderKind};
 ghost use Rattle.tables.specs.Laid.{LaidSchema, LaidSchemas, LaidOrder, LaidOrders};
 ghost use Rattle.builder.specs.Pieces.{laidBuilder};
 ghost use Rattle.builder.specs.Answers.{Answers, Decides};
@@ -210,7 +211,7 @@ pub struct OrderSet {
 
 fn order_choice(b: TableMetadataBuilder, t: SortOrders, id: SortOrderId) -> OrderSet
     requires { ⌜ LaidOrders t ⌝ }
-    ensures { λ r. ⌜ ((st : State) → b ≡ laidBuilder st → t ≡ laidSortOrders (st .metadata .orders) → Answers (setDefaultSortOrderChecks (id .0) st) st (setDefaultSortOrder (id .0) st) (r .number) (r .logs) (r .builder) (withSortOrderId (r .«order_id») (ofKind setDefaultSortOrderKind))) ⌝ }
+    ensures { λ r. ⌜ ((st : State) → b ≡ laidBuilder st → t ≡ laidSortOrders (st .metadata .orders) → Answers (setDefaultSortOrderChecks (id .0) st) st (setDefaultSortOrder (id .0) st) (r .number) (r .logs) (r .builder) (withSortOrdersPart (withSortOrderId (r .«order_id») noSortOrdersPart) (ofKind setDefaultSortOrderKind))) ⌝ }
 {
     let mut f = b.fields;
     let current = f.default_sort_order_id;
@@ -250,12 +251,13 @@ pub fn add_sort_order(
     requires { ⌜ u .kind ≡ addSortOrderKind ⌝ }
     ensures { λ r. ⌜ OrderDecided b schemas t u r ⌝ }
 {
-    let o = u.sort_order;
-    let x = order_addition(b, t, schemas, o);
+    let mut part = u.sort_orders;
+    let x = order_addition(b, t, schemas, part.added);
     let y = x.order;
     let c = x.builder;
+    part.added = y;
     let mut e = u;
-    e.sort_order = y;
+    e.sort_orders = part;
     Decision {
         number: x.number,
         logs: x.logs,
@@ -268,13 +270,11 @@ pub fn add_sort_order(
 // The table after an addition: a new order is put into it.
 pub fn orders_after(t: SortOrders, d: Decision) -> SortOrders
     requires { ⌜ LaidOrders t ⌝ }
-    requires { ⌜ (d .grows ≡ true → NewOrder t (d .entry .«sort_order»)) ⌝ }
-    ensures { λ r. ⌜ r ≡ cond (d .grows) (laidSortOrders (put orderBelow (readSortOrder (d .entry .«sort_order»)) (readSortOrders t))) t ⌝ }
+    requires { ⌜ (d .grows ≡ true → NewOrder t (d .entry .«sort_orders» .added)) ⌝ }
+    ensures { λ r. ⌜ r ≡ cond (d .grows) (laidSortOrders (put orderBelow (readSortOrder (d .entry .«sort_orders» .added)) (readSortOrders t))) t ⌝ }
 {
-    let e = d.entry;
-    let o = e.sort_order;
     if d.grows {
-        return tables::sort_orders::put(t, o);
+        return tables::sort_orders::put(t, d.entry.sort_orders.added);
     }
     t
 }
@@ -285,10 +285,12 @@ pub fn set_default_sort_order(b: TableMetadataBuilder, t: SortOrders, u: TableUp
     requires { ⌜ u .kind ≡ setDefaultSortOrderKind ⌝ }
     ensures { λ r. ⌜ ((terms : Terms) (st : State) → b ≡ laidBuilder st → t ≡ laidSortOrders (st .metadata .orders) → Decides terms u st r) ⌝ }
 {
-    let x = order_choice(b, t, u.sort_order_id);
+    let mut part = u.sort_orders;
+    let x = order_choice(b, t, part.chosen);
     let c = x.builder;
     let id = x.order_id;
+    part.chosen = id;
     let mut e = u;
-    e.sort_order_id = id;
+    e.sort_orders = part;
     decided(x.number, x.logs, c, e)
 }

@@ -27,6 +27,11 @@ use Rattle.records.specs.declared.metadata.MetadataLogEntry.{MetadataLog
 use Rattle.records.specs.declared.metadata.MetadataLog.{MetadataLog}
 use Rattle.records.specs.declared.metadata.SingleFields.{SingleFields}
 use Rattle.records.specs.declared.metadata.TableMetadata.{TableMetadata}
+use Rattle.records.specs.declared.part.FieldsPart.{FieldsPart}
+use Rattle.records.specs.declared.part.SnapshotsPart.{SnapshotsPart}
+use Rattle.records.specs.declared.part.SchemasPart.{SchemasPart}
+use Rattle.records.specs.declared.part.SortOrdersPart.{SortOrdersPart}
+use Rattle.records.specs.declared.part.StatisticsPart.{StatisticsPart}
 use Rattle.records.specs.declared.update.TableUpdate.{TableUpdate}
 use Rattle.records.specs.declared.update.UpdateList.{UpdateList}
 
@@ -162,24 +167,23 @@ noMetadata = record {
 
 -- ---- updates
 
+unfoldable pub noFieldsPart : FieldsPart
+noFieldsPart = record { uuid = replicate 16 0; «format_version» = 0; location = noText }
+
+unfoldable pub noSnapshotsPart : SnapshotsPart
+noSnapshotsPart = record { added = noSnapshot; removed = noSnapshotIds }
+
+unfoldable pub noSchemasPart : SchemasPart
+noSchemasPart = record { added = noSchema; chosen = noSchemaId; removed = noSchemaIds }
+
+unfoldable pub noSortOrdersPart : SortOrdersPart
+noSortOrdersPart = record { added = noSortOrder; chosen = record { 0 = pos 0 } }
+
+unfoldable pub noStatisticsPart : StatisticsPart
+noStatisticsPart = record { file = noStatisticsFile; removed = noSnapshotId }
+
 unfoldable pub noUpdate : TableUpdate
-noUpdate = record {
-  kind = 0;
-  uuid = replicate 16 0;
-  «format_version» = 0;
-  location = noText;
-  snapshot = noSnapshot;
-  «snapshot_ids» = noSnapshotIds;
-  «ref_name» = noRefName;
-  reference = noReference;
-  schema = noSchema;
-  «schema_id» = record { 0 = pos 0 };
-  «schema_ids» = noSchemaIds;
-  «sort_order» = noSortOrder;
-  «sort_order_id» = record { 0 = pos 0 };
-  statistics = noStatisticsFile;
-  «statistics_id» = noSnapshotId;
-}
+noUpdate = record { kind = 0; fields = noFieldsPart; snapshots = noSnapshotsPart; refs = noRef; schemas = noSchemasPart; «sort_orders» = noSortOrdersPart; statistics = noStatisticsPart }
 
 unfoldable pub noUpdates : UpdateList
 noUpdates = record { items = replicate 64 noUpdate; count = 0 }

@@ -178,7 +178,7 @@ pub fn run(metadata: TableMetadata, updates: UpdateList, terms: RunTerms, text: 
             if !decision.grows {
                 continue;
             }
-            let snapshot = update.snapshot;
+            let snapshot = update.snapshots.added;
             let id = snapshot.snapshot_id;
             let key = id.0;
             if is_last(&ids[..held], key) {
@@ -214,7 +214,7 @@ pub fn run(metadata: TableMetadata, updates: UpdateList, terms: RunTerms, text: 
                 update,
             );
             refs = refs_after(refs, decision);
-            let main = is_main_name(update.ref_name);
+            let main = is_main_name(update.refs.name);
             if !(decision.grows & main) {
                 continue;
             }
@@ -228,7 +228,7 @@ pub fn run(metadata: TableMetadata, updates: UpdateList, terms: RunTerms, text: 
         }
         if kind == REMOVE_SNAPSHOTS {
             decision = remove_snapshots(builder, snapshots, update);
-            snapshots = tables::snapshots::without(snapshots, update.snapshot_ids);
+            snapshots = tables::snapshots::without(snapshots, update.snapshots.removed);
             ids = ids_of(snapshots);
             let left = snapshots.count;
             refs = tables::refs::pointing(refs, &ids[..left]);
@@ -237,7 +237,7 @@ pub fn run(metadata: TableMetadata, updates: UpdateList, terms: RunTerms, text: 
         }
         if kind == REMOVE_REF {
             decision = remove_ref(builder, refs, update);
-            refs = tables::refs::without(refs, update.ref_name);
+            refs = tables::refs::without(refs, update.refs.name);
             continue;
         }
         if kind == ADD_SCHEMA {
@@ -251,7 +251,7 @@ pub fn run(metadata: TableMetadata, updates: UpdateList, terms: RunTerms, text: 
         }
         if kind == REMOVE_SCHEMAS {
             decision = remove_schemas(builder, schemas, update);
-            schemas = tables::schemas::without(schemas, update.schema_ids);
+            schemas = tables::schemas::without(schemas, update.schemas.removed);
             continue;
         }
         if kind == ADD_SORT_ORDER {
@@ -270,7 +270,7 @@ pub fn run(metadata: TableMetadata, updates: UpdateList, terms: RunTerms, text: 
         }
         if kind == REMOVE_STATISTICS {
             decision = remove_statistics(builder, statistics, update);
-            statistics = tables::statistics::without(statistics, update.statistics_id);
+            statistics = tables::statistics::without(statistics, update.statistics.removed);
             continue;
         }
         if kind == SET_PARTITION_STATISTICS {
@@ -281,7 +281,7 @@ pub fn run(metadata: TableMetadata, updates: UpdateList, terms: RunTerms, text: 
         decision = remove_statistics(builder, partition_statistics, update);
         partition_statistics = tables::statistics::without(
             partition_statistics,
-            update.statistics_id,
+            update.statistics.removed,
         );
     }
     if number != ACCEPTED {

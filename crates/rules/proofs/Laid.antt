@@ -11,7 +11,7 @@ use lib.Signed.{nonNeg}
 use lib.ListN.{length, take, replicate, length-append, length-replicate, length-map}
 use lib.Seq.{take-at, drop-at}
 use borrow.Author.Tests.{leb-true, eq-eqb}
-use Rattle.records.specs.Blanks.{noSnapshotId, noSnapshot, noLogEntry, noRef, noSchemaField, noSchema, noSchemaId, noSortField, noSortOrder, noStatisticsFile, noMetadataLogEntry, noUpdate}
+use Rattle.records.specs.Blanks.{noSnapshotId, noSnapshot, noLogEntry, noRef, noSchemaField, noSchema, noSchemaId, noSortField, noSortOrder, noStatisticsFile, noMetadataLogEntry, noFieldsPart, noSnapshotsPart, noSchemasPart, noSortOrdersPart, noStatisticsPart, noUpdate}
 use Rattle.rules.specs.Words.{isSome, orElse, all, unequal, ascending}
 use Rattle.rules.specs.Capacities.{snapshotRoom, refRoom, snapshotLogRoom, metadataLogRoom, schemaRoom, schemaFieldRoom, sortOrderRoom, sortFieldRoom, statisticsRoom, removalRoom, refNameRoom, textRoom}
 use Rattle.rules.specs.Register as plain
@@ -21,7 +21,7 @@ use Rattle.rules.specs.Register.StatisticsTable.{Statistics, PartitionSt
 use Rattle.rules.specs.WellFormed.{snapshotFormed, refFormed, refNameFormed, fileNameFormed, schemaFormed, orderFormed, offeredOrderFormed, sortFieldFormed, statisticsFileFormed, removalFormed, atLeastOne, versionFormed, locationFormed, fieldIds, snapshotBelow, refBelow, schemaBelow, orderBelow, statisticsBelow, snapshotsFormed, refsFormed, snapshotLogFormed, metadataLogFormed, schemasFormed, ordersFormed, statisticsFormed, fieldsFormed, refsHeld, mainAgrees, currentSchemaHeld, defaultOrderHeld, metadataFormed, updateFormed}
 use Rattle.rules.specs.Blanks.{isZero, isZeroZ, restBlank, tidySlots, isTidyRefName, isTidyText, isTidySnapshot, isBlankSnapshot, isTidySnapshots, isBlankSnapshotId, isTidySnapshotIds, isBlankSnapshotIds, isBlankLogEntry, isTidySnapshotLog, isTidyReference, isBlankReference, isTidyRef, isBlankRef, isTidyRefs, isBlankSchemaField, isTidySchema, isBlankSchema, isTidySchemas, isBlankSchemaId, isTidySchemaIds, isBlankSchemaIds, isBlankSortField, isTidySortOrder, isBlankSortOrder, isTidySortOrders, isTidyStatisticsFile, isBlankStatisticsFile, isTidyStatistics, isTidyMetadataLogEntry, isBlankMetadataLogEntry, isTidyMetadataLog, isTidyFields, isTidyMetadata}
 use Rattle.rules.specs.Layout.{pad, firstRow, addedRows, laidRefName, laidText, laidSnapshot, laidSnapshots, laidSnapshotIds, laidLogEntry, laidSnapshotLog, laidReference, laidRef, laidRefs, laidSchemaField, laidSchema, laidSchemas, laidSchemaIds, laidSortField, laidSortOrder, laidSortOrders, laidStatisticsFile, laidStatistics, laidMetadataLogEntry, laidMetadataLog, laidFields, laidMetadata}
-use Rattle.rules.specs.Kinds.{isUnusedBlank, isUsedTidy, isTidyUpdate, laidUpdate}
+use Rattle.rules.specs.Kinds.{isTidyFieldsPart, isTidySnapshotsPart, isTidyRefsPart, isTidySchemasPart, isTidySortOrdersPart, isTidyStatisticsPart, isTidyUpdate, laidUpdate}
 use Rattle.rules.proofs.Checks.{both, and-left, and-right, parts, whole}
 
 -- ---- numbers behind a flag
@@ -246,52 +246,28 @@ tidy-metadata p f =
 
 -- ---- updates
 
--- the records that its kind does not use stay as in a blank update
-unused-blank : (u : Update) → isUnusedBlank (laidUpdate u) ≡ true
-unfolding isUnusedBlank laidUpdate noUpdate noSchema noSortOrder isBlankSnapshot isBlankSnapshotIds isBlankReference isBlankSchema isBlankSchemaIds isBlankSortField isBlankSortOrder isBlankStatisticsFile
-unused-blank (AssignUuid uuid) = refl
-unused-blank (UpgradeFormatVersion v) = refl
-unused-blank (SetLocation location) = refl
-unused-blank (AddSnapshot s) = refl
-unused-blank (SetBranchSnapshot name s) = refl
-unused-blank (RemoveSnapshots ids) = refl
-unused-blank (SetRef name r) = refl
-unused-blank (RemoveRef name) = refl
-unused-blank (AddSchema s) = refl
-unused-blank (SetCurrentSchema id) = refl
-unused-blank (RemoveSchemas ids) = refl
-unused-blank (AddSortOrder o) = refl
-unused-blank (SetDefaultSortOrder id) = refl
-unused-blank (SetStatistics Statistics x) = refl
-unused-blank (SetStatistics PartitionStatistics x) = refl
-unused-blank (RemoveStatistics Statistics id) = refl
-unused-blank (RemoveStatistics PartitionStatistics id) = refl
-unused-blank (NotFormed counts) = refl
-
--- what it does use is tidy where it is well formed, and a blank record is tidy
-used-tidy : (u : Update) → updateFormed u ≡ true → isUsedTidy (laidUpdate u) ≡ true
-unfolding isUsedTidy laidUpdate updateFormed noUpdate noSchema noSortOrder isTidySnapshot isTidySnapshotIds isTidyReference isTidySchema isTidySchemaIds isTidySortOrder isBlankSortField isTidyStatisticsFile
-used-tidy (AssignUuid uuid) f = refl
-used-tidy (UpgradeFormatVersion v) f = refl
-used-tidy (SetLocation location) f = rw (tidy-text location f)
-used-tidy (AddSnapshot s) f = rw (tidy-snapshot s)
-used-tidy (SetBranchSnapshot name s) f = rw (tidy-ref-name name (and-left (refNameFormed name) _ f), tidy-snapshot s)
-used-tidy (RemoveSnapshots ids) f = rw (tidy-snapshot-ids ids f)
-used-tidy (SetRef name r) f = rw (tidy-ref-name name (and-left (refNameFormed name) _ f), tidy-reference r)
-used-tidy (RemoveRef name) f = rw (tidy-ref-name name f)
-used-tidy (AddSchema s) f = rw (tidy-schema s f)
-used-tidy (SetCurrentSchema id) f = refl
-used-tidy (RemoveSchemas ids) f = rw (tidy-schema-ids ids f)
-used-tidy (AddSortOrder o) f = rw (tidy-sort-order o f)
-used-tidy (SetDefaultSortOrder id) f = refl
-used-tidy (SetStatistics which x) f = tidy-statistics-file x f
-used-tidy (RemoveStatistics which id) f = refl
-used-tidy (NotFormed counts) f = absurd (false≢true f)
+-- an update that is well formed is laid out tidily: a part that its kind does not use is blank, and what it uses is tidy where it is well formed
+pub tidy-update : (u : Update) → updateFormed u ≡ true → isTidyUpdate (laidUpdate u) ≡ true
+unfolding isTidyFieldsPart isTidySnapshotsPart isTidyRefsPart isTidySchemasPart isTidySortOrdersPart isTidyStatisticsPart noUpdate noFieldsPart noSnapshotsPart noSchemasPart noSortOrdersPart noStatisticsPart noSchema noSortOrder isBlankSnapshot isBlankSnapshotIds isBlankReference isBlankSchema isBlankSchemaIds isBlankSortField isBlankSortOrder isBlankStatisticsFile isTidySnapshot isTidySnapshotIds isTidyReference isTidySchema isTidySchemaIds isTidySortOrder isTidyStatisticsFile laidUpdate updateFormed
+tidy-update (AssignUuid uuid) f = refl
+tidy-update (UpgradeFormatVersion v) f = refl
+tidy-update (SetLocation location) f = rw (tidy-text location f)
+tidy-update (AddSnapshot s) f = rw (tidy-snapshot s)
+tidy-update (SetBranchSnapshot name s) f = rw (tidy-ref-name name (and-left (refNameFormed name) _ f), tidy-snapshot s)
+tidy-update (RemoveSnapshots ids) f = rw (tidy-snapshot-ids ids f)
+tidy-update (SetRef name r) f = rw (tidy-ref-name name (and-left (refNameFormed name) _ f), tidy-reference r)
+tidy-update (RemoveRef name) f = rw (tidy-ref-name name f)
+tidy-update (AddSchema s) f = rw (tidy-schema s f)
+tidy-update (SetCurrentSchema id) f = refl
+tidy-update (RemoveSchemas ids) f = rw (tidy-schema-ids ids f)
+tidy-update (AddSortOrder o) f = rw (tidy-sort-order o f)
+tidy-update (SetDefaultSortOrder id) f = refl
+tidy-update (SetStatistics Statistics x) f = rw (tidy-statistics-file x f)
+tidy-update (SetStatistics PartitionStatistics x) f = rw (tidy-statistics-file x f)
+tidy-update (RemoveStatistics Statistics id) f = refl
+tidy-update (RemoveStatistics PartitionStatistics id) f = refl
+tidy-update (NotFormed counts) f = absurd (false≢true f)
 
 pub tidy-no-update : isTidyUpdate noUpdate ≡ true
-unfolding isUnusedBlank isUsedTidy noUpdate noSchema noSortOrder isBlankSnapshot isBlankSnapshotIds isBlankReference isBlankSchema isBlankSchemaIds isBlankSortField isBlankSortOrder isTidySnapshot isTidySnapshotIds isTidyReference isTidySchema isTidySchemaIds isTidySortOrder isTidyStatisticsFile isBlankStatisticsFile
+unfolding isTidyFieldsPart isTidySnapshotsPart isTidyRefsPart isTidySchemasPart isTidySortOrdersPart isTidyStatisticsPart noUpdate noFieldsPart noSnapshotsPart noSchemasPart noSortOrdersPart noStatisticsPart noSchema noSortOrder isBlankSnapshot isBlankSnapshotIds isBlankReference isBlankSchema isBlankSchemaIds isBlankSortField isBlankSortOrder isBlankStatisticsFile isTidySnapshot isTidySnapshotIds isTidyReference isTidySchema isTidySchemaIds isTidySortOrder isTidyStatisticsFile
 tidy-no-update = refl
-
--- an update that is well formed is laid out tidily
-pub tidy-update : (u : Update) → updateFormed u ≡ true → isTidyUpdate (laidUpdate u) ≡ true
-tidy-update u f = both (unused-blank u) (used-tidy u f)

@@ -12,8 +12,12 @@ use lib.Signed.{nonNeg}
 use lib.ListN.{length, set, take, drop, replicate, length-append, length-replicate, length-take, length-drop, length-map, take-append-drop}
 use lib.Seq.{set-at}
 use borrow.Author.Tests.{eqb-true, leb-true, not-true}
-use Rattle.records.specs.Blanks.{noRefName, noText, noSnapshot, noLogEntry, noReference, noRef, noSchemaField, noSchema, noSortField, noSortOrder, noStatisticsFile, noMetadataLogEntry}
+use Rattle.records.specs.Blanks.{noRefName, noText, noSnapshotId, noSnapshot, noSnapshotIds, noLogEntry, noReference, noRef, noSchemaField, noSchema, noSchemaId, noSchemaIds, noSortField, noSortOrder, noStatisticsFile, noMetadataLogEntry}
 use Rattle.records.specs.declared.counters.RowId.{RowId}
+use Rattle.records.specs.declared.counters.SnapshotId.{SnapshotId}
+use Rattle.records.specs.declared.counters.SchemaId.{SchemaId}
+use Rattle.records.specs.declared.snapshot.SnapshotIds.{SnapshotIds}
+use Rattle.records.specs.declared.schema.SchemaIds.{SchemaIds}
 use Rattle.records.specs.declared.text.RefName.{RefName}
 use Rattle.records.specs.declared.text.Text.{Text}
 use Rattle.records.specs.declared.snapshot.SnapshotLogEntry.{SnapshotLogEntry}
@@ -36,10 +40,10 @@ use Rattle.records.specs.declared.metadata.TableMetadata.{TableMetadata}
 use Rattle.records.specs.declared.snapshot.Snapshot.{Snapshot}
 use Rattle.records.specs.declared.snapshot.Snapshots.{Snapshots}
 use Rattle.rules.specs.Words.{isSome, orElse, all, unequal, ascending}
-use Rattle.rules.specs.Capacities.{snapshotRoom, refRoom, snapshotLogRoom, metadataLogRoom, schemaRoom, schemaFieldRoom, sortOrderRoom, sortFieldRoom, statisticsRoom, refNameRoom, textRoom}
-use Rattle.rules.specs.WellFormed.{snapshotFormed, refFormed, refNameFormed, fileNameFormed, schemaFormed, orderFormed, offeredOrderFormed, sortFieldFormed, statisticsFileFormed, atLeastOne, versionFormed, locationFormed, fieldIds, snapshotBelow, refBelow, schemaBelow, orderBelow, statisticsBelow, snapshotsFormed, refsFormed, snapshotLogFormed, metadataLogFormed, schemasFormed, ordersFormed, statisticsFormed, fieldsFormed, refsHeld, mainAgrees, currentSchemaHeld, defaultOrderHeld, metadataFormed}
-use Rattle.rules.specs.Blanks.{isZero, isZeroZ, restBlank, tidySlots, noneUsed, isTidyRefName, isBlankRefName, isTidyText, isBlankText, isTidySnapshot, isBlankSnapshot, isTidySnapshots, isBlankLogEntry, isTidySnapshotLog, isTidyReference, isBlankReference, isTidyRef, isBlankRef, isTidyRefs, isBlankSchemaField, isTidySchema, isBlankSchema, isTidySchemas, isBlankSortField, isTidySortOrder, isBlankSortOrder, isTidySortOrders, isTidyStatisticsFile, isBlankStatisticsFile, isTidyStatistics, isTidyMetadataLogEntry, isBlankMetadataLogEntry, isTidyMetadataLog, isTidyFields, isTidyMetadata}
-use Rattle.rules.specs.Layout.{counted, pad, given, firstRow, addedRows, readRefName, laidRefName, readText, laidText, readSnapshot, laidSnapshot, readSnapshots, laidSnapshots, readLogEntry, laidLogEntry, readSnapshotLog, laidSnapshotLog, readReference, laidReference, readRef, laidRef, readRefs, laidRefs, readSchemaField, laidSchemaField, readSchema, laidSchema, readSchemas, laidSchemas, readSortField, laidSortField, readSortOrder, laidSortOrder, readSortOrders, laidSortOrders, readStatisticsFile, laidStatisticsFile, readStatistics, laidStatistics, readMetadataLogEntry, laidMetadataLogEntry, readMetadataLog, laidMetadataLog, readFields, laidFields, readMetadata, laidMetadata}
+use Rattle.rules.specs.Capacities.{snapshotRoom, refRoom, snapshotLogRoom, metadataLogRoom, schemaRoom, schemaFieldRoom, sortOrderRoom, sortFieldRoom, statisticsRoom, removalRoom, refNameRoom, textRoom}
+use Rattle.rules.specs.WellFormed.{snapshotFormed, refFormed, refNameFormed, fileNameFormed, schemaFormed, orderFormed, offeredOrderFormed, sortFieldFormed, statisticsFileFormed, removalFormed, atLeastOne, versionFormed, locationFormed, fieldIds, snapshotBelow, refBelow, schemaBelow, orderBelow, statisticsBelow, snapshotsFormed, refsFormed, snapshotLogFormed, metadataLogFormed, schemasFormed, ordersFormed, statisticsFormed, fieldsFormed, refsHeld, mainAgrees, currentSchemaHeld, defaultOrderHeld, metadataFormed}
+use Rattle.rules.specs.Blanks.{isZero, isZeroZ, restBlank, tidySlots, noneUsed, isBlankUuid, isTidyRefName, isBlankRefName, isTidyText, isBlankText, isTidySnapshot, isBlankSnapshot, isTidySnapshots, isBlankSnapshotId, isTidySnapshotIds, isBlankSnapshotIds, isBlankLogEntry, isTidySnapshotLog, isTidyReference, isBlankReference, isTidyRef, isBlankRef, isTidyRefs, isBlankSchemaField, isTidySchema, isBlankSchema, isTidySchemas, isBlankSchemaId, isTidySchemaIds, isBlankSchemaIds, isBlankSortField, isTidySortOrder, isBlankSortOrder, isTidySortOrders, isTidyStatisticsFile, isBlankStatisticsFile, isTidyStatistics, isTidyMetadataLogEntry, isBlankMetadataLogEntry, isTidyMetadataLog, isTidyFields, isTidyMetadata}
+use Rattle.rules.specs.Layout.{counted, pad, given, firstRow, addedRows, readRefName, laidRefName, readText, laidText, readSnapshot, laidSnapshot, readSnapshots, laidSnapshots, readSnapshotIds, laidSnapshotIds, readLogEntry, laidLogEntry, readSnapshotLog, laidSnapshotLog, readReference, laidReference, readRef, laidRef, readRefs, laidRefs, readSchemaField, laidSchemaField, readSchema, laidSchema, readSchemas, laidSchemas, readSchemaIds, laidSchemaIds, readSortField, laidSortField, readSortOrder, laidSortOrder, readSortOrders, laidSortOrders, readStatisticsFile, laidStatisticsFile, readStatistics, laidStatistics, readMetadataLogEntry, laidMetadataLogEntry, readMetadataLog, laidMetadataLog, readFields, laidFields, readMetadata, laidMetadata}
 use Rattle.rules.specs.Register as plain
 use Rattle.rules.proofs.Orders.{eqZ-equal}
 use Rattle.rules.proofs.Checks.{and-left, and-right, parts}
@@ -159,6 +163,9 @@ back-ref-name t e h =
     let n : length (readRefName t) ≡ t .len = length-counted 0 (t .bytes) (t .len) in
     λ i. record { bytes = bytes-back refNameRoom (t .bytes) (t .len) e (omega arith) i; len = n i }
 
+pub blank-uuid : (l : List ℕ) → isBlankUuid l ≡ true → l ≡ replicate 16 0
+blank-uuid l e = unused 0 isZero zero 16 0 l e .0
+
 pub blank-text : (t : Text) → isBlankText t ≡ true → t ≡ noText
 blank-text t e = let k : (t .bytes ≡ replicate textRoom 0) × (t .len ≡ 0) = unused 0 isZero zero textRoom (t .len) (t .bytes) e in λ i. record { bytes = k .0 i; len = k .1 i }
 
@@ -207,6 +214,19 @@ back-snapshot s e =
       «first_row_id» = r .0 i;
       «added_rows» = r .1 i;
     }
+
+blank-snapshot-id : (x : SnapshotId) → isBlankSnapshotId x ≡ true → x ≡ noSnapshotId
+blank-snapshot-id x e = λ i. record { 0 = zeroZ (x .0) e i }
+
+pub blank-snapshot-ids : (t : SnapshotIds) → isBlankSnapshotIds t ≡ true → t ≡ noSnapshotIds
+unfolding isBlankSnapshotIds
+blank-snapshot-ids t e = let k = unused noSnapshotId isBlankSnapshotId blank-snapshot-id removalRoom (t .count) (t .items) e in λ i. record { items = k .0 i; count = k .1 i }
+
+pub back-snapshot-ids : (t : SnapshotIds) → isTidySnapshotIds t ≡ true → removalFormed (readSnapshotIds t) ≡ true → laidSnapshotIds (readSnapshotIds t) ≡ t
+unfolding isTidySnapshotIds laidSnapshotIds
+back-snapshot-ids t e f =
+    let r = fields-back noSnapshotId isBlankSnapshotId blank-snapshot-id (λ (x : SnapshotId). x .0) (λ (z : ℤ). record { 0 = z }) (λ x. refl) removalRoom (t .count) (t .items) e (and-left (leb (length (readSnapshotIds t)) removalRoom) _ f) in
+    λ i. record { items = r .0 i; count = r .1 i }
 
 pub back-snapshots : (t : Snapshots) → isTidySnapshots t ≡ true → snapshotsFormed (readSnapshots t) ≡ true → laidSnapshots (readSnapshots t) ≡ t
 unfolding isTidySnapshots laidSnapshots snapshotsFormed
@@ -302,6 +322,19 @@ back-schema s e f =
     let k = parts (nonNeg (s .«schema_id» .0)) (leb (length (readSchema s .fields)) schemaFieldRoom ∷ all atLeastOne (fieldIds (readSchema s)) ∷ unequal (fieldIds (readSchema s)) ∷ []) f in
     let r = fields-back noSchemaField isBlankSchemaField blank-schema-field readSchemaField laidSchemaField (λ x. refl) schemaFieldRoom (s .count) (s .items) e (k .1 .0) in
     λ i. record { «schema_id» = s .«schema_id»; items = r .0 i; count = r .1 i }
+
+blank-schema-id : (x : SchemaId) → isBlankSchemaId x ≡ true → x ≡ noSchemaId
+blank-schema-id x e = λ i. record { 0 = zeroZ (x .0) e i }
+
+pub blank-schema-ids : (t : SchemaIds) → isBlankSchemaIds t ≡ true → t ≡ noSchemaIds
+unfolding isBlankSchemaIds
+blank-schema-ids t e = let k = unused noSchemaId isBlankSchemaId blank-schema-id removalRoom (t .count) (t .items) e in λ i. record { items = k .0 i; count = k .1 i }
+
+pub back-schema-ids : (t : SchemaIds) → isTidySchemaIds t ≡ true → removalFormed (readSchemaIds t) ≡ true → laidSchemaIds (readSchemaIds t) ≡ t
+unfolding isTidySchemaIds laidSchemaIds
+back-schema-ids t e f =
+    let r = fields-back noSchemaId isBlankSchemaId blank-schema-id (λ (x : SchemaId). x .0) (λ (z : ℤ). record { 0 = z }) (λ x. refl) removalRoom (t .count) (t .items) e (and-left (leb (length (readSchemaIds t)) removalRoom) _ f) in
+    λ i. record { items = r .0 i; count = r .1 i }
 
 pub back-schemas : (t : Schemas) → isTidySchemas t ≡ true → schemasFormed (readSchemas t) ≡ true → laidSchemas (readSchemas t) ≡ t
 unfolding isTidySchemas laidSchemas schemasFormed

@@ -56,6 +56,9 @@ noneUsed room isBlank items n = isZero n && restBlank room isBlank items 0
 
 -- ---- texts
 
+abbrev pub isBlankUuid : List ℕ → Bool
+isBlankUuid uuid = restBlank 16 isZero uuid 0
+
 abbrev pub isTidyRefName : RefName → Bool
 isTidyRefName t = restBlank refNameRoom isZero (t .bytes) (t .len)
 

@@ -4,13 +4,14 @@ ghost use mathlib.Core.Path.{_≡_};
 ghost use mathlib.Core.Bool.{true, cond};
 ghost use lib.IntN.{sucℤ};
 ghost use lib.Signed.{ltZ};
+ghost use Rattle.records.specs.Blanks.{noSchemasPart};
 ghost use Rattle.rules.specs.Words.{eqZ, larger, someWith, highest as highestOf, ascending, put};
 ghost use Rattle.rules.specs.Capacities.{largestSchemaId};
 ghost use Rattle.rules.specs.Register.{Terms, State};
 ghost use Rattle.rules.specs.WellFormed.{fieldIds, schemaBelow, updateFormed};
 ghost use Rattle.rules.specs.SchemaUpdates.{reusedSchema, schemaIds, chosen, choiceLogged, setCurrentSchemaChecks, setCurrentSchema};
 ghost use Rattle.rules.specs.Layout.{readSchema, readSchemas, laidSchemas};
-ghost use Rattle.rules.specs.Kinds.{isTidyUpdate, readKind, ofKind, withSchemaId, addSchemaKind, setCurrentSchemaKind, removeSchemasKind};
+ghost use Rattle.rules.specs.Kinds.{isTidyUpdate, readKind, ofKind, withSchemasPart, withSchemaId, addSchemaKind, setCurrentSchemaKind, removeSchemasKind};
 ghost use Rattle.tables.specs.Laid.{LaidSchema, LaidSchemas};
 ghost use Rattle.builder.specs.Pieces.{laidBuilder};
 ghost use Rattle.builder.specs.Answers.{Answers, Decides};
@@ -213,7 +214,7 @@ pub struct SchemaSet {
 
 fn schema_choice(b: TableMetadataBuilder, t: Schemas, id: SchemaId) -> SchemaSet
     requires { ⌜ LaidSchemas t ⌝ }
-    ensures { λ r. ⌜ ((st : State) → b ≡ laidBuilder st → t ≡ laidSchemas (st .metadata .schemas) → Answers (setCurrentSchemaChecks (id .0) st) st (setCurrentSchema (id .0) st) (r .number) (r .logs) (r .builder) (withSchemaId (r .«schema_id») (ofKind setCurrentSchemaKind))) ⌝ }
+    ensures { λ r. ⌜ ((st : State) → b ≡ laidBuilder st → t ≡ laidSchemas (st .metadata .schemas) → Answers (setCurrentSchemaChecks (id .0) st) st (setCurrentSchema (id .0) st) (r .number) (r .logs) (r .builder) (withSchemasPart (withSchemaId (r .«schema_id») noSchemasPart) (ofKind setCurrentSchemaKind))) ⌝ }
 {
     let mut f = b.fields;
     let current = f.current_schema_id;
@@ -245,12 +246,13 @@ pub fn add_schema(b: TableMetadataBuilder, t: Schemas, u: TableUpdate) -> Decisi
     requires { ⌜ u .kind ≡ addSchemaKind ⌝ }
     ensures { λ r. ⌜ SchemaDecided b t u r ⌝ }
 {
-    let s = u.schema;
-    let x = schema_addition(b, t, s);
+    let mut part = u.schemas;
+    let x = schema_addition(b, t, part.added);
     let y = x.schema;
     let c = x.builder;
+    part.added = y;
     let mut e = u;
-    e.schema = y;
+    e.schemas = part;
     Decision {
         number: x.number,
         logs: x.logs,
@@ -263,13 +265,11 @@ pub fn add_schema(b: TableMetadataBuilder, t: Schemas, u: TableUpdate) -> Decisi
 // The table after an addition: a new schema is put into it.
 pub fn schemas_after(t: Schemas, d: Decision) -> Schemas
     requires { ⌜ LaidSchemas t ⌝ }
-    requires { ⌜ (d .grows ≡ true → NewSchema t (d .entry .schema)) ⌝ }
-    ensures { λ r. ⌜ r ≡ cond (d .grows) (laidSchemas (put schemaBelow (readSchema (d .entry .schema)) (readSchemas t))) t ⌝ }
+    requires { ⌜ (d .grows ≡ true → NewSchema t (d .entry .schemas .added)) ⌝ }
+    ensures { λ r. ⌜ r ≡ cond (d .grows) (laidSchemas (put schemaBelow (readSchema (d .entry .schemas .added)) (readSchemas t))) t ⌝ }
 {
-    let e = d.entry;
-    let s = e.schema;
     if d.grows {
-        return tables::schemas::put(t, s);
+        return tables::schemas::put(t, d.entry.schemas.added);
     }
     t
 }
@@ -280,11 +280,13 @@ pub fn set_current_schema(b: TableMetadataBuilder, t: Schemas, u: TableUpdate) -
     requires { ⌜ u .kind ≡ setCurrentSchemaKind ⌝ }
     ensures { λ r. ⌜ ((terms : Terms) (st : State) → b ≡ laidBuilder st → t ≡ laidSchemas (st .metadata .schemas) → Decides terms u st r) ⌝ }
 {
-    let x = schema_choice(b, t, u.schema_id);
+    let mut part = u.schemas;
+    let x = schema_choice(b, t, part.chosen);
     let c = x.builder;
     let id = x.schema_id;
+    part.chosen = id;
     let mut e = u;
-    e.schema_id = id;
+    e.schemas = part;
     decided(x.number, x.logs, c, e)
 }
 
@@ -297,14 +299,16 @@ pub fn remove_schemas(b: TableMetadataBuilder, t: Schemas, u: TableUpdate) -> De
     requires { ⌜ u .kind ≡ removeSchemasKind ⌝ }
     ensures { λ r. ⌜ ((terms : Terms) (st : State) → b ≡ laidBuilder st → t ≡ laidSchemas (st .metadata .schemas) → Decides terms u st r) ⌝ }
 {
-    let ids = u.schema_ids;
+    let mut part = u.schemas;
+    let ids = part.removed;
     let n = ids.count;
     let f = b.fields;
     let current = f.current_schema_id;
     let removed = tables::ids::has_schema(ids, current);
     let number = choose(removed, CURRENT_SCHEMA_REMOVED, ACCEPTED);
     let held = tables::schemas::held(t, ids);
+    part.removed = held;
     let mut e = u;
-    e.schema_ids = held;
+    e.schemas = part;
     decided(number, n > 0, b, e)
 }

@@ -48,29 +48,29 @@ unknown k [] e = refl
 unknown k (x ∷ l) e = let n = neither (eqb k (x .0)) (any (eqb k) (map (λ (y : ℕ × Update). y .0) l)) e in rw (n .0) (unknown k l (n .1))
 
 module _ (u : TableUpdate) (f : updateFormed (readUpdate u) ≡ true) where
-  pub read-add-snapshot : u .kind ≡ addSnapshotKind → readUpdate u ≡ AddSnapshot (readSnapshot (u .snapshot))
+  pub read-add-snapshot : u .kind ≡ addSnapshotKind → readUpdate u ≡ AddSnapshot (readSnapshot (u .snapshots .added))
   read-add-snapshot e = read-tidy u (formed-tidy u f) ∙ rw e
 
-  pub read-set-branch-snapshot : u .kind ≡ setBranchSnapshotKind → readUpdate u ≡ SetBranchSnapshot (readRefName (u .«ref_name»)) (readSnapshot (u .snapshot))
+  pub read-set-branch-snapshot : u .kind ≡ setBranchSnapshotKind → readUpdate u ≡ SetBranchSnapshot (readRefName (u .refs .name)) (readSnapshot (u .snapshots .added))
   read-set-branch-snapshot e = read-tidy u (formed-tidy u f) ∙ rw e
 
-  pub read-remove-snapshots : u .kind ≡ removeSnapshotsKind → readUpdate u ≡ RemoveSnapshots (readSnapshotIds (u .«snapshot_ids»))
+  pub read-remove-snapshots : u .kind ≡ removeSnapshotsKind → readUpdate u ≡ RemoveSnapshots (readSnapshotIds (u .snapshots .removed))
   read-remove-snapshots e = read-tidy u (formed-tidy u f) ∙ rw e
 
-  pub read-set-ref : u .kind ≡ setRefKind → readUpdate u ≡ SetRef (readRefName (u .«ref_name»)) (readReference (u .reference))
+  pub read-set-ref : u .kind ≡ setRefKind → readUpdate u ≡ SetRef (readRefName (u .refs .name)) (readReference (u .refs .reference))
   read-set-ref e = read-tidy u (formed-tidy u f) ∙ rw e
 
-  pub read-remove-ref : u .kind ≡ removeRefKind → readUpdate u ≡ RemoveRef (readRefName (u .«ref_name»))
+  pub read-remove-ref : u .kind ≡ removeRefKind → readUpdate u ≡ RemoveRef (readRefName (u .refs .name))
   read-remove-ref e = read-tidy u (formed-tidy u f) ∙ rw e
 
-  pub read-remove-schemas : u .kind ≡ removeSchemasKind → readUpdate u ≡ RemoveSchemas (readSchemaIds (u .«schema_ids»))
+  pub read-remove-schemas : u .kind ≡ removeSchemasKind → readUpdate u ≡ RemoveSchemas (readSchemaIds (u .schemas .removed))
   read-remove-schemas e = read-tidy u (formed-tidy u f) ∙ rw e
 
-  pub read-set-statistics : (which : StatisticsTable) → u .kind ≡ settingKind which → readUpdate u ≡ SetStatistics which (readStatisticsFile (u .statistics))
+  pub read-set-statistics : (which : StatisticsTable) → u .kind ≡ settingKind which → readUpdate u ≡ SetStatistics which (readStatisticsFile (u .statistics .file))
   read-set-statistics Statistics e = read-tidy u (formed-tidy u f) ∙ rw e
   read-set-statistics PartitionStatistics e = read-tidy u (formed-tidy u f) ∙ rw e
 
-  pub read-remove-statistics : (which : StatisticsTable) → u .kind ≡ removingKind which → readUpdate u ≡ RemoveStatistics which (u .«statistics_id» .0)
+  pub read-remove-statistics : (which : StatisticsTable) → u .kind ≡ removingKind which → readUpdate u ≡ RemoveStatistics which (u .statistics .removed .0)
   read-remove-statistics Statistics e = read-tidy u (formed-tidy u f) ∙ rw e
   read-remove-statistics PartitionStatistics e = read-tidy u (formed-tidy u f) ∙ rw e
 

@@ -271,7 +271,7 @@ module _ (c : tie.After-add-snapshot Inv-loop μ-loop Inv-loop2 μ-loop2) where
   abbrev adds-at : tie.Then8 Inv-loop μ-loop Inv-loop2 μ-loop2
   adds-at = c .before .before .before
 
-  add-says : SnapshotDecided (c .before .before .commits-on-tag .result) (termsOf (given (loop-at (adding adds-at))) .tolerance) (readSnapshot (U (loop-at (adding adds-at)) .snapshot)) (adding-standing adds-at .state) (c .add-snapshot .result)
+  add-says : SnapshotDecided (c .before .before .commits-on-tag .result) (termsOf (given (loop-at (adding adds-at))) .tolerance) (readSnapshot (U (loop-at (adding adds-at)) .snapshots .added)) (adding-standing adds-at .state) (c .add-snapshot .result)
   add-says = let E = adding-standing adds-at .stands in c .add-snapshot .ensures (adding-standing adds-at .state) (E .tables .builder) (held-ids E) (E .tables .last)
 
 -- where it is not refused
@@ -285,33 +285,33 @@ module _ (c : tie.Else9 Inv-loop μ-loop Inv-loop2 μ-loop2) where
   add-zero : added-call .add-snapshot .result .number ≡ 0
   add-zero = eqb-true _ _ (sym (add-says added-call .grows) ∙ not-false (added-call .add-snapshot .result .grows) (c .if9 .left))
 
-  add-fine : firstOf (addSnapshotChecks (termsOf (given (loop-at (adding add-kind))) .tolerance) (readSnapshot (U (loop-at (adding add-kind)) .snapshot)) (adding-standing add-kind .state)) ≡ 0
+  add-fine : firstOf (addSnapshotChecks (termsOf (given (loop-at (adding add-kind))) .tolerance) (readSnapshot (U (loop-at (adding add-kind)) .snapshots .added)) (adding-standing add-kind .state)) ≡ 0
   add-fine = adds-fine (adding-standing add-kind) (at (deciding (adding add-kind))) (one (deciding (adding add-kind))) (formed (adding add-kind)) (either-kind add-kind) (added-call .before .before .commits-on-tag .ensures) (add-says added-call) add-zero
 
-  add-back : laidSnapshot (readSnapshot (U (loop-at (adding add-kind)) .snapshot)) ≡ U (loop-at (adding add-kind)) .snapshot
+  add-back : laidSnapshot (readSnapshot (U (loop-at (adding add-kind)) .snapshots .added)) ≡ U (loop-at (adding add-kind)) .snapshots .added
   add-back = snapshot-back (U (loop-at (adding add-kind))) (formed (adding add-kind))
 
   add-room : loop-at (adding add-kind) .loop2 .snapshots .count < 64
-  add-room = has-room (adding-standing add-kind .stands) (U (loop-at (adding add-kind)) .snapshot) add-back add-fine
+  add-room = has-room (adding-standing add-kind .stands) (U (loop-at (adding add-kind)) .snapshots .added) add-back add-fine
 
   adds-room : loop-at (adding add-kind) .loop2 .adds < 64
   adds-room = omega (arith, adds-most (adding-standing add-kind .stands), fits (adding-standing add-kind) (readUpdate (U (loop-at (adding add-kind)))) (at (deciding (adding add-kind))), one (deciding (adding add-kind)))
 
 -- the snapshot's id, from its bits
-key-back : (c : tie.After-struct-told Inv-loop μ-loop Inv-loop2 μ-loop2) → toZ w64 (ofZ w64 (U (loop-at (adding (add-kind (c .before .before .before)))) .snapshot .«snapshot_id» .0)) ≡ U (loop-at (adding (add-kind (c .before .before .before)))) .snapshot .«snapshot_id» .0
+key-back : (c : tie.After-struct-told Inv-loop μ-loop Inv-loop2 μ-loop2) → toZ w64 (ofZ w64 (U (loop-at (adding (add-kind (c .before .before .before)))) .snapshots .added .«snapshot_id» .0)) ≡ U (loop-at (adding (add-kind (c .before .before .before)))) .snapshots .added .«snapshot_id» .0
 key-back c = toZ-ofZ (sfits-of (c .struct-told .given .0 .1))
 
 abbrev to-else9 : tie.After-is-last Inv-loop μ-loop Inv-loop2 μ-loop2 → tie.Else9 Inv-loop μ-loop Inv-loop2 μ-loop2
 to-else9 c = c .before .before .before .before .before
 
 -- the table and the ids with one snapshot more
-grown-tables : (c : tie.Joined10 Inv-loop μ-loop Inv-loop2 μ-loop2) → let e = to-else9 (c .before) in let x = readSnapshot (U (loop-at (adding (add-kind e))) .snapshot) in
+grown-tables : (c : tie.Joined10 Inv-loop μ-loop Inv-loop2 μ-loop2) → let e = to-else9 (c .before) in let x = readSnapshot (U (loop-at (adding (add-kind e))) .snapshots .added) in
     (c .if10 .snapshots ≡ laidSnapshots (put snapshotBelow x (adding-standing (add-kind e) .state .metadata .snapshots))) × (c .if10 .ids ≡ pad 64 (pos 0) (idsOf (put snapshotBelow x (adding-standing (add-kind e) .state .metadata .snapshots))))
 grown-tables c =
     let e = to-else9 (c .before) in
     let t = add-kind e in
     let E = adding-standing t .stands in
-    let x = U (loop-at (adding t)) .snapshot in
+    let x = U (loop-at (adding t)) .snapshots .added in
     let p = here-pieces (loop-at (adding t)) in
     let k = key-back (c .before .before .before) in
     ⊎-elim
@@ -336,7 +336,7 @@ module _ (c : tie.Then11 Inv-loop μ-loop Inv-loop2 μ-loop2) where
       (λ y. let q = eqb-true setting-kind setRefKind y in set-midway (standing setting setRefKind q refl) (readUpdate (U (loop-at setting))) (at (deciding setting)) (one (deciding setting)) (formed setting) (read-set-ref (U (loop-at setting)) (formed setting) q) q)
       (c .if11 .taken)
 
-  set-name : LaidName (U (loop-at setting) .«ref_name»)
+  set-name : LaidName (U (loop-at setting) .refs .name)
   set-name = by-either (eqb setting-kind setBranchSnapshotKind) (eqb setting-kind setRefKind) (λ y. branch-name-laid (U (loop-at setting)) (formed setting) (eqb-true setting-kind setBranchSnapshotKind y)) (λ y. set-name-laid (U (loop-at setting)) (formed setting) (eqb-true setting-kind setRefKind y)) (c .if11 .taken)
 
 -- the snapshot's id, from its bits
@@ -450,7 +450,7 @@ module _ (e : tie.Else4 Inv-loop μ-loop Inv-loop2 μ-loop2) (which : plain.Stat
   refiled t = tabled (loop-at e .loop2 .refs) (withFiles which t (here-pieces (loop-at e) .held .shelf)) (here-pieces (loop-at e))
 
   set-filed : (s : Standing (given (loop-at e)) (loop-at e .loop2 .place) (here-pieces (loop-at e))) → U (loop-at e) .kind ≡ settingKind which → {d : Decision} → FileDecided (loop-at e .loop2 .builder) file-table (U (loop-at e)) d → {t : StatisticsFiles}
-      → t ≡ cond (d .grows) (laidStatistics (put statisticsBelow (readStatisticsFile (d .entry .statistics)) (readStatistics file-table))) file-table
+      → t ≡ cond (d .grows) (laidStatistics (put statisticsBelow (readStatisticsFile (d .entry .statistics .file)) (readStatistics file-table))) file-table
       → Turn (given (loop-at e)) (loop-at e .loop2 .number) (loop-at e .loop2 .place) true false (refiled t) d
   set-filed s q {d} D w =
       let u = U (loop-at e) in
@@ -460,13 +460,13 @@ module _ (e : tie.Else4 Inv-loop μ-loop Inv-loop2 μ-loop2) (which : plain.Stat
       (λ z. statistics-grown which (s .state) (statistics-laid (s .stands) which) d w (D .table which (termsOf (given (loop-at e))) (s .state) q z)))
 
   remove-filed : (s : Standing (given (loop-at e)) (loop-at e .loop2 .place) (here-pieces (loop-at e))) → U (loop-at e) .kind ≡ removingKind which → {d : Decision} → Decides (termsOf (given (loop-at e))) (U (loop-at e)) (s .state) d → {t : StatisticsFiles}
-      → t ≡ laidStatistics (keep (λ x. not (isOf (U (loop-at e) .«statistics_id» .0) x)) (readStatistics file-table))
+      → t ≡ laidStatistics (keep (λ x. not (isOf (U (loop-at e) .statistics .removed .0) x)) (readStatistics file-table))
       → Turn (given (loop-at e)) (loop-at e .loop2 .number) (loop-at e .loop2 .place) true false (refiled t) d
   remove-filed s q {d} D w =
       let u = U (loop-at e) in
       let k = is-statistics-removal u (formed e) which q in
       waits-now (deciding e) (statistics-decided s (readUpdate u) (at (deciding e)) (one (deciding e)) (formed e) (no-group which k) d D which k
-      (λ z. statistics-left which (s .state) (statistics-laid (s .stands) which) (termsOf (given (loop-at e))) (readUpdate u) (u .«statistics_id» .0) (read-remove-statistics u (formed e) which q) w))
+      (λ z. statistics-left which (s .state) (statistics-laid (s .stands) which) (termsOf (given (loop-at e))) (readUpdate u) (u .statistics .removed .0) (read-remove-statistics u (formed e) which q) w))
 
 -- ---- the close
 
@@ -702,7 +702,7 @@ put-requires : tie.Need-put-requires Inv-loop μ-loop Inv-loop2 μ-loop2
 put-requires c κs =
     let e = to-else9 (c .before) in
     let E = adding-standing (add-kind e) .stands in
-    let x = U (loop-at (adding (add-kind e))) .snapshot in
+    let x = U (loop-at (adding (add-kind e))) .snapshots .added in
     (laid-snapshots E, (add-back e, (add-room e, put-new E x (add-back e) (add-fine e))))
 
 mul-added : tie.Need-mul-added Inv-loop μ-loop Inv-loop2 μ-loop2
@@ -825,7 +825,7 @@ lent-left c =
     let s = S e removeSnapshotsKind q refl in
     let u = U (loop-at e) in
     let v = readUpdate u in
-    let xs = readSnapshotIds (u .«snapshot_ids») in
+    let xs = readSnapshotIds (u .snapshots .removed) in
     let w = read-remove-snapshots u (formed e) q in
     left-lent s v (at (deciding e)) (one (deciding e)) (formed e) xs w (c .before .without .ensures) (c .ids-of3 .ensures (left-laid s v (at (deciding e)) (one (deciding e)) (formed e) xs w (c .before .without .ensures)))
 
@@ -853,7 +853,7 @@ loop2-again-12 c =
     let T = E .tables in
     let u = U (loop-at e) in
     let l = c .before .before .before .before in
-    let R = removed-decided s (readUpdate u) (at (deciding e)) (one (deciding e)) (formed e) (readSnapshotIds (u .«snapshot_ids»)) (read-remove-snapshots u (formed e) q) (l .before .remove-snapshots .ensures (s .state) (T .builder) (T .snapshots)) (l .without .ensures) (c .before .before .before .ids-of3 .ensures (left-laid s (readUpdate u) (at (deciding e)) (one (deciding e)) (formed e) (readSnapshotIds (u .«snapshot_ids»)) (read-remove-snapshots u (formed e) q) (l .without .ensures))) (c .before .pointing .ensures) in
+    let R = removed-decided s (readUpdate u) (at (deciding e)) (one (deciding e)) (formed e) (readSnapshotIds (u .snapshots .removed)) (read-remove-snapshots u (formed e) q) (l .before .remove-snapshots .ensures (s .state) (T .builder) (T .snapshots)) (l .without .ensures) (c .before .before .before .ids-of3 .ensures (left-laid s (readUpdate u) (at (deciding e)) (one (deciding e)) (formed e) (readSnapshotIds (u .snapshots .removed)) (read-remove-snapshots u (formed e) q) (l .without .ensures))) (c .before .pointing .ensures) in
     waits-now (deciding e) R
 
 remove-ref-requires : tie.Need-remove-ref-requires Inv-loop μ-loop Inv-loop2 μ-loop2
@@ -886,7 +886,7 @@ loop2-again-13 c =
     let T = E .tables in
     let u = U (loop-at e) in
     let k = is-ref-removal u (formed e) q in
-    waits-now (deciding e) (refs-decided s (readUpdate u) (at (deciding e)) (one (deciding e)) (formed e) (λ (z : group (readUpdate u) ≡ 0). omega arith) (c .before .remove-ref .result) (c .before .remove-ref .ensures (termsOf (given (loop-at e))) (s .state) (T .builder) (T .refs)) k (λ z. refs-left E (readUpdate u) (readRefName (u .«ref_name»)) (read-remove-ref u (formed e) q) (c .without2 .ensures)))
+    waits-now (deciding e) (refs-decided s (readUpdate u) (at (deciding e)) (one (deciding e)) (formed e) (λ (z : group (readUpdate u) ≡ 0). omega arith) (c .before .remove-ref .result) (c .before .remove-ref .ensures (termsOf (given (loop-at e))) (s .state) (T .builder) (T .refs)) k (λ z. refs-left E (readUpdate u) (readRefName (u .refs .name)) (read-remove-ref u (formed e) q) (c .without2 .ensures)))
 
 add-schema-requires : tie.Need-add-schema-requires Inv-loop μ-loop Inv-loop2 μ-loop2
 add-schema-requires c κs =
@@ -966,7 +966,7 @@ loop2-again-16 c =
     let T = E .tables in
     let u = U (loop-at e) in
     let k = is-schema-removal u (formed e) q in
-    waits-now (deciding e) (schemas-decided s (readUpdate u) (at (deciding e)) (one (deciding e)) (formed e) (λ (z : group (readUpdate u) ≡ 0). omega arith) (c .before .remove-schemas .result) (c .before .remove-schemas .ensures (termsOf (given (loop-at e))) (s .state) (T .builder) (T .shelf .schemas)) k (λ z. schemas-left E (readUpdate u) (readSchemaIds (u .«schema_ids»)) (read-remove-schemas u (formed e) q) (c .without3 .ensures)))
+    waits-now (deciding e) (schemas-decided s (readUpdate u) (at (deciding e)) (one (deciding e)) (formed e) (λ (z : group (readUpdate u) ≡ 0). omega arith) (c .before .remove-schemas .result) (c .before .remove-schemas .ensures (termsOf (given (loop-at e))) (s .state) (T .builder) (T .shelf .schemas)) k (λ z. schemas-left E (readUpdate u) (readSchemaIds (u .schemas .removed)) (read-remove-schemas u (formed e) q) (c .without3 .ensures)))
 
 add-sort-order-requires : tie.Need-add-sort-order-requires Inv-loop μ-loop Inv-loop2 μ-loop2
 add-sort-order-requires c κs =
