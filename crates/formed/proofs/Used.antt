@@ -4,7 +4,7 @@ use mathlib.Core.Path.{_≡_, refl, sym, _∙_}
 use mathlib.Core.Bool.{Bool, true, false, cond, _&&_, _||_, or-false}
 use mathlib.Core.List.{List, [], _∷_}
 use mathlib.Core.Logic.{_⊎_, inl, inr}
-use borrow.Author.Tests.{eqb-true, eq-eqb, ne-eqb}
+use borrow.Author.Tests.{eqb-true}
 use lib.Dec.{eqb}
 use lib.Signed.{nonNeg}
 use Rattle.records.specs.declared.snapshot.Snapshot.{Snapshot}
@@ -28,26 +28,17 @@ use Rattle.rules.proofs.Relaid.{blank-snapshot, blank-reference, blank-statisti
 
 -- ---- used or not
 
--- a kind that uses the record asks that it is tidy
-pub fits-used : (kinds : List ℕ) (k : ℕ) (blank : Bool) {tidy r : Bool} → any (eqb k) kinds ≡ true → r ≡ tidy → r ≡ fitsKinds kinds k blank tidy
-fits-used kinds k blank e h = h ∙ rw e
-
--- any other kind, that it is blank
-pub fits-unused : (kinds : List ℕ) (k : ℕ) {blank tidy r : Bool} → any (eqb k) kinds ≡ false → (blank ≡ true → tidy ≡ true) → r ≡ blank → r ≡ fitsKinds kinds k blank tidy
-fits-unused kinds k {blank} {tidy} e t h = h ∙ rw e (go blank t)
+-- a kind that uses the record asks that it is tidy, and any other that it is blank, from which it is tidy
+pub fits : (kinds : List ℕ) (k : ℕ) {used blank tidy r : Bool} → any (eqb k) kinds ≡ used → (blank ≡ true → tidy ≡ true) → r ≡ cond used tidy blank → r ≡ fitsKinds kinds k blank tidy
+fits kinds k {used} {blank} {tidy} e t h = h ∙ rw e (go used blank t)
   where
-    go : (b : Bool) → (b ≡ true → tidy ≡ true) → b ≡ (b && tidy)
-    go true t = sym (t refl)
-    go false t = refl
+    go : (u b : Bool) → (b ≡ true → tidy ≡ true) → cond u tidy b ≡ ((u || b) && tidy)
+    go true b t = refl
+    go false true t = sym (t refl)
+    go false false t = refl
 
 pub one-kind : (k a : ℕ) → any (eqb k) (a ∷ []) ≡ eqb k a
 one-kind k a = or-false (eqb k a)
-
-pub is-kind : (k a : ℕ) → k ≡ a → any (eqb k) (a ∷ []) ≡ true
-is-kind k a e = one-kind k a ∙ eq-eqb k a e
-
-pub is-no-kind : (k a : ℕ) → (k ≡ a → ⊥) → any (eqb k) (a ∷ []) ≡ false
-is-no-kind k a e = one-kind k a ∙ ne-eqb k a e
 
 pub two-kinds : (k a b : ℕ) → any (eqb k) (a ∷ b ∷ []) ≡ (eqb k a || eqb k b)
 two-kinds k a b = rw (or-false (eqb k b))

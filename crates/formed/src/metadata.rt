@@ -6,9 +6,8 @@ ghost use Rattle.rules.specs.WellFormed.{snapshotsFormed, refsFormed, schemasFo
 ghost use Rattle.rules.specs.Blanks.{isTidySnapshots, isTidyRefs, isTidySchemas, isTidySortOrders, isTidyStatistics, isTidyFields, isTidyMetadata};
 ghost use Rattle.rules.specs.Layout.{readSnapshots, readRefs, readSchemas, readSortOrders, readStatistics, readFields, readMetadata};
 ghost use Rattle.tables.specs.Laid.{LaidSnapshots, LaidRefs};
-use crate::blanks::text_tidy;
+use crate::blanks::text_fits;
 use crate::bounds::sequence_formed;
-use crate::bounds::snapshot_id_zero;
 use crate::order::orders_ascend;
 use crate::order::refs_ascend;
 use crate::order::schemas_ascend;
@@ -23,6 +22,7 @@ use crate::slots::snapshots_filled;
 use crate::slots::statistics_filled;
 use equality::ids::same_snapshot;
 use records::capacities::TEXT;
+use records::counters::SnapshotId;
 use records::metadata::SingleFields;
 use records::metadata::TableMetadata;
 use records::reference::Refs;
@@ -87,7 +87,7 @@ fn fields_formed(f: SingleFields) -> bool
     let s = f.last_sequence_number;
     let h = f.has_current;
     let c = f.current_snapshot_id;
-    (text_tidy(l) & (h | snapshot_id_zero(c)))
+    (text_fits(true, l) & (h | same_snapshot(c, SnapshotId(0))))
         & ((1 <= v) & (v <= 3) & (n <= TEXT) & sequence_formed(s))
 }
 

@@ -22,10 +22,10 @@ fields-fault-spec =
     rw (
       c .unless4 .ensures,
       c .before .unless3 .ensures,
-      c .before .before .text-tidy .ensures,
+      c .before .before .text-fits .ensures,
       s .unless2 .ensures,
       s .before .sequence-formed .ensures,
       s .before .before .unless .ensures,
-      s .before .before .before .snapshot-id-zero .ensures,
+      s .before .before .before .same-snapshot .ensures,
       length-counted 0 (l .bytes) (l .len),
     )))

@@ -15,4 +15,4 @@ fields-formed-spec =
     (λ c κs. search needs)
     (λ c κs. search needs)
     (λ c. let l = c .before .before .before .before .before .before .args .f .location in
-    rw (c .before .before .text-tidy .ensures, c .before .snapshot-id-zero .ensures, c .sequence-formed .ensures, length-counted 0 (l .bytes) (l .len))))
+    rw (c .before .before .text-fits .ensures, c .before .same-snapshot .ensures, c .sequence-formed .ensures, length-counted 0 (l .bytes) (l .len))))

@@ -1,7 +1,8 @@
 -- Each record of the part is asked what the rule asks of it.
+use mathlib.Core.List.{[], _∷_}
 use borrow.Author.Needs.{needs}
-use Rattle.rules.specs.Kinds.{isTidySortOrdersPart, setDefaultSortOrderKind}
-use Rattle.formed.proofs.Used.{one-kind}
+use Rattle.rules.specs.Kinds.{isTidySortOrdersPart, addSortOrderKind, setDefaultSortOrderKind}
+use Rattle.formed.proofs.Used.{fits, one-kind, blank-order-tidy}
 use Rattle.formed.proofs.update.sort_orders_fit.Statement.{statement}
 use Rattle.formed.proofs.update.sort_orders_fit.Tie as tie
 
@@ -12,4 +13,5 @@ sort-orders-fit-spec =
     (tie.spec
     (λ c κs. search needs)
     (λ c κs. search needs)
-    (λ c. rw (c .before .order-fits .ensures, c .order-id-zero .ensures, one-kind (c .before .before .args .k) setDefaultSortOrderKind)))
+    (λ c. let a = c .before .before .args in
+    rw (fits (addSortOrderKind ∷ []) (a .k) (one-kind (a .k) addSortOrderKind) (blank-order-tidy (a .p .added)) (c .before .order-fits .ensures), c .same-order .ensures, one-kind (a .k) setDefaultSortOrderKind)))
