@@ -1,9 +1,8 @@
 // Well-formed updates: in each part a record is tidy where the kind uses it and blank where it does not, and what the kind uses keeps its bounds.
 ghost use mathlib.Core.Path.{_≡_};
-ghost use mathlib.Core.List.{[], _∷_};
 ghost use Rattle.rules.specs.WellFormed.{updateFormed};
 ghost use Rattle.rules.specs.Blanks.{isTidyText, isBlankText, isTidySnapshot, isBlankSnapshot, isTidySnapshotIds, isBlankSnapshotIds, isTidyRefName, isBlankRefName, isTidyReference, isBlankReference, isTidySchema, isBlankSchema, isTidySchemaIds, isBlankSchemaIds, isTidySortOrder, isBlankSortOrder, isTidyStatisticsFile, isBlankStatisticsFile};
-ghost use Rattle.rules.specs.Kinds.{setLocationKind, addSnapshotKind, setBranchSnapshotKind, removeSnapshotsKind, setRefKind, removeRefKind, addSchemaKind, removeSchemasKind, addSortOrderKind, setStatisticsKind, setPartitionStatisticsKind, fitsKinds, isTidyFieldsPart, isTidySnapshotsPart, isTidyRefsPart, isTidySchemasPart, isTidySortOrdersPart, isTidyStatisticsPart, isTidyUpdate, readKind, readUpdate};
+ghost use Rattle.rules.specs.Kinds.{fitsKinds, isTidyFieldsPart, isTidySnapshotsPart, isTidyRefsPart, isTidySchemasPart, isTidySortOrdersPart, isTidyStatisticsPart, isTidyUpdate, readKind, readUpdate, locationKinds, snapshotKinds, snapshotIdsKinds, refNameKinds, referenceKinds, schemaKinds, schemaIdsKinds, sortOrderKinds, statisticsFileKinds};
 use crate::blanks::order_blank;
 use crate::blanks::order_tidy;
 use crate::blanks::ref_name_blank;
@@ -75,7 +74,7 @@ use records::update::UPGRADE_FORMAT_VERSION;
 // ---- the records
 
 fn location_fits(k: u8, x: Text) -> bool
-    ensures { λ r. ⌜ r ≡ fitsKinds (setLocationKind ∷ []) k (isBlankText x) (isTidyText x) ⌝ }
+    ensures { λ r. ⌜ r ≡ fitsKinds locationKinds k (isBlankText x) (isTidyText x) ⌝ }
 {
     if k == SET_LOCATION {
         return text_tidy(x);
@@ -84,7 +83,7 @@ fn location_fits(k: u8, x: Text) -> bool
 }
 
 fn snapshot_fits(k: u8, x: Snapshot) -> bool
-    ensures { λ r. ⌜ r ≡ fitsKinds (addSnapshotKind ∷ setBranchSnapshotKind ∷ []) k (isBlankSnapshot x) (isTidySnapshot x) ⌝ }
+    ensures { λ r. ⌜ r ≡ fitsKinds snapshotKinds k (isBlankSnapshot x) (isTidySnapshot x) ⌝ }
 {
     if (k == ADD_SNAPSHOT) | (k == SET_BRANCH_SNAPSHOT) {
         return snapshot_tidy(x);
@@ -93,7 +92,7 @@ fn snapshot_fits(k: u8, x: Snapshot) -> bool
 }
 
 fn snapshot_ids_fit(k: u8, x: SnapshotIds) -> bool
-    ensures { λ r. ⌜ r ≡ fitsKinds (removeSnapshotsKind ∷ []) k (isBlankSnapshotIds x) (isTidySnapshotIds x) ⌝ }
+    ensures { λ r. ⌜ r ≡ fitsKinds snapshotIdsKinds k (isBlankSnapshotIds x) (isTidySnapshotIds x) ⌝ }
 {
     if k == REMOVE_SNAPSHOTS {
         return snapshot_ids_tidy(x);
@@ -102,7 +101,7 @@ fn snapshot_ids_fit(k: u8, x: SnapshotIds) -> bool
 }
 
 fn ref_name_fits(k: u8, x: RefName) -> bool
-    ensures { λ r. ⌜ r ≡ fitsKinds (setBranchSnapshotKind ∷ setRefKind ∷ removeRefKind ∷ []) k (isBlankRefName x) (isTidyRefName x) ⌝ }
+    ensures { λ r. ⌜ r ≡ fitsKinds refNameKinds k (isBlankRefName x) (isTidyRefName x) ⌝ }
 {
     if (k == SET_BRANCH_SNAPSHOT) | ((k == SET_REF) | (k == REMOVE_REF)) {
         return ref_name_tidy(x);
@@ -111,7 +110,7 @@ fn ref_name_fits(k: u8, x: RefName) -> bool
 }
 
 fn reference_fits(k: u8, x: SnapshotReference) -> bool
-    ensures { λ r. ⌜ r ≡ fitsKinds (setRefKind ∷ []) k (isBlankReference x) (isTidyReference x) ⌝ }
+    ensures { λ r. ⌜ r ≡ fitsKinds referenceKinds k (isBlankReference x) (isTidyReference x) ⌝ }
 {
     if k == SET_REF {
         return reference_tidy(x);
@@ -120,7 +119,7 @@ fn reference_fits(k: u8, x: SnapshotReference) -> bool
 }
 
 fn schema_fits(k: u8, x: Schema) -> bool
-    ensures { λ r. ⌜ r ≡ fitsKinds (addSchemaKind ∷ []) k (isBlankSchema x) (isTidySchema x) ⌝ }
+    ensures { λ r. ⌜ r ≡ fitsKinds schemaKinds k (isBlankSchema x) (isTidySchema x) ⌝ }
 {
     if k == ADD_SCHEMA {
         return schema_tidy(x);
@@ -129,7 +128,7 @@ fn schema_fits(k: u8, x: Schema) -> bool
 }
 
 fn schema_ids_fit(k: u8, x: SchemaIds) -> bool
-    ensures { λ r. ⌜ r ≡ fitsKinds (removeSchemasKind ∷ []) k (isBlankSchemaIds x) (isTidySchemaIds x) ⌝ }
+    ensures { λ r. ⌜ r ≡ fitsKinds schemaIdsKinds k (isBlankSchemaIds x) (isTidySchemaIds x) ⌝ }
 {
     if k == REMOVE_SCHEMAS {
         return schema_ids_tidy(x);
@@ -138,7 +137,7 @@ fn schema_ids_fit(k: u8, x: SchemaIds) -> bool
 }
 
 fn order_fits(k: u8, x: SortOrder) -> bool
-    ensures { λ r. ⌜ r ≡ fitsKinds (addSortOrderKind ∷ []) k (isBlankSortOrder x) (isTidySortOrder x) ⌝ }
+    ensures { λ r. ⌜ r ≡ fitsKinds sortOrderKinds k (isBlankSortOrder x) (isTidySortOrder x) ⌝ }
 {
     if k == ADD_SORT_ORDER {
         return order_tidy(x);
@@ -147,7 +146,7 @@ fn order_fits(k: u8, x: SortOrder) -> bool
 }
 
 fn statistics_file_fits(k: u8, x: StatisticsFile) -> bool
-    ensures { λ r. ⌜ r ≡ fitsKinds (setStatisticsKind ∷ setPartitionStatisticsKind ∷ []) k (isBlankStatisticsFile x) (isTidyStatisticsFile x) ⌝ }
+    ensures { λ r. ⌜ r ≡ fitsKinds statisticsFileKinds k (isBlankStatisticsFile x) (isTidyStatisticsFile x) ⌝ }
 {
     if (k == SET_STATISTICS) | (k == SET_PARTITION_STATISTICS) {
         return statistics_file_tidy(x);

@@ -1,9 +1,8 @@
 -- A kind that uses the record asks that it is tidy, and any other that it is blank, from which it is tidy.
-use mathlib.Core.List.{[], _∷_}
 use borrow.Author.Needs.{needs}
 use Rattle.rules.specs.Capacities.{textRoom}
 use Rattle.rules.specs.Blanks.{isZero, isBlankText}
-use Rattle.rules.specs.Kinds.{setLocationKind}
+use Rattle.rules.specs.Kinds.{setLocationKind, locationKinds}
 use Rattle.formed.proofs.Used.{fits-used, fits-unused, is-kind, is-no-kind, none-rest}
 use Rattle.formed.proofs.update.location_fits.Statement.{statement}
 use Rattle.formed.proofs.update.location_fits.Tie as tie
@@ -14,7 +13,7 @@ location-fits-spec =
     (tie.spec
     (λ c κs. search needs)
     (λ c. let a = c .before .before .args in
-    fits-used (setLocationKind ∷ []) (a .k) (isBlankText (a .x)) (is-kind (a .k) setLocationKind (c .before .if1 .taken)) (c .text-tidy .ensures))
+    fits-used locationKinds (a .k) (isBlankText (a .x)) (is-kind (a .k) setLocationKind (c .before .if1 .taken)) (c .text-tidy .ensures))
     (λ c κs. search needs)
     (λ c. let a = c .before .before .args in
-    fits-unused (setLocationKind ∷ []) (a .k) (is-no-kind (a .k) setLocationKind (c .before .if1 .left)) (none-rest textRoom isZero (a .x .bytes) (a .x .len)) (c .text-blank .ensures)))
+    fits-unused locationKinds (a .k) (is-no-kind (a .k) setLocationKind (c .before .if1 .left)) (none-rest textRoom isZero (a .x .bytes) (a .x .len)) (c .text-blank .ensures)))

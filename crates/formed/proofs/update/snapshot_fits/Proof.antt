@@ -1,9 +1,8 @@
 -- A kind that uses the record asks that it is tidy, and any other that it is blank, from which it is tidy.
 use mathlib.Core.Path.{_∙_}
-use mathlib.Core.List.{[], _∷_}
 use borrow.Author.Needs.{needs}
 use Rattle.rules.specs.Blanks.{isBlankSnapshot}
-use Rattle.rules.specs.Kinds.{addSnapshotKind, setBranchSnapshotKind}
+use Rattle.rules.specs.Kinds.{addSnapshotKind, setBranchSnapshotKind, snapshotKinds}
 use Rattle.formed.proofs.Used.{fits-used, fits-unused, two-kinds, blank-snapshot-tidy}
 use Rattle.formed.proofs.update.snapshot_fits.Statement.{statement}
 use Rattle.formed.proofs.update.snapshot_fits.Tie as tie
@@ -14,7 +13,7 @@ snapshot-fits-spec =
     (tie.spec
     (λ c κs. search needs)
     (λ c. let a = c .before .before .args in
-    fits-used (addSnapshotKind ∷ setBranchSnapshotKind ∷ []) (a .k) (isBlankSnapshot (a .x)) (two-kinds (a .k) addSnapshotKind setBranchSnapshotKind ∙ c .before .if1 .taken) (c .snapshot-tidy .ensures))
+    fits-used snapshotKinds (a .k) (isBlankSnapshot (a .x)) (two-kinds (a .k) addSnapshotKind setBranchSnapshotKind ∙ c .before .if1 .taken) (c .snapshot-tidy .ensures))
     (λ c κs. search needs)
     (λ c. let a = c .before .before .args in
-    fits-unused (addSnapshotKind ∷ setBranchSnapshotKind ∷ []) (a .k) (two-kinds (a .k) addSnapshotKind setBranchSnapshotKind ∙ c .before .if1 .left) (blank-snapshot-tidy (a .x)) (c .snapshot-blank .ensures)))
+    fits-unused snapshotKinds (a .k) (two-kinds (a .k) addSnapshotKind setBranchSnapshotKind ∙ c .before .if1 .left) (blank-snapshot-tidy (a .x)) (c .snapshot-blank .ensures)))

@@ -1,9 +1,8 @@
 -- A kind that uses the record asks that it is tidy, and any other that it is blank, from which it is tidy.
 use mathlib.Core.Path.{_∙_}
-use mathlib.Core.List.{[], _∷_}
 use borrow.Author.Needs.{needs}
 use Rattle.rules.specs.Blanks.{isBlankStatisticsFile}
-use Rattle.rules.specs.Kinds.{setStatisticsKind, setPartitionStatisticsKind}
+use Rattle.rules.specs.Kinds.{setStatisticsKind, setPartitionStatisticsKind, statisticsFileKinds}
 use Rattle.formed.proofs.Used.{fits-used, fits-unused, two-kinds, blank-statistics-file-tidy}
 use Rattle.formed.proofs.update.statistics_file_fits.Statement.{statement}
 use Rattle.formed.proofs.update.statistics_file_fits.Tie as tie
@@ -14,7 +13,7 @@ statistics-file-fits-spec =
     (tie.spec
     (λ c κs. search needs)
     (λ c. let a = c .before .before .args in
-    fits-used (setStatisticsKind ∷ setPartitionStatisticsKind ∷ []) (a .k) (isBlankStatisticsFile (a .x)) (two-kinds (a .k) setStatisticsKind setPartitionStatisticsKind ∙ c .before .if1 .taken) (c .statistics-file-tidy .ensures))
+    fits-used statisticsFileKinds (a .k) (isBlankStatisticsFile (a .x)) (two-kinds (a .k) setStatisticsKind setPartitionStatisticsKind ∙ c .before .if1 .taken) (c .statistics-file-tidy .ensures))
     (λ c κs. search needs)
     (λ c. let a = c .before .before .args in
-    fits-unused (setStatisticsKind ∷ setPartitionStatisticsKind ∷ []) (a .k) (two-kinds (a .k) setStatisticsKind setPartitionStatisticsKind ∙ c .before .if1 .left) (blank-statistics-file-tidy (a .x)) (c .statistics-file-blank .ensures)))
+    fits-unused statisticsFileKinds (a .k) (two-kinds (a .k) setStatisticsKind setPartitionStatisticsKind ∙ c .before .if1 .left) (blank-statistics-file-tidy (a .x)) (c .statistics-file-blank .ensures)))
