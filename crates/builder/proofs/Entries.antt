@@ -16,7 +16,7 @@ use Rattle.records.specs.declared.update.TableUpdate.{TableUpdate}
 use Rattle.rules.specs.Words.{any}
 use Rattle.rules.specs.WellFormed.{updateFormed}
 use Rattle.rules.specs.Blanks.{isZero, isZeroZ, isBlankUuid, isTidyText, isBlankText, isTidySnapshot, isBlankSnapshot, isTidySnapshotIds, isBlankSnapshotIds, isTidyRefName, isBlankRefName, isTidyReference, isBlankReference, isTidySchema, isBlankSchema, isTidySchemaIds, isBlankSchemaIds, isTidySortOrder, isBlankSortOrder, isTidyStatisticsFile, isBlankStatisticsFile}
-use Rattle.rules.specs.Kinds.{usedBy, fitsKinds, isTidyFieldsPart, isTidySnapshotsPart, isTidyRefsPart, isTidySchemasPart, isTidySortOrdersPart, isTidyStatisticsPart, isTidyUpdate, readKind, readUpdate, assignUuidKind, upgradeFormatVersionKind, setLocationKind, addSnapshotKind, setBranchSnapshotKind, removeSnapshotsKind, setRefKind, removeRefKind, addSchemaKind, setCurrentSchemaKind, removeSchemasKind, addSortOrderKind, setDefaultSortOrderKind, setStatisticsKind, removeStatisticsKind, setPartitionStatisticsKind, removePartitionStatisticsKind}
+use Rattle.rules.specs.Kinds.{usedBy, fitsKinds, isTidyFieldsPart, isTidySnapshotsPart, isTidyRefsPart, isTidySchemasPart, isTidySortOrdersPart, isTidyStatisticsPart, isTidyUpdate, readKind, readUpdate, uuidKinds, versionKinds, locationKinds, snapshotKinds, snapshotIdsKinds, refNameKinds, referenceKinds, schemaKinds, schemaIdKinds, schemaIdsKinds, sortOrderKinds, sortOrderIdKinds, statisticsFileKinds, statisticsIdKinds}
 use Rattle.rules.proofs.Checks.{and-left, by-either, parts}
 use Rattle.rules.proofs.Relaid.{zero, zeroZ, blank-uuid, blank-text, blank-ref-name, blank-snapshot, blank-snapshot-ids, blank-reference, blank-schema, blank-schema-ids, blank-sort-order, blank-statistics-file}
 use Rattle.builder.proofs.Parts.{tidy-parts}
@@ -41,77 +41,77 @@ module _ {A : Type 0} (kinds : List ℕ) where
 -- ---- the parts: the records that a kind uses, and the others blank
 
 abbrev fieldsBy : ℕ → FieldsPart → FieldsPart
-fieldsBy k p = record { uuid = used (assignUuidKind ∷ []) k (p .uuid) (noFieldsPart .uuid); «format_version» = used (upgradeFormatVersionKind ∷ []) k (p .«format_version») (noFieldsPart .«format_version»); location = used (setLocationKind ∷ []) k (p .location) (noFieldsPart .location) }
+fieldsBy k p = record { uuid = used uuidKinds k (p .uuid) (noFieldsPart .uuid); «format_version» = used versionKinds k (p .«format_version») (noFieldsPart .«format_version»); location = used locationKinds k (p .location) (noFieldsPart .location) }
 
 own-fields : (k : ℕ) (p : FieldsPart) → isTidyFieldsPart k p ≡ true → p ≡ fieldsBy k p
 unfolding isTidyFieldsPart noFieldsPart
 own-fields k p e =
-    let h = parts (usedBy (assignUuidKind ∷ []) k (isBlankUuid (p .uuid))) (usedBy (upgradeFormatVersionKind ∷ []) k (isZero (p .«format_version»)) ∷ fitsKinds (setLocationKind ∷ []) k (isBlankText (p .location)) (isTidyText (p .location)) ∷ []) e in
+    let h = parts (usedBy uuidKinds k (isBlankUuid (p .uuid))) (usedBy versionKinds k (isZero (p .«format_version»)) ∷ fitsKinds locationKinds k (isBlankText (p .location)) (isTidyText (p .location)) ∷ []) e in
     λ i. record {
-      uuid = used-is (assignUuidKind ∷ []) k (isBlankUuid (p .uuid)) (blank-uuid (p .uuid)) (h .0) i;
-      «format_version» = used-is (upgradeFormatVersionKind ∷ []) k (isZero (p .«format_version»)) (zero (p .«format_version»)) (h .1 .0) i;
-      location = fits-is (setLocationKind ∷ []) k (isBlankText (p .location)) (isTidyText (p .location)) (blank-text (p .location)) (h .1 .1 .0) i;
+      uuid = used-is uuidKinds k (isBlankUuid (p .uuid)) (blank-uuid (p .uuid)) (h .0) i;
+      «format_version» = used-is versionKinds k (isZero (p .«format_version»)) (zero (p .«format_version»)) (h .1 .0) i;
+      location = fits-is locationKinds k (isBlankText (p .location)) (isTidyText (p .location)) (blank-text (p .location)) (h .1 .1 .0) i;
     }
 
 abbrev snapshotsBy : ℕ → SnapshotsPart → SnapshotsPart
-snapshotsBy k p = record { added = used (addSnapshotKind ∷ setBranchSnapshotKind ∷ []) k (p .added) (noSnapshotsPart .added); removed = used (removeSnapshotsKind ∷ []) k (p .removed) (noSnapshotsPart .removed) }
+snapshotsBy k p = record { added = used snapshotKinds k (p .added) (noSnapshotsPart .added); removed = used snapshotIdsKinds k (p .removed) (noSnapshotsPart .removed) }
 
 own-snapshots : (k : ℕ) (p : SnapshotsPart) → isTidySnapshotsPart k p ≡ true → p ≡ snapshotsBy k p
 unfolding isTidySnapshotsPart noSnapshotsPart
 own-snapshots k p e =
-    let h = parts (fitsKinds (addSnapshotKind ∷ setBranchSnapshotKind ∷ []) k (isBlankSnapshot (p .added)) (isTidySnapshot (p .added))) (fitsKinds (removeSnapshotsKind ∷ []) k (isBlankSnapshotIds (p .removed)) (isTidySnapshotIds (p .removed)) ∷ []) e in
+    let h = parts (fitsKinds snapshotKinds k (isBlankSnapshot (p .added)) (isTidySnapshot (p .added))) (fitsKinds snapshotIdsKinds k (isBlankSnapshotIds (p .removed)) (isTidySnapshotIds (p .removed)) ∷ []) e in
     λ i. record {
-      added = fits-is (addSnapshotKind ∷ setBranchSnapshotKind ∷ []) k (isBlankSnapshot (p .added)) (isTidySnapshot (p .added)) (blank-snapshot (p .added)) (h .0) i;
-      removed = fits-is (removeSnapshotsKind ∷ []) k (isBlankSnapshotIds (p .removed)) (isTidySnapshotIds (p .removed)) (blank-snapshot-ids (p .removed)) (h .1 .0) i;
+      added = fits-is snapshotKinds k (isBlankSnapshot (p .added)) (isTidySnapshot (p .added)) (blank-snapshot (p .added)) (h .0) i;
+      removed = fits-is snapshotIdsKinds k (isBlankSnapshotIds (p .removed)) (isTidySnapshotIds (p .removed)) (blank-snapshot-ids (p .removed)) (h .1 .0) i;
     }
 
 abbrev refsBy : ℕ → NamedRef → NamedRef
-refsBy k p = record { name = used (setBranchSnapshotKind ∷ setRefKind ∷ removeRefKind ∷ []) k (p .name) (noRef .name); reference = used (setRefKind ∷ []) k (p .reference) (noRef .reference) }
+refsBy k p = record { name = used refNameKinds k (p .name) (noRef .name); reference = used referenceKinds k (p .reference) (noRef .reference) }
 
 own-refs : (k : ℕ) (p : NamedRef) → isTidyRefsPart k p ≡ true → p ≡ refsBy k p
 unfolding isTidyRefsPart
 own-refs k p e =
-    let h = parts (fitsKinds (setBranchSnapshotKind ∷ setRefKind ∷ removeRefKind ∷ []) k (isBlankRefName (p .name)) (isTidyRefName (p .name))) (fitsKinds (setRefKind ∷ []) k (isBlankReference (p .reference)) (isTidyReference (p .reference)) ∷ []) e in
+    let h = parts (fitsKinds refNameKinds k (isBlankRefName (p .name)) (isTidyRefName (p .name))) (fitsKinds referenceKinds k (isBlankReference (p .reference)) (isTidyReference (p .reference)) ∷ []) e in
     λ i. record {
-      name = fits-is (setBranchSnapshotKind ∷ setRefKind ∷ removeRefKind ∷ []) k (isBlankRefName (p .name)) (isTidyRefName (p .name)) (blank-ref-name (p .name)) (h .0) i;
-      reference = fits-is (setRefKind ∷ []) k (isBlankReference (p .reference)) (isTidyReference (p .reference)) (blank-reference (p .reference)) (h .1 .0) i;
+      name = fits-is refNameKinds k (isBlankRefName (p .name)) (isTidyRefName (p .name)) (blank-ref-name (p .name)) (h .0) i;
+      reference = fits-is referenceKinds k (isBlankReference (p .reference)) (isTidyReference (p .reference)) (blank-reference (p .reference)) (h .1 .0) i;
     }
 
 abbrev schemasBy : ℕ → SchemasPart → SchemasPart
-schemasBy k p = record { added = used (addSchemaKind ∷ []) k (p .added) (noSchemasPart .added); chosen = used (setCurrentSchemaKind ∷ []) k (p .chosen) (noSchemasPart .chosen); removed = used (removeSchemasKind ∷ []) k (p .removed) (noSchemasPart .removed) }
+schemasBy k p = record { added = used schemaKinds k (p .added) (noSchemasPart .added); chosen = used schemaIdKinds k (p .chosen) (noSchemasPart .chosen); removed = used schemaIdsKinds k (p .removed) (noSchemasPart .removed) }
 
 own-schemas : (k : ℕ) (p : SchemasPart) → isTidySchemasPart k p ≡ true → p ≡ schemasBy k p
 unfolding isTidySchemasPart noSchemasPart
 own-schemas k p e =
-    let h = parts (fitsKinds (addSchemaKind ∷ []) k (isBlankSchema (p .added)) (isTidySchema (p .added))) (usedBy (setCurrentSchemaKind ∷ []) k (isZeroZ (p .chosen .0)) ∷ fitsKinds (removeSchemasKind ∷ []) k (isBlankSchemaIds (p .removed)) (isTidySchemaIds (p .removed)) ∷ []) e in
+    let h = parts (fitsKinds schemaKinds k (isBlankSchema (p .added)) (isTidySchema (p .added))) (usedBy schemaIdKinds k (isZeroZ (p .chosen .0)) ∷ fitsKinds schemaIdsKinds k (isBlankSchemaIds (p .removed)) (isTidySchemaIds (p .removed)) ∷ []) e in
     λ i. record {
-      added = fits-is (addSchemaKind ∷ []) k (isBlankSchema (p .added)) (isTidySchema (p .added)) (blank-schema (p .added)) (h .0) i;
-      chosen = used-is (setCurrentSchemaKind ∷ []) k (isZeroZ (p .chosen .0)) (λ z. λ j. record { 0 = zeroZ (p .chosen .0) z j }) (h .1 .0) i;
-      removed = fits-is (removeSchemasKind ∷ []) k (isBlankSchemaIds (p .removed)) (isTidySchemaIds (p .removed)) (blank-schema-ids (p .removed)) (h .1 .1 .0) i;
+      added = fits-is schemaKinds k (isBlankSchema (p .added)) (isTidySchema (p .added)) (blank-schema (p .added)) (h .0) i;
+      chosen = used-is schemaIdKinds k (isZeroZ (p .chosen .0)) (λ z. λ j. record { 0 = zeroZ (p .chosen .0) z j }) (h .1 .0) i;
+      removed = fits-is schemaIdsKinds k (isBlankSchemaIds (p .removed)) (isTidySchemaIds (p .removed)) (blank-schema-ids (p .removed)) (h .1 .1 .0) i;
     }
 
 abbrev ordersBy : ℕ → SortOrdersPart → SortOrdersPart
-ordersBy k p = record { added = used (addSortOrderKind ∷ []) k (p .added) (noSortOrdersPart .added); chosen = used (setDefaultSortOrderKind ∷ []) k (p .chosen) (noSortOrdersPart .chosen) }
+ordersBy k p = record { added = used sortOrderKinds k (p .added) (noSortOrdersPart .added); chosen = used sortOrderIdKinds k (p .chosen) (noSortOrdersPart .chosen) }
 
 own-orders : (k : ℕ) (p : SortOrdersPart) → isTidySortOrdersPart k p ≡ true → p ≡ ordersBy k p
 unfolding isTidySortOrdersPart noSortOrdersPart
 own-orders k p e =
-    let h = parts (fitsKinds (addSortOrderKind ∷ []) k (isBlankSortOrder (p .added)) (isTidySortOrder (p .added))) (usedBy (setDefaultSortOrderKind ∷ []) k (isZeroZ (p .chosen .0)) ∷ []) e in
+    let h = parts (fitsKinds sortOrderKinds k (isBlankSortOrder (p .added)) (isTidySortOrder (p .added))) (usedBy sortOrderIdKinds k (isZeroZ (p .chosen .0)) ∷ []) e in
     λ i. record {
-      added = fits-is (addSortOrderKind ∷ []) k (isBlankSortOrder (p .added)) (isTidySortOrder (p .added)) (blank-sort-order (p .added)) (h .0) i;
-      chosen = used-is (setDefaultSortOrderKind ∷ []) k (isZeroZ (p .chosen .0)) (λ z. λ j. record { 0 = zeroZ (p .chosen .0) z j }) (h .1 .0) i;
+      added = fits-is sortOrderKinds k (isBlankSortOrder (p .added)) (isTidySortOrder (p .added)) (blank-sort-order (p .added)) (h .0) i;
+      chosen = used-is sortOrderIdKinds k (isZeroZ (p .chosen .0)) (λ z. λ j. record { 0 = zeroZ (p .chosen .0) z j }) (h .1 .0) i;
     }
 
 abbrev statisticsBy : ℕ → StatisticsPart → StatisticsPart
-statisticsBy k p = record { file = used (setStatisticsKind ∷ setPartitionStatisticsKind ∷ []) k (p .file) (noStatisticsPart .file); removed = used (removeStatisticsKind ∷ removePartitionStatisticsKind ∷ []) k (p .removed) (noStatisticsPart .removed) }
+statisticsBy k p = record { file = used statisticsFileKinds k (p .file) (noStatisticsPart .file); removed = used statisticsIdKinds k (p .removed) (noStatisticsPart .removed) }
 
 own-statistics : (k : ℕ) (p : StatisticsPart) → isTidyStatisticsPart k p ≡ true → p ≡ statisticsBy k p
 unfolding isTidyStatisticsPart noStatisticsPart
 own-statistics k p e =
-    let h = parts (fitsKinds (setStatisticsKind ∷ setPartitionStatisticsKind ∷ []) k (isBlankStatisticsFile (p .file)) (isTidyStatisticsFile (p .file))) (usedBy (removeStatisticsKind ∷ removePartitionStatisticsKind ∷ []) k (isZeroZ (p .removed .0)) ∷ []) e in
+    let h = parts (fitsKinds statisticsFileKinds k (isBlankStatisticsFile (p .file)) (isTidyStatisticsFile (p .file))) (usedBy statisticsIdKinds k (isZeroZ (p .removed .0)) ∷ []) e in
     λ i. record {
-      file = fits-is (setStatisticsKind ∷ setPartitionStatisticsKind ∷ []) k (isBlankStatisticsFile (p .file)) (isTidyStatisticsFile (p .file)) (blank-statistics-file (p .file)) (h .0) i;
-      removed = used-is (removeStatisticsKind ∷ removePartitionStatisticsKind ∷ []) k (isZeroZ (p .removed .0)) (λ z. λ j. record { 0 = zeroZ (p .removed .0) z j }) (h .1 .0) i;
+      file = fits-is statisticsFileKinds k (isBlankStatisticsFile (p .file)) (isTidyStatisticsFile (p .file)) (blank-statistics-file (p .file)) (h .0) i;
+      removed = used-is statisticsIdKinds k (isZeroZ (p .removed .0)) (λ z. λ j. record { 0 = zeroZ (p .removed .0) z j }) (h .1 .0) i;
     }
 
 -- ---- the update

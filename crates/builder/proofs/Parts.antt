@@ -5,7 +5,7 @@ use mathlib.Core.Bool.{Bool, true}
 use mathlib.Core.List.{List, [], _∷_}
 use Rattle.records.specs.declared.update.TableUpdate.{TableUpdate}
 use Rattle.rules.specs.Blanks.{isZeroZ, isTidySnapshot, isBlankSnapshot, isTidySnapshotIds, isBlankSnapshotIds, isTidyRefName, isBlankRefName, isTidyReference, isBlankReference, isTidySchema, isBlankSchema, isTidySchemaIds, isBlankSchemaIds, isTidySortOrder, isBlankSortOrder, isTidyStatisticsFile, isBlankStatisticsFile}
-use Rattle.rules.specs.Kinds.{usedBy, fitsKinds, isTidyFieldsPart, isTidySnapshotsPart, isTidyRefsPart, isTidySchemasPart, isTidySortOrdersPart, isTidyStatisticsPart, isTidyUpdate, addSnapshotKind, setBranchSnapshotKind, removeSnapshotsKind, setRefKind, removeRefKind, addSchemaKind, setCurrentSchemaKind, removeSchemasKind, addSortOrderKind, setStatisticsKind, setPartitionStatisticsKind}
+use Rattle.rules.specs.Kinds.{usedBy, fitsKinds, isTidyFieldsPart, isTidySnapshotsPart, isTidyRefsPart, isTidySchemasPart, isTidySortOrdersPart, isTidyStatisticsPart, isTidyUpdate, snapshotKinds, snapshotIdsKinds, refNameKinds, referenceKinds, schemaKinds, schemaIdKinds, schemaIdsKinds, sortOrderKinds, statisticsFileKinds}
 use Rattle.rules.proofs.Checks.{and-left, and-right, parts}
 
 pub record TidyParts (u : TableUpdate) : Type 0 where
@@ -30,32 +30,32 @@ is-tidy kinds k isBlank isTidy e = and-right (usedBy kinds k isBlank) isTidy e
 module _ (u : TableUpdate) (e : isTidyUpdate u ≡ true) where
   pub snapshot-tidy : isTidySnapshot (u .snapshots .added) ≡ true
   unfolding isTidySnapshotsPart
-  snapshot-tidy = is-tidy (addSnapshotKind ∷ setBranchSnapshotKind ∷ []) (u .kind) (isBlankSnapshot (u .snapshots .added)) (isTidySnapshot (u .snapshots .added)) (and-left (fitsKinds (addSnapshotKind ∷ setBranchSnapshotKind ∷ []) (u .kind) (isBlankSnapshot (u .snapshots .added)) (isTidySnapshot (u .snapshots .added))) _ (tidy-parts u e .snapshots))
+  snapshot-tidy = is-tidy snapshotKinds (u .kind) (isBlankSnapshot (u .snapshots .added)) (isTidySnapshot (u .snapshots .added)) (and-left (fitsKinds snapshotKinds (u .kind) (isBlankSnapshot (u .snapshots .added)) (isTidySnapshot (u .snapshots .added))) _ (tidy-parts u e .snapshots))
 
   pub snapshot-ids-tidy : isTidySnapshotIds (u .snapshots .removed) ≡ true
   unfolding isTidySnapshotsPart
-  snapshot-ids-tidy = is-tidy (removeSnapshotsKind ∷ []) (u .kind) (isBlankSnapshotIds (u .snapshots .removed)) (isTidySnapshotIds (u .snapshots .removed)) (and-right (fitsKinds (addSnapshotKind ∷ setBranchSnapshotKind ∷ []) (u .kind) (isBlankSnapshot (u .snapshots .added)) (isTidySnapshot (u .snapshots .added))) _ (tidy-parts u e .snapshots))
+  snapshot-ids-tidy = is-tidy snapshotIdsKinds (u .kind) (isBlankSnapshotIds (u .snapshots .removed)) (isTidySnapshotIds (u .snapshots .removed)) (and-right (fitsKinds snapshotKinds (u .kind) (isBlankSnapshot (u .snapshots .added)) (isTidySnapshot (u .snapshots .added))) _ (tidy-parts u e .snapshots))
 
   pub ref-name-tidy : isTidyRefName (u .refs .name) ≡ true
   unfolding isTidyRefsPart
-  ref-name-tidy = is-tidy (setBranchSnapshotKind ∷ setRefKind ∷ removeRefKind ∷ []) (u .kind) (isBlankRefName (u .refs .name)) (isTidyRefName (u .refs .name)) (and-left (fitsKinds (setBranchSnapshotKind ∷ setRefKind ∷ removeRefKind ∷ []) (u .kind) (isBlankRefName (u .refs .name)) (isTidyRefName (u .refs .name))) _ (tidy-parts u e .refs))
+  ref-name-tidy = is-tidy refNameKinds (u .kind) (isBlankRefName (u .refs .name)) (isTidyRefName (u .refs .name)) (and-left (fitsKinds refNameKinds (u .kind) (isBlankRefName (u .refs .name)) (isTidyRefName (u .refs .name))) _ (tidy-parts u e .refs))
 
   pub reference-tidy : isTidyReference (u .refs .reference) ≡ true
   unfolding isTidyRefsPart
-  reference-tidy = is-tidy (setRefKind ∷ []) (u .kind) (isBlankReference (u .refs .reference)) (isTidyReference (u .refs .reference)) (and-right (fitsKinds (setBranchSnapshotKind ∷ setRefKind ∷ removeRefKind ∷ []) (u .kind) (isBlankRefName (u .refs .name)) (isTidyRefName (u .refs .name))) _ (tidy-parts u e .refs))
+  reference-tidy = is-tidy referenceKinds (u .kind) (isBlankReference (u .refs .reference)) (isTidyReference (u .refs .reference)) (and-right (fitsKinds refNameKinds (u .kind) (isBlankRefName (u .refs .name)) (isTidyRefName (u .refs .name))) _ (tidy-parts u e .refs))
 
   pub schema-tidy : isTidySchema (u .schemas .added) ≡ true
   unfolding isTidySchemasPart
-  schema-tidy = is-tidy (addSchemaKind ∷ []) (u .kind) (isBlankSchema (u .schemas .added)) (isTidySchema (u .schemas .added)) (parts (fitsKinds (addSchemaKind ∷ []) (u .kind) (isBlankSchema (u .schemas .added)) (isTidySchema (u .schemas .added))) (usedBy (setCurrentSchemaKind ∷ []) (u .kind) (isZeroZ (u .schemas .chosen .0)) ∷ fitsKinds (removeSchemasKind ∷ []) (u .kind) (isBlankSchemaIds (u .schemas .removed)) (isTidySchemaIds (u .schemas .removed)) ∷ []) (tidy-parts u e .schemas) .0)
+  schema-tidy = is-tidy schemaKinds (u .kind) (isBlankSchema (u .schemas .added)) (isTidySchema (u .schemas .added)) (parts (fitsKinds schemaKinds (u .kind) (isBlankSchema (u .schemas .added)) (isTidySchema (u .schemas .added))) (usedBy schemaIdKinds (u .kind) (isZeroZ (u .schemas .chosen .0)) ∷ fitsKinds schemaIdsKinds (u .kind) (isBlankSchemaIds (u .schemas .removed)) (isTidySchemaIds (u .schemas .removed)) ∷ []) (tidy-parts u e .schemas) .0)
 
   pub schema-ids-tidy : isTidySchemaIds (u .schemas .removed) ≡ true
   unfolding isTidySchemasPart
-  schema-ids-tidy = is-tidy (removeSchemasKind ∷ []) (u .kind) (isBlankSchemaIds (u .schemas .removed)) (isTidySchemaIds (u .schemas .removed)) (parts (fitsKinds (addSchemaKind ∷ []) (u .kind) (isBlankSchema (u .schemas .added)) (isTidySchema (u .schemas .added))) (usedBy (setCurrentSchemaKind ∷ []) (u .kind) (isZeroZ (u .schemas .chosen .0)) ∷ fitsKinds (removeSchemasKind ∷ []) (u .kind) (isBlankSchemaIds (u .schemas .removed)) (isTidySchemaIds (u .schemas .removed)) ∷ []) (tidy-parts u e .schemas) .1 .1 .0)
+  schema-ids-tidy = is-tidy schemaIdsKinds (u .kind) (isBlankSchemaIds (u .schemas .removed)) (isTidySchemaIds (u .schemas .removed)) (parts (fitsKinds schemaKinds (u .kind) (isBlankSchema (u .schemas .added)) (isTidySchema (u .schemas .added))) (usedBy schemaIdKinds (u .kind) (isZeroZ (u .schemas .chosen .0)) ∷ fitsKinds schemaIdsKinds (u .kind) (isBlankSchemaIds (u .schemas .removed)) (isTidySchemaIds (u .schemas .removed)) ∷ []) (tidy-parts u e .schemas) .1 .1 .0)
 
   pub order-tidy : isTidySortOrder (u .«sort_orders» .added) ≡ true
   unfolding isTidySortOrdersPart
-  order-tidy = is-tidy (addSortOrderKind ∷ []) (u .kind) (isBlankSortOrder (u .«sort_orders» .added)) (isTidySortOrder (u .«sort_orders» .added)) (and-left (fitsKinds (addSortOrderKind ∷ []) (u .kind) (isBlankSortOrder (u .«sort_orders» .added)) (isTidySortOrder (u .«sort_orders» .added))) _ (tidy-parts u e .orders))
+  order-tidy = is-tidy sortOrderKinds (u .kind) (isBlankSortOrder (u .«sort_orders» .added)) (isTidySortOrder (u .«sort_orders» .added)) (and-left (fitsKinds sortOrderKinds (u .kind) (isBlankSortOrder (u .«sort_orders» .added)) (isTidySortOrder (u .«sort_orders» .added))) _ (tidy-parts u e .orders))
 
   pub statistics-file-tidy : isTidyStatisticsFile (u .statistics .file) ≡ true
   unfolding isTidyStatisticsPart
-  statistics-file-tidy = is-tidy (setStatisticsKind ∷ setPartitionStatisticsKind ∷ []) (u .kind) (isBlankStatisticsFile (u .statistics .file)) (isTidyStatisticsFile (u .statistics .file)) (and-left (fitsKinds (setStatisticsKind ∷ setPartitionStatisticsKind ∷ []) (u .kind) (isBlankStatisticsFile (u .statistics .file)) (isTidyStatisticsFile (u .statistics .file))) _ (tidy-parts u e .statistics))
+  statistics-file-tidy = is-tidy statisticsFileKinds (u .kind) (isBlankStatisticsFile (u .statistics .file)) (isTidyStatisticsFile (u .statistics .file)) (and-left (fitsKinds statisticsFileKinds (u .kind) (isBlankStatisticsFile (u .statistics .file)) (isTidyStatisticsFile (u .statistics .file))) _ (tidy-parts u e .statistics))

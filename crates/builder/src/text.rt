@@ -1,4 +1,4 @@
-// Texts as records: what counts of one is lent, and what is made of it is laid out anew, blank past its length.
+// Texts as records. Of each the bytes that count are lent, and what is made of them is laid out anew.
 ghost use mathlib.Core.Path.{_≡_};
 ghost use Prim.Native.Nat.{_≤_};
 ghost use lib.ListN.{length};
@@ -10,7 +10,7 @@ use leaves::location::trim;
 use leaves::names::same_bytes;
 use records::text::Text;
 
-pub fn text_of(bytes: &[u8]) -> Text
+fn text_of(bytes: &[u8]) -> Text
     requires { ⌜ length (now bytes) ≤ textRoom ⌝ }
     ensures { λ r. ⌜ r ≡ laidText (now (bytes .entry)) ⌝ }
 {
@@ -24,6 +24,7 @@ pub fn text_of(bytes: &[u8]) -> Text
     r
 }
 
+// A text as it is held: blank past its length.
 pub fn clean(text: Text) -> Text
     requires { ⌜ text .len ≤ textRoom ⌝ }
     ensures { λ r. ⌜ r ≡ laidText (readText text) ⌝ }
@@ -33,6 +34,7 @@ pub fn clean(text: Text) -> Text
     text_of(&b[..n])
 }
 
+// A location without its trailing slashes.
 pub fn trimmed(text: Text) -> Text
     requires { ⌜ text .len ≤ textRoom ⌝ }
     ensures { λ r. ⌜ r ≡ laidText (trimmedBytes (readText text)) ⌝ }

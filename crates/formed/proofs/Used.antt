@@ -19,7 +19,7 @@ use Rattle.rules.specs.Words.{any}
 use Rattle.rules.specs.Register.{Update}
 use Rattle.rules.specs.Register.Update.{NotFormed}
 use Rattle.rules.specs.WellFormed.{statisticsFileFormed, updateFormed}
-use Rattle.rules.specs.Kinds.{setStatisticsKind, removeStatisticsKind, setPartitionStatisticsKind, removePartitionStatisticsKind, usedBy, fitsKinds, readKind}
+use Rattle.rules.specs.Kinds.{setStatisticsKind, removeStatisticsKind, setPartitionStatisticsKind, removePartitionStatisticsKind, fitsKinds, readKind}
 use Rattle.rules.specs.Blanks.{isZero, isZeroZ, restBlank, noneUsed, isBlankSnapshotId, isBlankSchemaField, isBlankSchemaId, isBlankSortField, isTidySnapshot, isBlankSnapshot, isTidySnapshotIds, isBlankSnapshotIds, isTidyReference, isBlankReference, isTidySchema, isBlankSchema, isTidySchemaIds, isBlankSchemaIds, isTidySortOrder, isBlankSortOrder, isTidyStatisticsFile, isBlankStatisticsFile}
 use Rattle.rules.specs.Layout.{readStatisticsFile}
 use Rattle.rules.specs.Capacities.{removalRoom, schemaFieldRoom, sortFieldRoom}

@@ -27,7 +27,7 @@ use Rattle.rules.specs.ChangeLog.{logsAddition}
 use Rattle.rules.specs.RefUpdates.{refNamed, isHeldRef, setRefChecks, setRef, timeOf, ownAfter}
 use Rattle.rules.specs.Updates.{checks, effect}
 use Rattle.rules.specs.Run.{weight}
-use Rattle.rules.specs.Layout.{given, readRefName, readReference, laidReference, readRef, laidRef, readRefs, laidRefs, readSnapshot, readSnapshots, laidLogEntry, laidSnapshotLog}
+use Rattle.rules.specs.Layout.{given, readReference, laidReference, readRef, laidRef, readRefs, laidRefs, readSnapshot, readSnapshots, laidLogEntry, laidSnapshotLog}
 use Rattle.rules.specs.Kinds.{readUpdates, laidUpdate, setRefKind}
 use Rattle.rules.proofs.Checks.{and-left, and-right, passed-unless}
 use Rattle.rules.proofs.Reread.{reread-ref}

@@ -87,47 +87,91 @@ setPartitionStatisticsKind = 16
 abbrev pub removePartitionStatisticsKind : ℕ
 removePartitionStatisticsKind = 17
 
--- ---- what a kind uses, part by part
+-- ---- what a kind uses
 
 -- the update is of one of the kinds that use the record, or the record is blank
 abbrev pub usedBy : List ℕ → ℕ → Bool → Bool
 usedBy kinds kind isBlank = any (eqb kind) kinds || isBlank
 
--- the same of a record that has unused places of its own, which are blank in any case
+-- the same, and the record is tidy, as a blank one is
 abbrev pub fitsKinds : List ℕ → ℕ → Bool → Bool → Bool
 fitsKinds kinds kind isBlank isTidy = usedBy kinds kind isBlank && isTidy
 
+-- part by part, the kinds that use each record, and what is asked of the part
+
+abbrev pub uuidKinds : List ℕ
+uuidKinds = assignUuidKind ∷ []
+
+abbrev pub versionKinds : List ℕ
+versionKinds = upgradeFormatVersionKind ∷ []
+
+abbrev pub locationKinds : List ℕ
+locationKinds = setLocationKind ∷ []
+
 unfoldable pub isTidyFieldsPart : ℕ → FieldsPart → Bool
 isTidyFieldsPart kind p =
-    usedBy (assignUuidKind ∷ []) kind (isBlankUuid (p .uuid))
-    && usedBy (upgradeFormatVersionKind ∷ []) kind (isZero (p .«format_version»))
-    && fitsKinds (setLocationKind ∷ []) kind (isBlankText (p .location)) (isTidyText (p .location))
+    usedBy uuidKinds kind (isBlankUuid (p .uuid))
+    && usedBy versionKinds kind (isZero (p .«format_version»))
+    && fitsKinds locationKinds kind (isBlankText (p .location)) (isTidyText (p .location))
+
+abbrev pub snapshotKinds : List ℕ
+snapshotKinds = addSnapshotKind ∷ setBranchSnapshotKind ∷ []
+
+abbrev pub snapshotIdsKinds : List ℕ
+snapshotIdsKinds = removeSnapshotsKind ∷ []
 
 unfoldable pub isTidySnapshotsPart : ℕ → SnapshotsPart → Bool
 isTidySnapshotsPart kind p =
-    fitsKinds (addSnapshotKind ∷ setBranchSnapshotKind ∷ []) kind (isBlankSnapshot (p .added)) (isTidySnapshot (p .added))
-    && fitsKinds (removeSnapshotsKind ∷ []) kind (isBlankSnapshotIds (p .removed)) (isTidySnapshotIds (p .removed))
+    fitsKinds snapshotKinds kind (isBlankSnapshot (p .added)) (isTidySnapshot (p .added))
+    && fitsKinds snapshotIdsKinds kind (isBlankSnapshotIds (p .removed)) (isTidySnapshotIds (p .removed))
+
+abbrev pub refNameKinds : List ℕ
+refNameKinds = setBranchSnapshotKind ∷ setRefKind ∷ removeRefKind ∷ []
+
+abbrev pub referenceKinds : List ℕ
+referenceKinds = setRefKind ∷ []
 
 unfoldable pub isTidyRefsPart : ℕ → NamedRef → Bool
 isTidyRefsPart kind p =
-    fitsKinds (setBranchSnapshotKind ∷ setRefKind ∷ removeRefKind ∷ []) kind (isBlankRefName (p .name)) (isTidyRefName (p .name))
-    && fitsKinds (setRefKind ∷ []) kind (isBlankReference (p .reference)) (isTidyReference (p .reference))
+    fitsKinds refNameKinds kind (isBlankRefName (p .name)) (isTidyRefName (p .name))
+    && fitsKinds referenceKinds kind (isBlankReference (p .reference)) (isTidyReference (p .reference))
+
+abbrev pub schemaKinds : List ℕ
+schemaKinds = addSchemaKind ∷ []
+
+abbrev pub schemaIdKinds : List ℕ
+schemaIdKinds = setCurrentSchemaKind ∷ []
+
+abbrev pub schemaIdsKinds : List ℕ
+schemaIdsKinds = removeSchemasKind ∷ []
 
 unfoldable pub isTidySchemasPart : ℕ → SchemasPart → Bool
 isTidySchemasPart kind p =
-    fitsKinds (addSchemaKind ∷ []) kind (isBlankSchema (p .added)) (isTidySchema (p .added))
-    && usedBy (setCurrentSchemaKind ∷ []) kind (isZeroZ (p .chosen .0))
-    && fitsKinds (removeSchemasKind ∷ []) kind (isBlankSchemaIds (p .removed)) (isTidySchemaIds (p .removed))
+    fitsKinds schemaKinds kind (isBlankSchema (p .added)) (isTidySchema (p .added))
+    && usedBy schemaIdKinds kind (isZeroZ (p .chosen .0))
+    && fitsKinds schemaIdsKinds kind (isBlankSchemaIds (p .removed)) (isTidySchemaIds (p .removed))
+
+abbrev pub sortOrderKinds : List ℕ
+sortOrderKinds = addSortOrderKind ∷ []
+
+abbrev pub sortOrderIdKinds : List ℕ
+sortOrderIdKinds = setDefaultSortOrderKind ∷ []
 
 unfoldable pub isTidySortOrdersPart : ℕ → SortOrdersPart → Bool
 isTidySortOrdersPart kind p =
-    fitsKinds (addSortOrderKind ∷ []) kind (isBlankSortOrder (p .added)) (isTidySortOrder (p .added))
-    && usedBy (setDefaultSortOrderKind ∷ []) kind (isZeroZ (p .chosen .0))
+    fitsKinds sortOrderKinds kind (isBlankSortOrder (p .added)) (isTidySortOrder (p .added))
+    && usedBy sortOrderIdKinds kind (isZeroZ (p .chosen .0))
+
+abbrev pub statisticsFileKinds : List ℕ
+statisticsFileKinds = setStatisticsKind ∷ setPartitionStatisticsKind ∷ []
+
+abbrev pub statisticsIdKinds : List ℕ
+statisticsIdKinds = removeStatisticsKind ∷ removePartitionStatisticsKind ∷ []
 
 unfoldable pub isTidyStatisticsPart : ℕ → StatisticsPart → Bool
 isTidyStatisticsPart kind p =
-    fitsKinds (setStatisticsKind ∷ setPartitionStatisticsKind ∷ []) kind (isBlankStatisticsFile (p .file)) (isTidyStatisticsFile (p .file))
-    && usedBy (removeStatisticsKind ∷ removePartitionStatisticsKind ∷ []) kind (isZeroZ (p .removed .0))
+    fitsKinds statisticsFileKinds kind (isBlankStatisticsFile (p .file)) (isTidyStatisticsFile (p .file))
+    && usedBy statisticsIdKinds kind (isZeroZ (p .removed .0))
 
 abbrev pub isTidyUpdate : TableUpdate → Bool
 isTidyUpdate u =

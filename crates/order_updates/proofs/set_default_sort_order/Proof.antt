@@ -1,5 +1,5 @@
 -- The answer is that of the choice, and the entry is the update with the id that the choice logs.
-use mathlib.Core.Path.{_≡_, ap}
+use mathlib.Core.Path.{ap}
 use borrow.Author.Needs.{needs}
 use Rattle.records.specs.declared.update.TableUpdate.{TableUpdate}
 use Rattle.rules.specs.Updates.{checks, effect}

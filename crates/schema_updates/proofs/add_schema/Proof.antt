@@ -1,6 +1,5 @@
 -- The answer and the table are those of the addition, and the entry is the update with the schema that the addition gives.
 use mathlib.Core.Path.{_≡_, ap}
-use borrow.Author.Needs.{needs}
 use Rattle.records.specs.declared.update.TableUpdate.{TableUpdate}
 use Rattle.rules.specs.WellFormed.{updateFormed}
 use Rattle.rules.specs.Updates.{checks, effect}

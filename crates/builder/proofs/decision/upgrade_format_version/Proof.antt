@@ -1,5 +1,4 @@
 -- The answer is that of the builder's method, and the entry is the update as given.
-use mathlib.Core.Path.{_≡_}
 use borrow.Author.Needs.{needs}
 use Rattle.rules.specs.Updates.{checks, effect}
 use Rattle.builder.proofs.Steps.{entry-as}

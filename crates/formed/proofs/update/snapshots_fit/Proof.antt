@@ -1,7 +1,6 @@
 -- Each record of the part is asked what the rule asks of it.
-use mathlib.Core.List.{[], _∷_}
 use borrow.Author.Needs.{needs}
-use Rattle.rules.specs.Kinds.{isTidySnapshotsPart, addSnapshotKind, setBranchSnapshotKind, removeSnapshotsKind}
+use Rattle.rules.specs.Kinds.{isTidySnapshotsPart, addSnapshotKind, setBranchSnapshotKind, removeSnapshotsKind, snapshotKinds, snapshotIdsKinds}
 use Rattle.formed.proofs.Used.{fits, one-kind, two-kinds, blank-snapshot-tidy, blank-snapshot-ids-tidy}
 use Rattle.formed.proofs.update.snapshots_fit.Statement.{statement}
 use Rattle.formed.proofs.update.snapshots_fit.Tie as tie
@@ -14,4 +13,4 @@ snapshots-fit-spec =
     (λ c κs. search needs)
     (λ c κs. search needs)
     (λ c. let a = c .before .before .args in
-    rw (fits (addSnapshotKind ∷ setBranchSnapshotKind ∷ []) (a .k) (two-kinds (a .k) addSnapshotKind setBranchSnapshotKind) (blank-snapshot-tidy (a .p .added)) (c .before .snapshot-fits .ensures), fits (removeSnapshotsKind ∷ []) (a .k) (one-kind (a .k) removeSnapshotsKind) (blank-snapshot-ids-tidy (a .p .removed)) (c .snapshot-ids-fit .ensures))))
+    rw (fits snapshotKinds (a .k) (two-kinds (a .k) addSnapshotKind setBranchSnapshotKind) (blank-snapshot-tidy (a .p .added)) (c .before .snapshot-fits .ensures), fits snapshotIdsKinds (a .k) (one-kind (a .k) removeSnapshotsKind) (blank-snapshot-ids-tidy (a .p .removed)) (c .snapshot-ids-fit .ensures))))
