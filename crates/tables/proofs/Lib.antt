@@ -7,6 +7,6 @@ mod Gather
 mod Shift
 pub mod Put
 mod Alike
-pub mod Highest
+pub mod Keyed
 pub mod Each
 mod Name

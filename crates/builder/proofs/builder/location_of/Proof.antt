@@ -8,7 +8,7 @@ use lib.Seq.{take-all}
 use Rattle.rules.specs.Capacities.{locationRoom}
 use Rattle.rules.specs.Layout.{pad, laidLocation}
 use Rattle.records.specs.declared.text.Location.{Location}
-use Rattle.builder.proofs.Slots.{pad-more}
+use Rattle.tables.proofs.Keyed.{pad-more}
 use Rattle.builder.proofs.builder.location_of.Statement.{statement}
 use Rattle.builder.proofs.builder.location_of.Tie as tie
 
