@@ -1,6 +1,4 @@
 -- What the proofs of several functions cite, here and in the crates of the updates, and the laws that the run cites.
-mod Slots
-mod Ids
 mod Texts
 pub mod Choices
 pub mod Found

@@ -3,6 +3,7 @@
 // Document 01, "Rules for each update", as the crate `rules` writes it in the files named for the updates.
 pub mod builder;
 pub mod checks;
+pub mod choice;
 pub mod decision;
 pub mod facts;
 pub mod text;

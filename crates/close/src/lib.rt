@@ -36,12 +36,8 @@ fn is_default_unfit(f: SingleFields, schemas: Schemas, orders: SortOrders) -> bo
     requires { ⌜ any (hasOrder (f .«default_sort_order_id» .0)) (readSortOrders orders) ≡ true ⌝ }
     ensures { λ r. ⌜ ((p : Metadata) → readFields f ≡ p .fields → readSchemas schemas ≡ p .schemas → readSortOrders orders ≡ p .orders → r ≡ isDefaultUnfit p) ⌝ }
 {
-    let x = f.current_schema_id;
-    let y = f.default_sort_order_id;
-    let i = tables::schemas::find(schemas, x);
-    let j = tables::sort_orders::find(orders, y);
-    let s = schemas.items[i];
-    let o = orders.items[j];
+    let s = tables::schemas::get(schemas, f.current_schema_id);
+    let o = tables::sort_orders::get(orders, f.default_sort_order_id);
     tables::sort_orders::is_unfit(o, s)
 }
 

@@ -30,8 +30,10 @@ use records::schema::Schemas;
 use records::snapshot::Snapshots;
 use records::sort_order::SortOrders;
 use records::statistics::StatisticsFiles;
+use search::is_in;
+use tables::keys::snapshot_key;
 use tables::names::is_main_name;
-use tables::snapshots::holds;
+use tables::snapshots::ids_of;
 
 pub fn snapshots_formed(t: Snapshots) -> bool
     ensures { λ r. ⌜ r ≡ (isTidySnapshots t && snapshotsFormed (readSnapshots t)) ⌝ }
@@ -97,13 +99,15 @@ pub fn refs_held(r: Refs, t: Snapshots) -> bool
     ensures { λ b. ⌜ b ≡ all (pointsIn (readSnapshots t)) (readRefs r) ⌝ }
 {
     let n = r.count;
+    let held = t.count;
+    let ids = ids_of(t);
     let mut ok = true;
     let mut i = 0;
     while i < n {
         let x = r.items[i];
         let f = x.reference;
-        let id = f.snapshot_id;
-        ok = ok & holds(t, id);
+        let k = snapshot_key(f.snapshot_id);
+        ok = ok & is_in(&ids[..held], k);
         i += 1;
     }
     ok

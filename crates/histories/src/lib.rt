@@ -27,7 +27,9 @@ use records::update::ADD_SNAPSHOT;
 use records::update::REMOVE_SNAPSHOTS;
 use records::update::TableUpdate;
 use records::update::UpdateList;
-use tables::snapshots::holds;
+use search::is_in;
+use tables::keys::snapshot_key;
+use tables::snapshots::ids_of;
 
 // ---- metadata
 
@@ -37,12 +39,14 @@ fn names_held(log: SnapshotLog, t: Snapshots) -> bool
     ensures { λ r. ⌜ r ≡ all (λ e. holdsSnapshot (readSnapshots t) (e .snapshot)) (readSnapshotLog log) ⌝ }
 {
     let n = log.count;
+    let held = t.count;
+    let ids = ids_of(t);
     let mut ok = true;
     let mut i = 0;
     while i < n {
         let e = log.items[i];
-        let id = e.snapshot_id;
-        ok = ok & holds(t, id);
+        let k = snapshot_key(e.snapshot_id);
+        ok = ok & is_in(&ids[..held], k);
         i += 1;
     }
     ok

@@ -6,6 +6,6 @@ mod Filter
 mod Gather
 mod Shift
 pub mod Put
-pub mod Highest
+pub mod Keyed
 pub mod Each
 mod Name

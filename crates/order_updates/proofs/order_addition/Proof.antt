@@ -140,20 +140,21 @@ returns c =
     let f = c .before .before .before in
     let a = f .before in
     let r = f .reuse-or-create-new-sort-id in
-    held (a .args .b) (a .args .t) (a .args .schemas) (a .args .o) (a .pre .1 .1 .1 .1) (r .result .id) (r .ensures .held (c .before .if1 .taken)) (c .is-last-added .result) (c .is-last-added .ensures)
+    let yes = c .before .if1 .taken in
+    held (a .args .b) (a .args .t) (a .args .schemas) (a .args .o) (a .pre .1 .1 .1 .1) (r .result .id) (r .ensures .held yes) (r .result .«is_last») (r .ensures .again yes)
 
 returns-2 : tie.Need-returns-2
 returns-2 c =
     let u = c .before .before .before in
     let w = u .before in
-    let j = w .before in
+    let j = w .before .before in
     let f = j .before .before in
     let a = f .before in
     let r = f .reuse-or-create-new-sort-id in
     let no = j .if1 .left in
     new (a .args .b) (a .args .t) (a .args .schemas) (a .args .o) (a .pre .1 .1 .1 .1) (r .result .id) (r .ensures .new no) (a .pre .1 .0)
     (r .result .exhausted) (r .ensures .over no) (r .ensures .gets no)
-    (w .current-schema .result) (w .current-schema .ensures .0) (u .is-unfit .result) (u .is-unfit .ensures)
+    (w .get .result) (w .get .ensures .0) (u .is-unfit .result) (u .is-unfit .ensures)
     (c .choose3 .result)
     (c .choose3 .ensures ∙ ap (cond (r .result .exhausted) 18) (c .before .choose2 .ensures ∙ ap (cond (u .is-unfit .result) 17) (c .before .before .choose .ensures)))
 
@@ -161,7 +162,6 @@ pub order-addition-spec : {M : Type 1} → statement M
 order-addition-spec =
     tie.close
     (tie.spec
-    (λ c κs. search needs)
     (λ c κs. search needs)
     returns
     (λ c κs. search needs)

@@ -146,11 +146,12 @@ returns c =
     let f = c .before .before .before in
     let a = f .before in
     let r = f .reuse-or-create-new-schema-id in
-    held (a .args .b) (a .args .t) (a .args .s) (a .pre .1) (r .result .id) (r .ensures .held (c .before .if1 .taken)) (c .is-last-added .result) (c .is-last-added .ensures)
+    let yes = c .before .if1 .taken in
+    held (a .args .b) (a .args .t) (a .args .s) (a .pre .1) (r .result .id) (r .ensures .held yes) (r .result .«is_last») (r .ensures .again yes)
 
 returns-2 : tie.Need-returns-2
 returns-2 c =
-    let i = c .before .before .before .before in
+    let i = c .before .before in
     let j = i .before .before in
     let f = j .before .before in
     let a = f .before in
@@ -159,17 +160,15 @@ returns-2 c =
     new (a .args .b) (a .args .t) (a .args .s) (a .pre .1) (r .result .id) (r .ensures .new no) (r .result .exhausted) (r .ensures .over no) (r .ensures .gets no)
     (i .choose2 .result)
     (i .choose2 .ensures ∙ ap (cond (r .result .exhausted) 18) (i .before .choose .ensures))
-    (c .larger-field .result)
-    (c .larger-field .ensures ∙ ap (larger (a .args .b .fields .«last_column_id» .0)) (c .before .highest-field .ensures))
+    (c .last-column .result)
+    (c .last-column .ensures)
 
 pub schema-addition-spec : {M : Type 1} → statement M
 schema-addition-spec =
     tie.close
     (tie.spec
     (λ c κs. search needs)
-    (λ c κs. search needs)
     returns
-    (λ c κs. search needs)
     (λ c κs. search needs)
     (λ c κs. search needs)
     (λ c κs. search needs)

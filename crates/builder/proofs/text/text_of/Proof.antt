@@ -8,7 +8,7 @@ use lib.Seq.{take-all}
 use Rattle.rules.specs.Capacities.{textRoom}
 use Rattle.rules.specs.Layout.{pad, laidText}
 use Rattle.records.specs.declared.text.Text.{Text}
-use Rattle.builder.proofs.Slots.{pad-more}
+use Rattle.tables.proofs.Keyed.{pad-more}
 use Rattle.builder.proofs.text.text_of.Statement.{statement}
 use Rattle.builder.proofs.text.text_of.Tie as tie
 
