@@ -5,3 +5,4 @@ pub mod builder;
 pub mod checks;
 pub mod decision;
 pub mod facts;
+pub mod single;

@@ -39,6 +39,8 @@ use tables::sort_orders::find_equal;
 use tables::sort_orders::highest;
 use tables::sort_orders::is_unfit;
 
+pub mod family;
+
 const LAST_ADDED: i64 = TableMetadataBuilder::LAST_ADDED as i64;
 
 // ---- add sort order

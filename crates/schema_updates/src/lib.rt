@@ -36,6 +36,8 @@ use tables::ids::same_schema;
 use tables::schemas::find_equal;
 use tables::schemas::highest;
 
+pub mod family;
+
 // ---- add schema
 
 fn field_below(a: FieldId, b: FieldId) -> bool
