@@ -19,12 +19,7 @@ use records::sort_order::SortOrders;
 use records::update::ADD_SORT_ORDER;
 use records::update::TableUpdate;
 
-pub fn decide(
-    b: TableMetadataBuilder,
-    schemas: Schemas,
-    t: SortOrders,
-    u: TableUpdate,
-) -> Decision
+pub fn decide(b: TableMetadataBuilder, schemas: Schemas, t: SortOrders, u: TableUpdate) -> Decision
     requires { ⌜ LaidSchemas schemas ⌝ }
     requires { ⌜ holdsSchema (readSchemas schemas) (b .fields .«current_schema_id» .0) ≡ true ⌝ }
     requires { ⌜ LaidOrders t ⌝ }
