@@ -6,4 +6,5 @@ pub mod checks;
 pub mod choice;
 pub mod decision;
 pub mod facts;
+pub mod single;
 pub mod text;

@@ -86,7 +86,7 @@ module _ {g : Given} {st : State} {p : Pieces} (E : Represents g st p) (x : Snap
 abbrev pub grown : Snapshots → List ℤ → ℤ → Pieces → Pieces
 grown t is id p =
     record {
-      held = record { builder = p .held .builder; snapshots = t; ids = is; refs = p .held .refs; log = p .held .log; last = p .held .last; shelf = p .held .shelf };
+      held = record { builder = p .held .builder; snapshots = t; ids = is; refs = p .held .refs; log = p .held .log; last = p .held .last; ownTables = p .held .ownTables };
       changes = withAddition id (p .changes);
     }
 
@@ -100,7 +100,7 @@ module _ {g : Given} {i : ℕ} {p : Pieces} (S : Standing g i p) (v : Update) (a
   tables : {b : _} {t : Snapshots} {is : List ℤ} → b ≡ laidBuilder (addSnapshot x (S .state)) → t ≡ laidSnapshots (put snapshotBelow x (S .state .metadata .snapshots)) → is ≡ pad 64 (pos 0) (idsOf (put snapshotBelow x (S .state .metadata .snapshots)))
       → (id : ℤ) → Tables (addSnapshot x (S .state)) (withBuilder b (grown t is id p .held))
   unfolding addSnapshot
-  tables a b c id = let T = S .stands .tables in record { builder = a; snapshots = b; ids = c; refs = T .refs; log = T .log; last = T .last; shelf = T .shelf }
+  tables a b c id = let T = S .stands .tables in record { builder = a; snapshots = b; ids = c; refs = T .refs; log = T .log; last = T .last; ownTables = T .ownTables }
 
   -- a check that fails
   refused-decided : (half : Bool) {d : Decision} → d .number ≡ firstOf (checks (termsOf g) v (S .state)) → (d .number ≡ 0 → ⊥) → Decided g i half p d
@@ -154,12 +154,12 @@ module _ {g : Given} {i : ℕ} {p : Pieces} (S : Standing g i p) (v : Update) (a
           let two : length (S .state .log) + 2 ≤ 64 = rw w at (fits S v at) in
           let M : Moves 1 (S .state) (addSnapshot x (S .state)) = add-moves x (S .state) in
           let F : snapshotFormed x ≡ true = and-right (refNameFormed (nameAt g i)) _ (rw w at e) in
-          let K = S .stands .kept in
+          let K = S .stands .since in
           record {
             state = addSnapshot x (S .state);
             stands = record {
               sound = add-snapshot-sound (termsOf g .tolerance) x (S .state) F adds (S .stands .sound);
-              kept = record { files = K .files; old = K .old; back = K .back; short = K .short };
+              since = record { files = K .files; old = K .old; back = K .back; short = K .short };
               tables = tables (D .builder z) a b id;
               logs = rw c (push-addition (S .stands .logs) (omega arith) x (D .entry));
               room = omega (arith, M .light);

@@ -55,8 +55,8 @@ module _ (g : Given) (z : startNumber (g .metadata) (g .updates) (g .terms) ≡ 
 
   pub standing-start : {b : TableMetadataBuilder} {is : List ℤ} {last : Time} {e : TableUpdate} → b ≡ fresh (g .metadata .fields) → is ≡ pad 64 (pos 0) (idsOf (readSnapshots (g .metadata .snapshots))) → given (ltb 0 (g .metadata .«snapshot_log» .count)) (last .0) ≡ lastTime (readSnapshotLog (g .metadata .«snapshot_log»)) → e ≡ noUpdate
       → Standing g 0 (record {
-        held = record { builder = b; snapshots = g .metadata .snapshots; ids = is; refs = g .metadata .refs; log = g .metadata .«snapshot_log»; last = last; shelf = record { schemas = g .metadata .schemas; orders = g .metadata .«sort_orders»; statistics = g .metadata .statistics; partitionStatistics = g .metadata .«partition_statistics» } };
-        changes = record { entries = replicate 64 e; count = 0; added = replicate 64 (pos 0); adds = 0; mained = replicate 64 (pos 0); mains = 0; removal = false };
+        held = record { builder = b; snapshots = g .metadata .snapshots; ids = is; refs = g .metadata .refs; log = g .metadata .«snapshot_log»; last = last; ownTables = record { schemas = g .metadata .schemas; orders = g .metadata .«sort_orders»; statistics = g .metadata .statistics; partitionStatistics = g .metadata .«partition_statistics» } };
+        changes = record { entries = replicate 64 e; count = 0; added = replicate 64 (pos 0); adds = 0; mainTargets = replicate 64 (pos 0); mains = 0; removal = false };
       })
   unfolding fresh laidBuilder laidMetadata additions logsMain logsRemoval listSum
   standing-start p q l r =
@@ -67,7 +67,7 @@ module _ (g : Given) (z : startNumber (g .metadata) (g .updates) (g .terms) ≡ 
         left = omega (arith, start .sum);
         stands = record {
           sound = formed-sound (readMetadata (g .metadata)) (start .formed);
-          kept = record { files = refl; old = refl; back = ap (λ (x : TableMetadata). x .«metadata_log») back; short = file-short (g .metadata) (g .updates) (g .terms) (start .file) };
+          since = record { files = refl; old = refl; back = ap (λ (x : TableMetadata). x .«metadata_log») back; short = file-short (g .metadata) (g .updates) (g .terms) (start .file) };
           tables = record {
             builder = p ∙ ap fresh (sym (ap (λ (x : TableMetadata). x .fields) back));
             snapshots = sym (ap (λ (x : TableMetadata). x .snapshots) back);
@@ -75,14 +75,14 @@ module _ (g : Given) (z : startNumber (g .metadata) (g .updates) (g .terms) ≡ 
             refs = sym (ap (λ (x : TableMetadata). x .refs) back);
             log = sym (ap (λ (x : TableMetadata). x .«snapshot_log») back);
             last = l;
-            shelf = record {
+            ownTables = record {
               schemas = sym (ap (λ (x : TableMetadata). x .schemas) back);
               orders = sym (ap (λ (x : TableMetadata). x .«sort_orders») back);
               statistics = sym (ap (λ (x : TableMetadata). x .statistics) back);
               partitionStatistics = sym (ap (λ (x : TableMetadata). x .«partition_statistics») back);
             };
           };
-          logs = record { entries = ap (λ (x : TableUpdate). replicate 64 x) r; count = refl; added = refl; adds = refl; mained = refl; mains = refl; removal = refl };
+          logs = record { entries = ap (λ (x : TableUpdate). replicate 64 x) r; count = refl; added = refl; adds = refl; mainTargets = refl; mains = refl; removal = refl };
           room = omega arith;
         };
       }
@@ -99,17 +99,17 @@ module _ {g : Given} {st : State} {p : Pieces} (E : Represents g st p) where
   pub read-log : readSnapshotLog (p .held .log) ≡ st .metadata .snapshotLog
   read-log = rw (E .tables .log) (reread-snapshot-log (st .metadata .snapshotLog))
 
-  pub read-schemas : readSchemas (p .held .shelf .schemas) ≡ st .metadata .schemas
-  read-schemas = rw (E .tables .shelf .schemas) (reread-schemas (st .metadata .schemas))
+  pub read-schemas : readSchemas (p .held .ownTables .schemas) ≡ st .metadata .schemas
+  read-schemas = rw (E .tables .ownTables .schemas) (reread-schemas (st .metadata .schemas))
 
-  pub read-orders : readSortOrders (p .held .shelf .orders) ≡ st .metadata .orders
-  read-orders = rw (E .tables .shelf .orders) (reread-sort-orders (st .metadata .orders))
+  pub read-orders : readSortOrders (p .held .ownTables .orders) ≡ st .metadata .orders
+  read-orders = rw (E .tables .ownTables .orders) (reread-sort-orders (st .metadata .orders))
 
-  pub statistics-laid : (which : StatisticsTable) → filesOf which (p .held .shelf) ≡ laidStatistics (statisticsOf which (st .metadata))
-  statistics-laid Statistics = E .tables .shelf .statistics
-  statistics-laid PartitionStatistics = E .tables .shelf .partitionStatistics
+  pub statistics-laid : (which : StatisticsTable) → filesOf which (p .held .ownTables) ≡ laidStatistics (statisticsOf which (st .metadata))
+  statistics-laid Statistics = E .tables .ownTables .statistics
+  statistics-laid PartitionStatistics = E .tables .ownTables .partitionStatistics
 
-  pub read-statistics : (which : StatisticsTable) → readStatistics (filesOf which (p .held .shelf)) ≡ statisticsOf which (st .metadata)
+  pub read-statistics : (which : StatisticsTable) → readStatistics (filesOf which (p .held .ownTables)) ≡ statisticsOf which (st .metadata)
   read-statistics which = rw (statistics-laid which) (reread-statistics (statisticsOf which (st .metadata)))
 
   pub snapshots-fit : length (st .metadata .snapshots) ≤ 64
@@ -143,25 +143,25 @@ module _ {g : Given} {st : State} {p : Pieces} (E : Represents g st p) where
   pub laid-log : LaidSnapshotLog (p .held .log)
   laid-log = record { back = rw read-log (sym (E .tables .log)); fits = rw read-log log-fit }
 
-  pub laid-schemas : LaidSchemas (p .held .shelf .schemas)
+  pub laid-schemas : LaidSchemas (p .held .ownTables .schemas)
   unfolding schemasFormed
   laid-schemas =
       record {
-        back = rw read-schemas (sym (E .tables .shelf .schemas));
+        back = rw read-schemas (sym (E .tables .ownTables .schemas));
         fits = rw read-schemas (table-parts schemaRoom schemaFormed schemaBelow (st .metadata .schemas) (E .sound .schemas) .0);
         fields = rw read-schemas (all-then schemaFormed (λ (x : plain.Schema). leb (length (x .fields)) schemaFieldRoom) (λ x e. parts (nonNeg (x .id)) (leb (length (x .fields)) schemaFieldRoom ∷ _ ∷ _ ∷ []) e .1 .0) (st .metadata .schemas) (table-parts schemaRoom schemaFormed schemaBelow (st .metadata .schemas) (E .sound .schemas) .1));
       }
 
-  pub laid-orders : LaidOrders (p .held .shelf .orders)
+  pub laid-orders : LaidOrders (p .held .ownTables .orders)
   unfolding ordersFormed
   laid-orders =
       record {
-        back = rw read-orders (sym (E .tables .shelf .orders));
+        back = rw read-orders (sym (E .tables .ownTables .orders));
         fits = rw read-orders (table-parts sortOrderRoom orderFormed orderBelow (st .metadata .orders) (E .sound .orders) .0);
         fields = rw read-orders (all-then orderFormed (λ (x : plain.SortOrder). leb (length (x .fields)) sortFieldRoom) (λ x e. parts (nonNeg (x .id)) (leb (length (x .fields)) sortFieldRoom ∷ _ ∷ []) (and-left (offeredOrderFormed x) _ e) .1 .0) (st .metadata .orders) (table-parts sortOrderRoom orderFormed orderBelow (st .metadata .orders) (E .sound .orders) .1));
       }
 
-  pub laid-statistics : (which : StatisticsTable) → LaidStatistics (filesOf which (p .held .shelf))
+  pub laid-statistics : (which : StatisticsTable) → LaidStatistics (filesOf which (p .held .ownTables))
   unfolding statisticsFormed
   laid-statistics which =
       record {
@@ -169,7 +169,7 @@ module _ {g : Given} {st : State} {p : Pieces} (E : Represents g st p) where
         fits = rw (read-statistics which) (table-parts statisticsRoom statisticsFileFormed statisticsBelow (statisticsOf which (st .metadata)) (statistics-formed (st .metadata) (E .sound) which) .0);
       }
 
-  pub statistics-ascend : (which : StatisticsTable) → ascending statisticsBelow (readStatistics (filesOf which (p .held .shelf))) ≡ true
+  pub statistics-ascend : (which : StatisticsTable) → ascending statisticsBelow (readStatistics (filesOf which (p .held .ownTables))) ≡ true
   unfolding statisticsFormed
   statistics-ascend which = rw (read-statistics which) (table-parts statisticsRoom statisticsFileFormed statisticsBelow (statisticsOf which (st .metadata)) (statistics-formed (st .metadata) (E .sound) which) .2)
 
@@ -185,21 +185,21 @@ module _ {g : Given} {st : State} {p : Pieces} (E : Represents g st p) where
   unfolding laidBuilder
   read-fields = rw (ap (λ (x : TableMetadataBuilder). x .fields) (E .tables .builder)) (reread-fields (st .metadata .fields))
 
-  pub schemas-ascend : ascending schemaBelow (readSchemas (p .held .shelf .schemas)) ≡ true
+  pub schemas-ascend : ascending schemaBelow (readSchemas (p .held .ownTables .schemas)) ≡ true
   unfolding schemasFormed
   schemas-ascend = rw read-schemas (table-parts schemaRoom schemaFormed schemaBelow (st .metadata .schemas) (E .sound .schemas) .2)
 
-  pub orders-formed : ordersFormed (readSortOrders (p .held .shelf .orders)) ≡ true
+  pub orders-formed : ordersFormed (readSortOrders (p .held .ownTables .orders)) ≡ true
   orders-formed = rw read-orders (E .sound .orders)
 
   pub refs-ascend : ascending refBelow (readRefs (p .held .refs)) ≡ true
   unfolding refsFormed
   refs-ascend = rw read-refs (table-parts refRoom refFormed refBelow (st .metadata .refs) (E .sound .refs) .2)
 
-  pub schema-held : any (hasSchema (p .held .builder .fields .«current_schema_id» .0)) (readSchemas (p .held .shelf .schemas)) ≡ true
+  pub schema-held : any (hasSchema (p .held .builder .fields .«current_schema_id» .0)) (readSchemas (p .held .ownTables .schemas)) ≡ true
   unfolding currentSchemaHeld
   schema-held = rw (read-schemas, ap (λ (x : plain.SingleFields). x .currentSchema) read-fields) (E .sound .schemaHeld)
 
-  pub order-held : any (hasOrder (p .held .builder .fields .«default_sort_order_id» .0)) (readSortOrders (p .held .shelf .orders)) ≡ true
+  pub order-held : any (hasOrder (p .held .builder .fields .«default_sort_order_id» .0)) (readSortOrders (p .held .ownTables .orders)) ≡ true
   unfolding defaultOrderHeld
   order-held = rw (read-orders, ap (λ (x : plain.SingleFields). x .defaultOrder) read-fields) (E .sound .orderHeld)

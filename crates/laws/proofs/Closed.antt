@@ -99,14 +99,14 @@ module _ {g : Given} {st : State} {p : Pieces} (E : Represents g st p) where
   pub added-ids : take (p .changes .adds) (p .changes .added) ≡ additions (st .log)
   added-ids = rw (E .logs .added, E .logs .adds) (pad-front (pos 0) 64 (additions (st .log)))
 
-  pub main-ids : take (p .changes .mains) (p .changes .mained) ≡ logsMain (st .log)
-  main-ids = rw (E .logs .mained, E .logs .mains) (pad-front (pos 0) 64 (logsMain (st .log)))
+  pub main-ids : take (p .changes .mains) (p .changes .mainTargets) ≡ logsMain (st .log)
+  main-ids = rw (E .logs .mainTargets, E .logs .mains) (pad-front (pos 0) 64 (logsMain (st .log)))
 
   pub fields-laid : p .held .builder .fields ≡ laidFields (st .metadata .fields)
   unfolding laidBuilder
   fields-laid = ap (λ (x : TableMetadataBuilder). x .fields) (E .tables .builder)
 
-  pub told : Told (st .log) (st .metadata) (p .held .log) (take (p .held .snapshots .count) (p .held .ids)) (p .held .builder .fields) (take (p .changes .adds) (p .changes .added)) (take (p .changes .mains) (p .changes .mained)) (p .changes .removal)
+  pub told : Told (st .log) (st .metadata) (p .held .log) (take (p .held .snapshots .count) (p .held .ids)) (p .held .builder .fields) (take (p .changes .adds) (p .changes .added)) (take (p .changes .mains) (p .changes .mainTargets)) (p .changes .removal)
   told =
       record {
         history = read-log E;
@@ -117,12 +117,12 @@ module _ {g : Given} {st : State} {p : Pieces} (E : Represents g st p) where
         removes = E .logs .removal;
       }
 
-  pub handed : Handed (st .metadata) (p .held .builder .fields) (p .held .refs) (p .held .shelf .schemas) (p .held .shelf .orders)
+  pub handed : Handed (st .metadata) (p .held .builder .fields) (p .held .refs) (p .held .ownTables .schemas) (p .held .ownTables .orders)
   handed = record { single = read-fields E; named = read-refs E; columns = read-schemas E; sorts = read-orders E }
 
   pub files-laid : LaidMetadataLog (g .metadata .«metadata_log»)
   unfolding metadataLogFormed
-  files-laid = record { back = E .kept .back; fits = rw (← (E .kept .files)) (log-fits metadataLogRoom (λ (e : plain.FileEntry). fileNameFormed (e .file)) (st .metadata .metadataLog) (E .sound .metadataLog)) }
+  files-laid = record { back = E .since .back; fits = rw (← (E .since .files)) (log-fits metadataLogRoom (λ (e : plain.FileEntry). fileNameFormed (e .file)) (st .metadata .metadataLog) (E .sound .metadataLog)) }
 
   abbrev pub checks : List Check
   checks = closeChecks (termsOf g) (st .log) (st .metadata)
@@ -133,7 +133,7 @@ module _ {g : Given} {st : State} {p : Pieces} (E : Represents g st p) where
   -- the metadata log, under the limit that is given, with so many gone
   module _ {limit gone : ℕ} (e : limit ≡ limitOf (g .text)) (k : gone ≡ cond (g .terms .«has_file») (g .metadata .«metadata_log» .count + 1) (g .metadata .«metadata_log» .count) - limit) where
     filed : Filed (termsOf g) (st .metadata) (g .metadata .«metadata_log») (g .terms) (g .metadata .fields .«last_updated_ms») limit
-    filed = record { laid = files-laid; entries = sym (E .kept .files); name = refl; time = sym (E .kept .old); most = e; least = rw e (limit-least (g .text)) }
+    filed = record { laid = files-laid; entries = sym (E .since .files); name = refl; time = sym (E .since .old); most = e; least = rw e (limit-least (g .text)) }
 
     pub gone-fits : gone ≤ g .metadata .«metadata_log» .count
     gone-fits = rw k (gone-within filed)
@@ -149,7 +149,7 @@ module _ {g : Given} {st : State} {p : Pieces} (E : Represents g st p) where
     unfolding closeChecks
     joins-fit z j =
         let few : length (staying (termsOf g) (st .metadata)) ≤ 128 = ltb-false metadataLogRoom _ (passed checks refl z .1 .1 .1 .0) in
-        (omega (arith, few, gone-fits, stays-count ∙ ap (λ (b : Bool). cond b (g .metadata .«metadata_log» .count + 1) (g .metadata .«metadata_log» .count) - gone) j), E .kept .short j)
+        (omega (arith, few, gone-fits, stays-count ∙ ap (λ (b : Bool). cond b (g .metadata .«metadata_log» .count + 1) (g .metadata .«metadata_log» .count) - gone) j), E .since .short j)
 
     pub stay-is : {stay : MetadataLog} → stay ≡ laidMetadataLog (drop gone (readMetadataLog (g .metadata .«metadata_log»)) ++ joining (g .terms) (g .metadata .fields .«last_updated_ms»)) → stay ≡ laidMetadataLog (staying (termsOf g) (st .metadata))
     stay-is q = q ∙ ap laidMetadataLog (ap (λ (n : ℕ). drop n (readMetadataLog (g .metadata .«metadata_log»)) ++ joining (g .terms) (g .metadata .fields .«last_updated_ms»)) k ∙ sym (stays filed))
@@ -172,14 +172,14 @@ module _ {g : Given} {st : State} {p : Pieces} (E : Represents g st p) where
   pub close-accepted : (place : ℕ) → firstOf checks ≡ 0 → {y : History} → HistoryOf (st .log) (st .metadata) y
       → {stay gone : MetadataLog} → stay ≡ laidMetadataLog (staying (termsOf g) (st .metadata)) → gone ≡ laidMetadataLog (expired (termsOf g) (st .metadata))
       → {x : Time} → x .0 ≡ orElse (given (p .held .builder .«has_own») (p .held .builder .own .0)) (g .terms .«clock_ms» .0)
-      → _≡_ {A = Answer} (record { number = 0; place = 0; metadata = record { fields = updated x (p .held .builder .fields); snapshots = p .held .snapshots; refs = p .held .refs; «snapshot_log» = y .log; «metadata_log» = stay; schemas = p .held .shelf .schemas; «sort_orders» = p .held .shelf .orders; statistics = p .held .shelf .statistics; «partition_statistics» = p .held .shelf .partitionStatistics }; changes = record { items = p .changes .entries; count = p .changes .count }; expired = gone })
+      → _≡_ {A = Answer} (record { number = 0; place = 0; metadata = record { fields = updated x (p .held .builder .fields); snapshots = p .held .snapshots; refs = p .held .refs; «snapshot_log» = y .log; «metadata_log» = stay; schemas = p .held .ownTables .schemas; «sort_orders» = p .held .ownTables .orders; statistics = p .held .ownTables .statistics; «partition_statistics» = p .held .ownTables .partitionStatistics }; changes = record { items = p .changes .entries; count = p .changes .count }; expired = gone })
       (laidOutcome (g .metadata) (close (termsOf g) place (st .log) st))
   unfolding laidOutcome closed laidMetadata laidFields laidUpdates
   close-accepted place e {y} Y S G {x} u =
       let T = E .tables in
       let own : x .0 ≡ orElse (st .own) (g .terms .«clock_ms» .0) = u ∙ ap (λ (o : Option ℤ). orElse o (g .terms .«clock_ms» .0)) (its-own st (T .builder)) in
       let F : updated x (p .held .builder .fields) ≡ updated (record { 0 = orElse (st .own) (g .terms .«clock_ms» .0) }) (laidFields (st .metadata .fields)) = λ i. updated (record { 0 = own i }) (fields-laid i) in
-      (λ i. record { number = 0; place = 0; metadata = record { fields = F i; snapshots = T .snapshots i; refs = T .refs i; «snapshot_log» = Y .log i; «metadata_log» = S i; schemas = T .shelf .schemas i; «sort_orders» = T .shelf .orders i; statistics = T .shelf .statistics i; «partition_statistics» = T .shelf .partitionStatistics i }; changes = record { items = E .logs .entries i; count = E .logs .count i }; expired = G i })
+      (λ i. record { number = 0; place = 0; metadata = record { fields = F i; snapshots = T .snapshots i; refs = T .refs i; «snapshot_log» = Y .log i; «metadata_log» = S i; schemas = T .ownTables .schemas i; «sort_orders» = T .ownTables .orders i; statistics = T .ownTables .statistics i; «partition_statistics» = T .ownTables .partitionStatistics i }; changes = record { items = E .logs .entries i; count = E .logs .count i }; expired = G i })
       ∙ ap (laidOutcome (g .metadata)) (sym (accepts e place))
 
   -- the parts that are lent
@@ -189,8 +189,8 @@ module _ {g : Given} {st : State} {p : Pieces} (E : Represents g st p) where
   pub adds-within : p .changes .adds ≤ length (p .changes .added)
   adds-within = omega (arith, adds-fit, ap length (E .logs .added) ∙ pad-length (pos 0) 64 (additions (st .log)) (omega (arith, adds-fit, E .logs .adds)))
 
-  pub mains-within : p .changes .mains ≤ length (p .changes .mained)
-  mains-within = omega (arith, mains-fit, ap length (E .logs .mained) ∙ pad-length (pos 0) 64 (logsMain (st .log)) (omega (arith, mains-fit, E .logs .mains)))
+  pub mains-within : p .changes .mains ≤ length (p .changes .mainTargets)
+  mains-within = omega (arith, mains-fit, ap length (E .logs .mainTargets) ∙ pad-length (pos 0) 64 (logsMain (st .log)) (omega (arith, mains-fit, E .logs .mains)))
 
   pub held-slice : p .held .snapshots .count ≡ length (take (p .held .snapshots .count) (p .held .ids))
   held-slice = lent-slice (st .metadata .snapshots) (E .tables .snapshots) (E .tables .ids)
@@ -198,5 +198,5 @@ module _ {g : Given} {st : State} {p : Pieces} (E : Represents g st p) where
   pub added-slice : p .changes .adds ≡ length (take (p .changes .adds) (p .changes .added))
   added-slice = E .logs .adds ∙ sym (ap length added-ids)
 
-  pub main-slice : p .changes .mains ≡ length (take (p .changes .mains) (p .changes .mained))
+  pub main-slice : p .changes .mains ≡ length (take (p .changes .mains) (p .changes .mainTargets))
   main-slice = E .logs .mains ∙ sym (ap length main-ids)

@@ -97,7 +97,8 @@ abbrev pub statisticsGroup : StatisticsTable → ℕ
 statisticsGroup Statistics = 5
 statisticsGroup PartitionStatistics = 6
 
--- what it changes beside the log: 1 single fields; 2 schemas; 3 sort orders; 4 refs, by removing one; 5 and 6 statistics files; 0 snapshots, or refs by setting one
+-- Its family, by what it may change beside the log: 1 single fields; 2 schemas; 3 sort orders; 4 refs, by removing one; 5 and 6 statistics
+-- files; 0 snapshots, or refs by setting one. Choosing a schema or an order changes a single field, and is of their family.
 abbrev pub group : Update → ℕ
 group (AssignUuid uuid) = 1
 group (UpgradeFormatVersion v) = 1
@@ -108,10 +109,10 @@ group (RemoveSnapshots ids) = 0
 group (SetRef name r) = 0
 group (RemoveRef name) = 4
 group (AddSchema s) = 2
-group (SetCurrentSchema id) = 1
+group (SetCurrentSchema id) = 2
 group (RemoveSchemas ids) = 2
 group (AddSortOrder o) = 3
-group (SetDefaultSortOrder id) = 1
+group (SetDefaultSortOrder id) = 3
 group (SetStatistics which f) = statisticsGroup which
 group (RemoveStatistics which id) = statisticsGroup which
 group (NotFormed counts) = 1
@@ -172,13 +173,13 @@ aside terms (AddSchema s) st n =
     by-option (Aside 2 st) (reusedSchema s (st .metadata .schemas))
     (λ e. logs-quiet (AddSchema _) st (schemas-same refl) refl (record { adds = refl; sets = refl; removes = refl }))
     (λ id e. by-test (Aside 2 st) (someWith (eqZ id) (st .added .schema)) (λ f. rest 2 st) (λ f. logs-quiet (AddSchema s) st (fields-same 2 refl) refl (record { adds = refl; sets = refl; removes = refl })))
-aside terms (SetCurrentSchema id) st n = by-test (Aside 1 st) (eqZ (chosen id (st .added .schema)) (st .metadata .fields .currentSchema)) (λ e. rest 1 st) (λ e. logs-quiet (SetCurrentSchema _) st (fields-same 1 refl) refl (record { adds = refl; sets = refl; removes = refl }))
+aside terms (SetCurrentSchema id) st n = by-test (Aside 2 st) (eqZ (chosen id (st .added .schema)) (st .metadata .fields .currentSchema)) (λ e. rest 2 st) (λ e. logs-quiet (SetCurrentSchema _) st (fields-same 2 refl) refl (record { adds = refl; sets = refl; removes = refl }))
 aside terms (RemoveSchemas ids) st n = by-test (Aside 2 st) (isEmpty ids) (λ e. rest 2 st) (λ e. logs-quiet (RemoveSchemas _) st (schemas-same refl) refl (record { adds = refl; sets = refl; removes = refl }))
 aside terms (AddSortOrder o) st n =
     by-option (Aside 3 st) (reusedOrder o (st .metadata .orders))
     (λ e. logs-quiet (AddSortOrder _) st (orders-same refl) refl (record { adds = refl; sets = refl; removes = refl }))
     (λ id e. by-test (Aside 3 st) (someWith (eqZ id) (st .added .order)) (λ f. rest 3 st) (λ f. logs-quiet (AddSortOrder _) st (fields-same 3 refl) refl (record { adds = refl; sets = refl; removes = refl })))
-aside terms (SetDefaultSortOrder id) st n = by-test (Aside 1 st) (eqZ (chosen id (st .added .order)) (st .metadata .fields .defaultOrder)) (λ e. rest 1 st) (λ e. logs-quiet (SetDefaultSortOrder _) st (fields-same 1 refl) refl (record { adds = refl; sets = refl; removes = refl }))
+aside terms (SetDefaultSortOrder id) st n = by-test (Aside 3 st) (eqZ (chosen id (st .added .order)) (st .metadata .fields .defaultOrder)) (λ e. rest 3 st) (λ e. logs-quiet (SetDefaultSortOrder _) st (fields-same 3 refl) refl (record { adds = refl; sets = refl; removes = refl }))
 aside terms (SetStatistics which f) st n = logs-quiet (SetStatistics which f) st (statistics-same which _ (st .metadata)) refl (record { adds = refl; sets = refl; removes = refl })
 aside terms (RemoveStatistics which id) st n = by-test (Aside (statisticsGroup which) st) (hasFileOf (statisticsOf which (st .metadata)) id) (λ e. logs-quiet (RemoveStatistics which id) st (statistics-same which _ (st .metadata)) refl (record { adds = refl; sets = refl; removes = refl })) (λ e. rest (statisticsGroup which) st)
 aside terms (NotFormed counts) st n = rest 1 st

@@ -53,7 +53,7 @@ module _ {l : List Update} {c : Changes} (g : Logs l c) (h : length l < 64) wher
         count = count-more u;
         added = g .added ∙ ap (λ (x : List ℤ). pad 64 (pos 0) x) (sym (collect-none addition l u (s .adds)));
         adds = g .adds ∙ ap length (sym (collect-none addition l u (s .adds)));
-        mained = g .mained ∙ ap (λ (x : List ℤ). pad 64 (pos 0) x) (sym (collect-none mainTarget l u (s .sets)));
+        mainTargets = g .mainTargets ∙ ap (λ (x : List ℤ). pad 64 (pos 0) x) (sym (collect-none mainTarget l u (s .sets)));
         mains = g .mains ∙ ap length (sym (collect-none mainTarget l u (s .sets)));
         removal = g .removal ∙ sym (any-append isSnapshotRemoval l (u ∷ []) ∙ rw (s .removes) (or-false (any isSnapshotRemoval l)));
       }
@@ -68,7 +68,7 @@ module _ {l : List Update} {c : Changes} (g : Logs l c) (h : length l < 64) wher
         count = count-more u;
         added = one-more (pos 0) (collect addition l) (collect addition (l ++ (u ∷ []))) (s .id) (g .added) (g .adds) (omega (arith, collect-length addition l)) n;
         adds = counted (collect addition l) (collect addition (l ++ (u ∷ []))) (s .id) (g .adds) n;
-        mained = g .mained ∙ ap (λ (x : List ℤ). pad 64 (pos 0) x) (sym (collect-none mainTarget l u refl));
+        mainTargets = g .mainTargets ∙ ap (λ (x : List ℤ). pad 64 (pos 0) x) (sym (collect-none mainTarget l u refl));
         mains = g .mains ∙ ap length (sym (collect-none mainTarget l u refl));
         removal = g .removal ∙ sym (any-append isSnapshotRemoval l (u ∷ []) ∙ or-false (any isSnapshotRemoval l));
       }
@@ -82,7 +82,7 @@ module _ {l : List Update} {c : Changes} (g : Logs l c) (h : length l < 64) wher
         count = count-more u;
         added = g .added ∙ ap (λ (x : List ℤ). pad 64 (pos 0) x) (sym (collect-none addition l u refl));
         adds = g .adds ∙ ap length (sym (collect-none addition l u refl));
-        mained = g .mained ∙ ap (λ (x : List ℤ). pad 64 (pos 0) x) (sym (collect-none mainTarget l u refl));
+        mainTargets = g .mainTargets ∙ ap (λ (x : List ℤ). pad 64 (pos 0) x) (sym (collect-none mainTarget l u refl));
         mains = g .mains ∙ ap length (sym (collect-none mainTarget l u refl));
         removal = or-true (c .removal) ∙ sym (any-append isSnapshotRemoval l (u ∷ []) ∙ or-true (any isSnapshotRemoval l));
       }
@@ -97,7 +97,7 @@ module _ {l : List Update} {c : Changes} (g : Logs l c) (h : length l < 64) wher
         count = count-more u;
         added = g .added ∙ ap (λ (x : List ℤ). pad 64 (pos 0) x) (sym (collect-none addition l u refl));
         adds = g .adds ∙ ap length (sym (collect-none addition l u refl));
-        mained = one-more (pos 0) (collect mainTarget l) (collect mainTarget (l ++ (u ∷ []))) (r .snapshot) (g .mained) (g .mains) (omega (arith, collect-length mainTarget l)) n;
+        mainTargets = one-more (pos 0) (collect mainTarget l) (collect mainTarget (l ++ (u ∷ []))) (r .snapshot) (g .mainTargets) (g .mains) (omega (arith, collect-length mainTarget l)) n;
         mains = counted (collect mainTarget l) (collect mainTarget (l ++ (u ∷ []))) (r .snapshot) (g .mains) n;
         removal = g .removal ∙ sym (any-append isSnapshotRemoval l (u ∷ []) ∙ or-false (any isSnapshotRemoval l));
       }

@@ -40,7 +40,7 @@ module _ {g : Given} {i : ℕ} {p : Pieces} (S : Standing g i p) (v : Update) (a
   next n T L =
       let M : Moves (weight v) (S .state) (effect (termsOf g) v (S .state)) = moves (termsOf g) v (S .state) in
       let q : total weight (drop i (readUpdates (g .updates))) ≡ weight v + total weight (drop (i + 1) (readUpdates (g .updates))) = ap (total weight) at in
-      let K = S .stands .kept in
+      let K = S .stands .since in
       record {
         starts = S .starts;
         state = effect (termsOf g) v (S .state);
@@ -48,7 +48,7 @@ module _ {g : Given} {i : ℕ} {p : Pieces} (S : Standing g i p) (v : Update) (a
         left = omega (arith, S .left, M .light);
         stands = record {
           sound = effect-sound (termsOf g) v (S .state) n (S .stands .sound);
-          kept = record { files = M .files ∙ K .files; old = M .old ∙ K .old; back = K .back; short = K .short };
+          since = record { files = M .files ∙ K .files; old = M .old ∙ K .old; back = K .back; short = K .short };
           tables = T;
           logs = L;
           room = omega (arith, S .left, M .light);

@@ -50,7 +50,7 @@ or-nothing false = refl
 abbrev pub removed : Snapshots → List ℤ → Refs → Bool → Pieces → Pieces
 removed t is r b p =
     record {
-      held = record { builder = p .held .builder; snapshots = t; ids = is; refs = r; log = p .held .log; last = p .held .last; shelf = p .held .shelf };
+      held = record { builder = p .held .builder; snapshots = t; ids = is; refs = r; log = p .held .log; last = p .held .last; ownTables = p .held .ownTables };
       changes = withRemoval b (p .changes);
     }
 
@@ -93,8 +93,8 @@ module _ {g : Given} {i : ℕ} {p : Pieces} (S : Standing g i p) (v : Update) (a
       z ∙ rw (lent left kt ki, read-refs E) (ap (λ (q : plain.NamedRef → Bool). laidRefs (keep q (S .state .metadata .refs))) (λ i y. in-held left (y .reference .snapshot) i)) in
       rw w
       (by-test (λ (s : State). Tables s (removed t is r b p .held)) (isEmpty (heldSnapshots xs (S .state .metadata .snapshots)))
-      (λ k. record { builder = T .builder; snapshots = kt; ids = ki; refs = kr; log = T .log; last = T .last; shelf = T .shelf })
-      (λ k. record { builder = T .builder; snapshots = kt; ids = ki; refs = kr; log = T .log; last = T .last; shelf = T .shelf }))
+      (λ k. record { builder = T .builder; snapshots = kt; ids = ki; refs = kr; log = T .log; last = T .last; ownTables = T .ownTables })
+      (λ k. record { builder = T .builder; snapshots = kt; ids = ki; refs = kr; log = T .log; last = T .last; ownTables = T .ownTables }))
 
   pub removed-decided : {d : Decision} → SnapshotsGone xs (S .state) d → {t : Snapshots} {is : List ℤ} {r : Refs} → t ≡ laidSnapshots (otherSnapshots xs (readSnapshots (p .held .snapshots))) → is ≡ pad 64 (pos 0) (idsOf (readSnapshots t)) → r ≡ laidRefs (keep (λ y. isIn (take (t .count) is) (y .reference .snapshot)) (readRefs (p .held .refs)))
       → Decided g i false (removed t is r (d .logs) p) d
@@ -108,11 +108,11 @@ module _ {g : Given} {i : ℕ} {p : Pieces} (S : Standing g i p) (v : Update) (a
         logs = λ _ q.
             let k : isEmpty (heldSnapshots xs (S .state .metadata .snapshots)) ≡ false = not-true (isEmpty (heldSnapshots xs (S .state .metadata .snapshots))) (sym (D .logs) ∙ q) in
             whole (next S v at a
-            (record { builder = D .builder ∙ rw (w, k); snapshots = T .snapshots; ids = T .ids; refs = T .refs; log = T .log; last = T .last; shelf = T .shelf })
+            (record { builder = D .builder ∙ rw (w, k); snapshots = T .snapshots; ids = T .ids; refs = T .refs; log = T .log; last = T .last; ownTables = T .ownTables })
             (rw (w, k, q) (push-removal (S .stands .logs) (omega (arith, fits S v at)) (heldSnapshots xs (S .state .metadata .snapshots)) (D .entry))));
         stays = λ _ q.
             let k : isEmpty (heldSnapshots xs (S .state .metadata .snapshots)) ≡ true = not-false (isEmpty (heldSnapshots xs (S .state .metadata .snapshots))) (sym (D .logs) ∙ q) in
             let L = S .stands .logs in
             whole (next S v at a T
-            (rw (w, k, q) (record { entries = L .entries; count = L .count; added = L .added; adds = L .adds; mained = L .mained; mains = L .mains; removal = or-nothing (p .changes .removal) ∙ L .removal })));
+            (rw (w, k, q) (record { entries = L .entries; count = L .count; added = L .added; adds = L .adds; mainTargets = L .mainTargets; mains = L .mains; removal = or-nothing (p .changes .removal) ∙ L .removal })));
       }

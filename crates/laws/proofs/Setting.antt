@@ -114,10 +114,10 @@ set-decides {g} {i} W {b} {t} {held} {isAdded} {time} {entries} {clock} {d} R F 
     (R .answers (termsOf g) (W .state) (subst (λ (w : plain.Reference). Faced (termsOf g) (W .state) w b t held isAdded time entries clock) (W .asks) F))
 
 -- the pieces after `main` was set
-abbrev pub mained : Refs → SnapshotLog → Time → ℤ → Pieces → Pieces
-mained r h last id p =
+abbrev pub withMainSet : Refs → SnapshotLog → Time → ℤ → Pieces → Pieces
+withMainSet r h last id p =
     record {
-      held = record { builder = p .held .builder; snapshots = p .held .snapshots; ids = p .held .ids; refs = r; log = h; last = last; shelf = p .held .shelf };
+      held = record { builder = p .held .builder; snapshots = p .held .snapshots; ids = p .held .ids; refs = r; log = h; last = last; ownTables = p .held .ownTables };
       changes = withMain id (p .changes);
     }
 
@@ -158,7 +158,7 @@ module _ {g : Given} {i : ℕ} {p : Pieces} (W : Midway g i p) {d : Decision} (D
         let n : readRef (d .entry .refs) ≡ record { name = name; reference = w } = ap (λ (e : TableUpdate). readRef (e .refs)) (D .entry) ∙ reread-ref (record { name = name; reference = w }) in
         q ∙ rw (t, n, read-refs (W .stands))
 
-    pub other-decided : (d .grows && isMain name) ≡ false → Decided g i false (tabled r (p .held .shelf) p) d
+    pub other-decided : (d .grows && isMain name) ≡ false → Decided g i false (tabled r (p .held .ownTables) p) d
     unfolding setRefChecks setRef
     other-decided m =
         let T = W .stands .tables in
@@ -169,12 +169,12 @@ module _ {g : Given} {i : ℕ} {p : Pieces} (W : Midway g i p) {d : Decision} (D
               let y = other t in
               let f : isMain name ≡ false = rw (grows z t) at m in
               whole (W .goes (fine z)
-              (record { builder = D .builder z t; snapshots = rw (y, f) (T .snapshots); ids = rw (y, f) (T .ids); refs = rw (y, f) (refs-after (grows z t)); log = rw (y, f) (T .log); last = rw (y, f) (T .last); shelf = rw (y, f) (T .shelf) })
+              (record { builder = D .builder z t; snapshots = rw (y, f) (T .snapshots); ids = rw (y, f) (T .ids); refs = rw (y, f) (refs-after (grows z t)); log = rw (y, f) (T .log); last = rw (y, f) (T .last); ownTables = rw (y, f) (T .ownTables) })
               (rw (y, f) (push-quiet (W .stands .logs) (W .more) (SetRef name w) (D .entry) (record { adds = refl; sets = rw f; removes = refl }))));
           stays = λ z f.
               let y : isHeldRef name w (W .state .metadata .refs) ≡ true = not-false (isHeldRef name w (W .state .metadata .refs)) (sym (D .logs) ∙ f) in
               let k : d .grows ≡ false = D .grows ∙ rw f in
-              whole (W .goes (fine z) (rw y (record { builder = T .builder; snapshots = T .snapshots; ids = T .ids; refs = q ∙ rw k (T .refs); log = T .log; last = T .last; shelf = T .shelf })) (rw y (W .stands .logs)));
+              whole (W .goes (fine z) (rw y (record { builder = T .builder; snapshots = T .snapshots; ids = T .ids; refs = q ∙ rw k (T .refs); log = T .log; last = T .last; ownTables = T .ownTables })) (rw y (W .stands .logs)));
         }
 
     module _ (t : d .grows ≡ true) (m : isMain name ≡ true) where
@@ -193,7 +193,7 @@ module _ {g : Given} {i : ℕ} {p : Pieces} (W : Midway g i p) {d : Decision} (D
           rw (b, D .entry, y, m)
 
       pub main-decided : {h : SnapshotLog} {e : SnapshotLogEntry} → e ≡ record { «snapshot_id» = d .entry .refs .reference .«snapshot_id»; «timestamp_ms» = d .builder .own } → p .held .log .count < 128 → h .items ≡ set (p .held .log .items) (p .held .log .count) e → h .count ≡ p .held .log .count + 1 → {id : ℤ} → id ≡ w .snapshot
-          → Decided g i false (mained r h (e .«timestamp_ms») id p) d
+          → Decided g i false (withMainSet r h (e .«timestamp_ms») id p) d
       unfolding setRef time
       main-decided {h} {e} a l b c v =
           let y = other (accepts .0) in
@@ -210,7 +210,7 @@ module _ {g : Given} {i : ℕ} {p : Pieces} (W : Midway g i p) {d : Decision} (D
             room = λ z. room;
             logs = λ z f.
                 whole (W .goes (fine z)
-                (record { builder = D .builder z f; snapshots = rw (y, m) (T .snapshots); ids = rw (y, m) (T .ids); refs = rw (y, m) (refs-after t); log = rw (y, m) longer; last = rw (y, m) last; shelf = rw (y, m) (T .shelf) })
+                (record { builder = D .builder z f; snapshots = rw (y, m) (T .snapshots); ids = rw (y, m) (T .ids); refs = rw (y, m) (refs-after t); log = rw (y, m) longer; last = rw (y, m) last; ownTables = rw (y, m) (T .ownTables) })
                 (rw (y, m, v) (push-main (W .stands .logs) (W .more) name w (D .entry) m)));
             stays = λ z f. absurd (true≢false (sym (accepts .0) ∙ f));
           }

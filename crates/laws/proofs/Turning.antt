@@ -1,18 +1,19 @@
 -- The turns of the loop: from one that decides to one that stores and back, and what kind the update of a turn is of.
 use Prim.Native.Nat.{ℕ, _+_, _≤_, _<_}
 use native.Mathlib.Omega.{arith}
-use mathlib.Core.Path.{_≡_, sym, ap, _∙_}
+use mathlib.Core.Path.{_≡_, refl, sym, ap, subst, _∙_}
 use mathlib.Core.Bool.{Bool, true, false, cond, true≢false, false≢true}
+use borrow.Author.Tests.{eqb-true, eqb-false}
 use borrow.Table.Steps.{cases}
+use lib.Dec.{eqb}
 use Rattle.records.specs.declared.update.TableUpdate.{TableUpdate}
-use Rattle.rules.specs.Register.{StatisticsTable}
 use Rattle.rules.specs.WellFormed.{updateFormed}
-use Rattle.rules.specs.Kinds.{readKind, readUpdate, assignUuidKind, upgradeFormatVersionKind, setLocationKind, setBranchSnapshotKind, removeRefKind, addSchemaKind, setCurrentSchemaKind, removeSchemasKind, addSortOrderKind, setDefaultSortOrderKind, settingKind, removingKind}
+use Rattle.rules.specs.Kinds.{atKind, readings, readKind, readUpdate, assignUuidKind, setLocationKind, setBranchSnapshotKind, removeRefKind, addSchemaKind, addSortOrderKind, setStatisticsKind, setPartitionStatisticsKind}
 use Rattle.builder.specs.declared.decision.Decision.{Decision}
-use Rattle.start.proofs.Reading.{formed-tidy, read-tidy, read-set-statistics, read-remove-statistics}
+use Rattle.start.proofs.Reading.{formed-tidy, read-tidy, bounds}
 use Rattle.laws.specs.Standing.{Given, Pieces, Standing}
 use Rattle.laws.specs.Turns.{updateAt, Stands, Decided, Turn}
-use Rattle.laws.proofs.Effects.{group, statisticsGroup}
+use Rattle.laws.proofs.Effects.{group}
 
 module _ {g : Given} {place : ℕ} {half : Bool} {p : Pieces} where
   -- only a branch commit can be half done
@@ -44,41 +45,29 @@ module _ {g : Given} {place : ℕ} {half : Bool} {p : Pieces} where
       pub goes-on : {e : Decision} {w : Pieces} → Stands g (cond half place (place + 1)) half w → Turn g (d .number) next false half w e
       goes-on S = record { within = rw q ahead; short = λ _. short; refused = λ n. absurd (n z); stands = λ _ _. rw q S; waits = λ _ f. absurd (false≢true f) }
 
--- ---- the kind of an update
+-- ---- the family of an update, by its kind
+
+two : (P : ℕ → Type 0) (a k : ℕ) → a ≤ k → k ≤ a + 1 → P a → P (a + 1) → P k
+two P a k l h x y = cases (eqb k a) (λ t. subst P (sym (eqb-true k a t)) x) (λ f. subst P (let q : a + 1 ≡ k = omega (arith, eqb-false k a f) in q) y)
 
 module _ (u : TableUpdate) (f : updateFormed (readUpdate u) ≡ true) where
   read : readUpdate u ≡ readKind u
   read = read-tidy u (formed-tidy u f)
 
-  pub is-uuid : u .kind ≡ assignUuidKind → group (readUpdate u) ≡ 1
-  is-uuid e = ap group read ∙ rw e
-
-  pub is-version : u .kind ≡ upgradeFormatVersionKind → group (readUpdate u) ≡ 1
-  is-version e = ap group read ∙ rw e
-
-  pub is-location : u .kind ≡ setLocationKind → group (readUpdate u) ≡ 1
-  is-location e = ap group read ∙ rw e
+  pub is-single : u .kind ≤ setLocationKind → group (readUpdate u) ≡ 1
+  is-single h = ap group read ∙ cases (eqb (u .kind) assignUuidKind) (λ t. rw (eqb-true (u .kind) assignUuidKind t)) (λ n. two (λ k. group (atKind k (readings u)) ≡ 1) 2 (u .kind) (omega (arith, bounds u f, eqb-false (u .kind) assignUuidKind n)) h refl refl)
 
   pub is-ref-removal : u .kind ≡ removeRefKind → group (readUpdate u) ≡ 4
   is-ref-removal e = ap group read ∙ rw e
 
-  pub is-schema : u .kind ≡ addSchemaKind → group (readUpdate u) ≡ 2
-  is-schema e = ap group read ∙ rw e
+  pub is-schemas : addSchemaKind ≤ u .kind → u .kind < addSortOrderKind → group (readUpdate u) ≡ 2
+  is-schemas l h = ap group read ∙ cases (eqb (u .kind) addSchemaKind) (λ t. rw (eqb-true (u .kind) addSchemaKind t)) (λ n. two (λ k. group (atKind k (readings u)) ≡ 2) 10 (u .kind) (omega (arith, eqb-false (u .kind) addSchemaKind n)) (omega arith) refl refl)
 
-  pub is-schema-choice : u .kind ≡ setCurrentSchemaKind → group (readUpdate u) ≡ 1
-  is-schema-choice e = ap group read ∙ rw e
+  pub is-orders : addSortOrderKind ≤ u .kind → u .kind < setStatisticsKind → group (readUpdate u) ≡ 3
+  is-orders l h = ap group read ∙ two (λ k. group (atKind k (readings u)) ≡ 3) 12 (u .kind) l (omega arith) refl refl
 
-  pub is-schema-removal : u .kind ≡ removeSchemasKind → group (readUpdate u) ≡ 2
-  is-schema-removal e = ap group read ∙ rw e
+  pub is-statistics : setStatisticsKind ≤ u .kind → u .kind < setPartitionStatisticsKind → group (readUpdate u) ≡ 5
+  is-statistics l h = ap group read ∙ two (λ k. group (atKind k (readings u)) ≡ 5) 14 (u .kind) l (omega arith) refl refl
 
-  pub is-order : u .kind ≡ addSortOrderKind → group (readUpdate u) ≡ 3
-  is-order e = ap group read ∙ rw e
-
-  pub is-order-choice : u .kind ≡ setDefaultSortOrderKind → group (readUpdate u) ≡ 1
-  is-order-choice e = ap group read ∙ rw e
-
-  pub is-statistics-setting : (which : StatisticsTable) → u .kind ≡ settingKind which → group (readUpdate u) ≡ statisticsGroup which
-  is-statistics-setting which e = ap group (read-set-statistics u f which e)
-
-  pub is-statistics-removal : (which : StatisticsTable) → u .kind ≡ removingKind which → group (readUpdate u) ≡ statisticsGroup which
-  is-statistics-removal which e = ap group (read-remove-statistics u f which e)
+  pub is-partition-statistics : setPartitionStatisticsKind ≤ u .kind → group (readUpdate u) ≡ 6
+  is-partition-statistics l = ap group read ∙ two (λ k. group (atKind k (readings u)) ≡ 6) 16 (u .kind) l (omega (arith, bounds u f)) refl refl

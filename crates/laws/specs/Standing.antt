@@ -50,16 +50,39 @@ termsOf g = readTerms (g .terms) (g .text)
 abbrev pub answerOf : Given → Answer
 answerOf g = answer (g .metadata) (g .updates) (g .terms) (g .text)
 
--- the tables that nothing but their own updates changes
-pub record Shelf : Type 0 where
+-- the tables that only their own updates change: a family of updates has one of them, and no other update touches it
+pub record OwnTables : Type 0 where
   pub schemas : Schemas
   pub orders : SortOrders
   pub statistics : StatisticsFiles
   pub partitionStatistics : StatisticsFiles
 
-abbrev pub filesOf : StatisticsTable → Shelf → StatisticsFiles
+-- one of them, by its family
+pub data OwnTable : Type 0 where
+  ofSchemas : OwnTable
+  ofOrders : OwnTable
+  ofStatistics : StatisticsTable → OwnTable
+
+abbrev pub Slots : OwnTable → Type 0
+Slots ofSchemas = Schemas
+Slots ofOrders = SortOrders
+Slots (ofStatistics which) = StatisticsFiles
+
+abbrev pub filesOf : StatisticsTable → OwnTables → StatisticsFiles
 filesOf Statistics s = s .statistics
 filesOf PartitionStatistics s = s .partitionStatistics
+
+abbrev pub tableOf : (o : OwnTable) → OwnTables → Slots o
+tableOf ofSchemas s = s .schemas
+tableOf ofOrders s = s .orders
+tableOf (ofStatistics which) s = filesOf which s
+
+-- the tables with another one of a family
+abbrev pub withTable : (o : OwnTable) → Slots o → OwnTables → OwnTables
+withTable ofSchemas t s = record { schemas = t; orders = s .orders; statistics = s .statistics; partitionStatistics = s .partitionStatistics }
+withTable ofOrders t s = record { schemas = s .schemas; orders = t; statistics = s .statistics; partitionStatistics = s .partitionStatistics }
+withTable (ofStatistics Statistics) t s = record { schemas = s .schemas; orders = s .orders; statistics = t; partitionStatistics = s .partitionStatistics }
+withTable (ofStatistics PartitionStatistics) t s = record { schemas = s .schemas; orders = s .orders; statistics = s .statistics; partitionStatistics = t }
 
 -- the builder and the tables; the ids of the snapshots and the time of the last log entry stand beside them, as they are read often
 pub record Held : Type 0 where
@@ -69,7 +92,7 @@ pub record Held : Type 0 where
   pub refs : Refs
   pub log : SnapshotLog
   pub last : Time
-  pub shelf : Shelf
+  pub ownTables : OwnTables
 
 -- the change log as slots and a count, and the three facts that are read of it: the ids that it adds, the snapshots to which it sets `main`,
 -- and whether it removes snapshots
@@ -78,7 +101,7 @@ pub record Changes : Type 0 where
   pub count : ℕ
   pub added : List ℤ
   pub adds : ℕ
-  pub mained : List ℤ
+  pub mainTargets : List ℤ
   pub mains : ℕ
   pub removal : Bool
 
@@ -88,21 +111,21 @@ pub record Pieces : Type 0 where
 
 -- one entry more
 abbrev pub entered : TableUpdate → Changes → Changes
-entered e c = record { entries = set (c .entries) (c .count) e; count = c .count + 1; added = c .added; adds = c .adds; mained = c .mained; mains = c .mains; removal = c .removal }
+entered e c = record { entries = set (c .entries) (c .count) e; count = c .count + 1; added = c .added; adds = c .adds; mainTargets = c .mainTargets; mains = c .mains; removal = c .removal }
 
 -- what a log with such an entry is told besides: an id that it adds; a snapshot to which it sets `main`; that it removes snapshots
 abbrev pub withAddition : ℤ → Changes → Changes
-withAddition id c = record { entries = c .entries; count = c .count; added = set (c .added) (c .adds) id; adds = c .adds + 1; mained = c .mained; mains = c .mains; removal = c .removal }
+withAddition id c = record { entries = c .entries; count = c .count; added = set (c .added) (c .adds) id; adds = c .adds + 1; mainTargets = c .mainTargets; mains = c .mains; removal = c .removal }
 
 abbrev pub withMain : ℤ → Changes → Changes
-withMain id c = record { entries = c .entries; count = c .count; added = c .added; adds = c .adds; mained = set (c .mained) (c .mains) id; mains = c .mains + 1; removal = c .removal }
+withMain id c = record { entries = c .entries; count = c .count; added = c .added; adds = c .adds; mainTargets = set (c .mainTargets) (c .mains) id; mains = c .mains + 1; removal = c .removal }
 
 abbrev pub withRemoval : Bool → Changes → Changes
-withRemoval b c = record { entries = c .entries; count = c .count; added = c .added; adds = c .adds; mained = c .mained; mains = c .mains; removal = c .removal || b }
+withRemoval b c = record { entries = c .entries; count = c .count; added = c .added; adds = c .adds; mainTargets = c .mainTargets; mains = c .mains; removal = c .removal || b }
 
 -- the tables with another builder
 abbrev pub withBuilder : TableMetadataBuilder → Held → Held
-withBuilder b h = record { builder = b; snapshots = h .snapshots; ids = h .ids; refs = h .refs; log = h .log; last = h .last; shelf = h .shelf }
+withBuilder b h = record { builder = b; snapshots = h .snapshots; ids = h .ids; refs = h .refs; log = h .log; last = h .last; ownTables = h .ownTables }
 
 -- the builder and the entry of a decision are stored
 abbrev pub stored : Decision → Pieces → Pieces
@@ -110,18 +133,27 @@ stored d p = record { held = withBuilder (d .builder) (p .held); changes = enter
 
 -- ---- the pieces of a state
 
--- what of metadata stands on the shelf
-pub record OnShelf : Type 0 where
+-- these tables of metadata
+pub record OwnLists : Type 0 where
   pub schemas : List plain.Schema
   pub orders : List plain.SortOrder
   pub statistics : List plain.StatisticsFile
   pub partitionStatistics : List plain.StatisticsFile
 
-abbrev pub onShelf : Metadata → OnShelf
-onShelf m = record { schemas = m .schemas; orders = m .orders; statistics = m .statistics; partitionStatistics = m .partitionStatistics }
+abbrev pub ownLists : Metadata → OwnLists
+ownLists m = record { schemas = m .schemas; orders = m .orders; statistics = m .statistics; partitionStatistics = m .partitionStatistics }
 
--- the tables of the shelf are these, laid out
-pub record Shelved (m : OnShelf) (s : Shelf) : Type 0 where
+abbrev pub filesIn : StatisticsTable → OwnLists → List plain.StatisticsFile
+filesIn Statistics l = l .statistics
+filesIn PartitionStatistics l = l .partitionStatistics
+
+abbrev pub laidOf : (o : OwnTable) → OwnLists → Slots o
+laidOf ofSchemas l = laidSchemas (l .schemas)
+laidOf ofOrders l = laidSortOrders (l .orders)
+laidOf (ofStatistics which) l = laidStatistics (filesIn which l)
+
+-- the tables are these, laid out
+pub record OwnLaid (m : OwnLists) (s : OwnTables) : Type 0 where
   pub schemas : s .schemas ≡ laidSchemas (m .schemas)
   pub orders : s .orders ≡ laidSortOrders (m .orders)
   pub statistics : s .statistics ≡ laidStatistics (m .statistics)
@@ -135,7 +167,7 @@ pub record Tables (st : State) (h : Held) : Type 0 where
   pub refs : h .refs ≡ laidRefs (st .metadata .refs)
   pub log : h .log ≡ laidSnapshotLog (st .metadata .snapshotLog)
   pub last : given (ltb 0 (h .log .count)) (h .last .0) ≡ lastTime (st .metadata .snapshotLog)
-  pub shelf : Shelved (onShelf (st .metadata)) (h .shelf)
+  pub ownTables : OwnLaid (ownLists (st .metadata)) (h .ownTables)
 
 -- the entries are those of the log, laid out, and the three facts are read of it
 pub record Logs (l : List Update) (c : Changes) : Type 0 where
@@ -143,12 +175,13 @@ pub record Logs (l : List Update) (c : Changes) : Type 0 where
   pub count : c .count ≡ length l
   pub added : c .added ≡ pad 64 (pos 0) (additions l)
   pub adds : c .adds ≡ length (additions l)
-  pub mained : c .mained ≡ pad 64 (pos 0) (logsMain l)
+  pub mainTargets : c .mainTargets ≡ pad 64 (pos 0) (logsMain l)
   pub mains : c .mains ≡ length (logsMain l)
   pub removal : c .removal ≡ logsRemoval l
 
--- what no update changes, and what the start was found to be
-pub record Kept (g : Given) (st : State) : Type 0 where
+-- What has been so since the start. No update changes the metadata log, nor the old last update, which the close still needs; and where the
+-- start was accepted, the log that was given is laid out, and the file's name is not too long.
+pub record SinceStart (g : Given) (st : State) : Type 0 where
   pub files : st .metadata .metadataLog ≡ readMetadataLog (g .metadata .«metadata_log»)
   pub old : st .metadata .fields .lastUpdated ≡ g .metadata .fields .«last_updated_ms» .0
   pub back : laidMetadataLog (readMetadataLog (g .metadata .«metadata_log»)) ≡ g .metadata .«metadata_log»
@@ -157,14 +190,15 @@ pub record Kept (g : Given) (st : State) : Type 0 where
 -- the pieces stand for the state
 pub record Represents (g : Given) (st : State) (p : Pieces) : Type 0 where
   pub sound : Sound (st .metadata)
-  pub kept : Kept g st
+  pub since : SinceStart g st
   pub tables : Tables st (p .held)
   pub logs : Logs (st .log) (p .changes)
   pub room : length (st .log) ≤ 64
 
 -- ---- between two updates
 
--- the pieces stand for a state, from which the updates from a place on lead where all of them lead from the start
+-- Between two updates the pieces stand for a state. From that state the updates that are left, those from the place on, come to the same
+-- outcome as the whole list does from the start, and their entries still have room in the change log.
 pub record Standing (g : Given) (i : ℕ) (p : Pieces) : Type 0 where
   pub starts : Starts (g .metadata) (g .updates) (g .terms)
   pub state : State

@@ -47,7 +47,9 @@ nameAt g i = readRefName (updateAt g i .refs .name)
 abbrev pub RefusedWith : Given → ℕ → ℕ → Type 0
 RefusedWith g number place = laidOutcome (g .metadata) (Refused number place) ≡ answerOf g
 
--- the pieces stand for a state in which the ref of the update at a place is to be set, and what setting it there gives is what the update gives
+-- The ref of the update at a place is still to be set: a set ref, or a branch commit that has added its snapshot. The pieces stand for a
+-- state, and `wanted` is the ref. Where setting it in that state is refused, so is the run; where it is not, the state after it is the one
+-- after the whole update.
 pub record Midway (g : Given) (i : ℕ) (p : Pieces) : Type 0 where
   pub state : State
   pub stands : Represents g state p

@@ -39,6 +39,8 @@ use tables::sort_orders::find_equal;
 use tables::sort_orders::ids_of;
 use tables::sort_orders::is_unfit;
 
+pub mod family;
+
 // ---- add sort order
 
 // The id that an added order gets: that of a held one with the same fields, if one is found, else the next, unless ids are exhausted.

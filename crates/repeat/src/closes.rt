@@ -139,7 +139,7 @@ fn close_times(times: u64, m: TableMetadata, terms: RunTerms, text: &[u8]) -> Ke
 }
 
 fn answer(times: u64, m: TableMetadata, terms: RunTerms, text: &[u8]) -> Kept {
-    let number = start_number(m, terms, 0, 0);
+    let number = start_number(is_formed(m), terms, 0, 0);
     if number != ACCEPTED {
         return Kept { number, count: 0 };
     }

@@ -42,6 +42,8 @@ use tables::schemas::field_ids_of;
 use tables::schemas::find_equal;
 use tables::schemas::ids_of;
 
+pub mod family;
+
 // ---- add schema
 
 const LARGEST: i64 = i32::MAX as i64;

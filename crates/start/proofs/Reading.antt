@@ -3,12 +3,12 @@ use Prim.Native.Nat.{ℕ, zero, suc, _+_, _≤_, _<_}
 use native.Mathlib.Omega.{arith}
 use native.Mathlib.Numerals.{add-one}
 use mathlib.Core.Path.{_≡_, refl, sym, ap, _∙_}
-use mathlib.Core.Bool.{Bool, true, false, cond, _||_, false≢true}
+use mathlib.Core.Bool.{Bool, true, false, cond, _&&_, _||_, false≢true}
 use mathlib.Core.List.{List, [], _∷_, map}
-use lib.Dec.{eqb}
+use lib.Dec.{eqb, leb}
 use lib.ListN.{length, getD, take, drop, length-map, length-take, drop-of-length-le}
 use lib.Seq.{drop-cons, getD-take}
-use borrow.Author.Tests.{eqb-true}
+use borrow.Author.Tests.{eqb-true, leb-true}
 use borrow.Table.Steps.{cases}
 use Rattle.records.specs.Blanks.{noUpdate}
 use Rattle.records.specs.declared.update.TableUpdate.{TableUpdate}
@@ -84,6 +84,19 @@ module _ (u : TableUpdate) (f : updateFormed (readUpdate u) ≡ true) where
   known =
       cases (any (eqb (u .kind)) kinds) (λ e. e)
       (λ e. absurd (false≢true (sym (ap updateFormed (unknown (u .kind) (readings u) e)) ∙ formed-kind)))
+
+  -- and so its kind is one of their numbers
+  pub bounds : (assignUuidKind ≤ u .kind) × (u .kind ≤ removePartitionStatisticsKind)
+  bounds = go kinds known refl
+    where
+      go : (l : List ℕ) → any (eqb (u .kind)) l ≡ true → all (λ x. leb assignUuidKind x && leb x removePartitionStatisticsKind) l ≡ true → (assignUuidKind ≤ u .kind) × (u .kind ≤ removePartitionStatisticsKind)
+      go [] e h = absurd (false≢true e)
+      go (x ∷ l) e h =
+          let k = and-left (leb assignUuidKind x && leb x removePartitionStatisticsKind) (all (λ x. leb assignUuidKind x && leb x removePartitionStatisticsKind) l) h in
+          by-either (eqb (u .kind) x) (any (eqb (u .kind)) l)
+          (λ t. rw (eqb-true (u .kind) x t) (leb-true assignUuidKind x (and-left (leb assignUuidKind x) (leb x removePartitionStatisticsKind) k), leb-true x removePartitionStatisticsKind (and-right (leb assignUuidKind x) (leb x removePartitionStatisticsKind) k)))
+          (λ t. go l t (and-right (leb assignUuidKind x && leb x removePartitionStatisticsKind) (all (λ x. leb assignUuidKind x && leb x removePartitionStatisticsKind) l) h))
+          e
 
 -- ---- what it counts
 

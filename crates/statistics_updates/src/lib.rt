@@ -25,6 +25,8 @@ use records::update::TableUpdate;
 use tables::statistics::has_file_of;
 use tables::statistics::put;
 
+pub mod family;
+
 // A file is set and logged also where the table has an equal one.
 pub fn set_statistics(b: TableMetadataBuilder, t: StatisticsFiles, u: TableUpdate) -> Decision
     requires { ⌜ LaidStatistics t ⌝ }
