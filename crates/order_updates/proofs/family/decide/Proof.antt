@@ -2,15 +2,11 @@
 use native.Mathlib.Omega.{arith}
 use mathlib.Core.Path.{_≡_}
 use borrow.Author.Needs.{needs}
-use lib.ListN.{length}
 use Rattle.rules.specs.Kinds.{readUpdate, setDefaultSortOrderKind}
 use Rattle.builder.proofs.Entries.{read-kind}
 use Rattle.order_updates.proofs.Tables.{orders-grown, orders-same}
 use Rattle.order_updates.proofs.family.decide.Statement.{statement}
 use Rattle.order_updates.proofs.family.decide.Tie as tie
-
-long : (s : tie.Start) → length (s .args .u .uuid) ≡ 16
-long s = let g = s .good .1 .1 .1 .0 in search needs
 
 chooses : (c : tie.Else1) → c .before .args .u .kind ≡ setDefaultSortOrderKind
 chooses c = let s = c .before in omega (arith, s .pre .1 .1 .1 .1 .1 .1 .0, s .pre .1 .1 .1 .1 .1 .1 .1, c .if1 .left)
@@ -31,7 +27,7 @@ returns-2 c =
     let u = s .args .u in
     record {
       answers = λ terms st p _ q. c .set-default-sort-order .ensures terms st p q;
-      table = λ terms st h z. orders-same u (c .set-default-sort-order .result) terms st h (chooses (c .before)) (readUpdate u) (u .«sort_orders» .chosen .0) (read-kind u (long s) (s .pre .1 .1 .1 .1 .0) 13 (chooses (c .before)));
+      table = λ terms st h z. orders-same u (c .set-default-sort-order .result) terms st h (chooses (c .before)) (readUpdate u) (u .«sort_orders» .chosen .0) (read-kind u (s .pre .1 .1 .1 .1 .0) 13 (chooses (c .before)));
       new = λ k. absurd (c .before .if1 .left k);
     }
 

@@ -3,7 +3,6 @@ use Prim.Native.Nat.{ℕ}
 use native.Mathlib.Omega.{arith}
 use mathlib.Core.Path.{_≡_, sym, _∙_}
 use borrow.Author.Needs.{needs}
-use lib.ListN.{length}
 use Rattle.rules.specs.WellFormed.{updateFormed}
 use Rattle.rules.specs.Kinds.{readUpdate, removeSchemasKind}
 use Rattle.builder.proofs.Entries.{read-kind, formed-kind}
@@ -11,9 +10,6 @@ use Rattle.builder.proofs.Given.{given-schema-ids}
 use Rattle.schema_updates.proofs.Tables.{schemas-grown, schemas-same, schemas-left}
 use Rattle.schema_updates.proofs.family.decide.Statement.{statement}
 use Rattle.schema_updates.proofs.family.decide.Tie as tie
-
-long : (s : tie.Start) → length (s .args .u .uuid) ≡ 16
-long s = search needs
 
 -- two numbers of kinds are not the same
 apart : (k : ℕ) {a b : ℕ} → k ≡ a → k ≡ b → (a ≡ b → ⊥) → {A : Type 0} → A
@@ -39,7 +35,7 @@ returns-2 c =
     let k = c .before .if2 .taken in
     record {
       answers = c .set-current-schema .ensures;
-      table = λ terms st h z. schemas-same (s .args .u) (c .set-current-schema .result) terms st h k (readUpdate (s .args .u)) (s .args .u .schemas .chosen .0) (read-kind (s .args .u) (long s) (s .pre .1 .1 .0) 10 k);
+      table = λ terms st h z. schemas-same (s .args .u) (c .set-current-schema .result) terms st h k (readUpdate (s .args .u)) (s .args .u .schemas .chosen .0) (read-kind (s .args .u) (s .pre .1 .1 .0) 10 k);
       next = record { new = λ q. apart (s .args .u .kind) k q (λ (z : 10 ≡ 9). omega arith); ids = λ q. apart (s .args .u .kind) k q (λ (z : 10 ≡ 11). omega arith) };
     }
 
@@ -51,8 +47,8 @@ returns-3 c =
     let k = removes (c .before) in
     record {
       answers = c .remove-schemas .ensures;
-      table = λ terms st h z. schemas-left u (c .remove-schemas .result) terms st h k (readUpdate u) (read-kind u (long s) (s .pre .1 .1 .0) 11 k);
-      next = record { new = λ q. apart (u .kind) k q (λ (z : 11 ≡ 9). omega arith); ids = λ q. given-schema-ids u (s .pre .1 .1 .0) (formed-kind u (long s) (s .pre .1 .1 .0) 11 k (s .pre .1 .1 .1 .0)) };
+      table = λ terms st h z. schemas-left u (c .remove-schemas .result) terms st h k (readUpdate u) (read-kind u (s .pre .1 .1 .0) 11 k);
+      next = record { new = λ q. apart (u .kind) k q (λ (z : 11 ≡ 9). omega arith); ids = λ q. given-schema-ids u (s .pre .1 .1 .0) (formed-kind u (s .pre .1 .1 .0) 11 k (s .pre .1 .1 .1 .0)) };
     }
 
 pub decide-spec : {M : Type 1} → statement M

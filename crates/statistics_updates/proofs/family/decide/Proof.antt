@@ -5,7 +5,6 @@ use mathlib.Core.Bool.{true, false, true≢false}
 use borrow.Author.Needs.{needs}
 use borrow.Author.Tests.{eqb-true, eqb-false}
 use lib.Dec.{eqb}
-use lib.ListN.{length}
 use Rattle.records.specs.declared.update.TableUpdate.{TableUpdate}
 use Rattle.rules.specs.Register.{StatisticsTable}
 use Rattle.rules.specs.Register.StatisticsTable.{Statistics, PartitionStatistics}
@@ -16,9 +15,6 @@ use Rattle.statistics_updates.proofs.Reading.{remove-read}
 use Rattle.statistics_updates.proofs.Tables.{statistics-grown, statistics-left}
 use Rattle.statistics_updates.proofs.family.decide.Statement.{statement}
 use Rattle.statistics_updates.proofs.family.decide.Tie as tie
-
-long : (s : tie.Start) → length (s .args .u .uuid) ≡ 16
-long s = search needs
 
 sets : (u : TableUpdate) (which : StatisticsTable) → Within which u → isSetting u ≡ true → u .kind ≡ settingKind which
 sets u Statistics w t = by-either (eqb (u .kind) setStatisticsKind) (eqb (u .kind) setPartitionStatisticsKind) (eqb-true (u .kind) setStatisticsKind) (λ q. absurd (omega (arith, eqb-true (u .kind) setPartitionStatisticsKind q))) t
@@ -48,7 +44,7 @@ returns-2 c =
     let f = c .before .if1 .left in
     record {
       answers = λ which terms st w p q. c .remove-statistics .ensures which terms st (removes u which w f) p q;
-      table = λ which terms st w q z. statistics-left which st q terms (readUpdate u) (u .statistics .removed .0) (remove-read u (long s) (s .pre .1 .0) which (removes u which w f)) (rw f);
+      table = λ which terms st w q z. statistics-left which st q terms (readUpdate u) (u .statistics .removed .0) (remove-read u (s .pre .1 .0) which (removes u which w f)) (rw f);
       new = λ t. absurd (true≢false (sym t ∙ f));
     }
 
