@@ -6,6 +6,7 @@ ghost use mathlib.Core.Bool.{cond};
 ghost use Rattle.rules.specs.Words.{eqZ, isIn, someWith};
 ghost use Rattle.rules.specs.Layout.{given};
 ghost use Rattle.builder.specs.Added.{Chosen, FromIds};
+use crate::builder::TableMetadataBuilder;
 use crate::checks::choose;
 use records::replies::ACCEPTED;
 use records::replies::NOTHING_ADDED;
@@ -16,7 +17,7 @@ use search::is_below;
 use search::is_in;
 use search::next;
 
-const LAST_ADDED: i64 = -1;
+const LAST_ADDED: i64 = TableMetadataBuilder::LAST_ADDED as i64;
 
 fn same(a: Key, b: Key) -> bool
     ensures { λ r. ⌜ r ≡ eqZ (a .0) (b .0) ⌝ }

@@ -1,42 +1,38 @@
-// A table of statistics files.
+// A table of statistics files. Its records are searched slot by slot and not by their keys, since gathering the keys first made a run with
+// statistics files slower (docs/DECISIONS.md).
 ghost use mathlib.Core.Path.{_≡_};
 ghost use Prim.Native.Nat.{_≤_, _<_};
 ghost use mathlib.Core.Bool.{true, false, not};
-ghost use mathlib.Core.List.{_∷_, _++_, map};
-ghost use lib.IntN.{pos};
+ghost use mathlib.Core.List.{_∷_, _++_};
 ghost use lib.ListN.{take, drop};
+ghost use lib.Signed.{ltZ};
 ghost use Rattle.rules.specs.Words.{put as putBy, keep, ascending};
-ghost use Rattle.rules.specs.Capacities.{statisticsRoom};
-ghost use Rattle.rules.specs.Register as plain;
 ghost use Rattle.rules.specs.WellFormed.{statisticsBelow};
 ghost use Rattle.rules.specs.StatisticsUpdates.{isOf, hasFileOf};
-ghost use Rattle.rules.specs.Layout.{pad, readStatisticsFile, readStatistics, laidStatistics};
+ghost use Rattle.rules.specs.Layout.{readStatisticsFile, readStatistics, laidStatistics};
+ghost use Rattle.search.specs.Places.{indexOf};
 ghost use Rattle.tables.specs.Laid.{LaidStatisticsFile, LaidStatistics};
-use crate::keys::snapshot_key;
+use crate::ids::snapshot_below;
 use equality::ids::same_snapshot;
-use records::capacities::STATISTICS;
 use records::counters::SnapshotId;
 use records::statistics::StatisticsFile;
 use records::statistics::StatisticsFiles;
-use search::is_in;
-use search::place;
 
-// The ids of the snapshots that the files are of, in table order, and zeros after them.
-fn ids_of(t: StatisticsFiles) -> [i64; STATISTICS]
+fn find(t: StatisticsFiles, id: SnapshotId) -> usize
     requires { ⌜ LaidStatistics t ⌝ }
-    ensures { λ r. ⌜ r ≡ pad statisticsRoom (pos 0) (map (λ (x : plain.StatisticsFile). x .snapshot) (readStatistics t)) ⌝ }
+    ensures { λ r. ⌜ r ≡ indexOf (isOf (id .0)) (readStatistics t) ⌝ }
 {
     let n = t.count;
-    let mut r = [0i64; STATISTICS];
     let mut i = 0;
     while i < n {
         let f = t.items[i];
         let x = f.snapshot_id;
-        let z = x.0;
-        r[i] = z;
+        if same_snapshot(x, id) {
+            return i;
+        }
         i += 1;
     }
-    r
+    n
 }
 
 // The table has a file of the snapshot.
@@ -45,9 +41,25 @@ pub fn has_file_of(t: StatisticsFiles, id: SnapshotId) -> bool
     ensures { λ r. ⌜ r ≡ hasFileOf (readStatistics t) (id .0) ⌝ }
 {
     let n = t.count;
-    let ids = ids_of(t);
-    let k = snapshot_key(id);
-    is_in(&ids[..n], k)
+    let i = find(t, id);
+    i < n
+}
+
+fn place(t: StatisticsFiles, id: SnapshotId) -> usize
+    requires { ⌜ LaidStatistics t ⌝ }
+    ensures { λ r. ⌜ r ≡ indexOf (λ x. not (ltZ (x .snapshot) (id .0))) (readStatistics t) ⌝ }
+{
+    let n = t.count;
+    let mut i = 0;
+    while i < n {
+        let f = t.items[i];
+        let x = f.snapshot_id;
+        if !snapshot_below(x, id) {
+            return i;
+        }
+        i += 1;
+    }
+    n
 }
 
 fn insert_at(t: StatisticsFiles, at: usize, x: StatisticsFile) -> StatisticsFiles
@@ -81,9 +93,7 @@ pub fn put(t: StatisticsFiles, x: StatisticsFile) -> StatisticsFiles
 {
     let n = t.count;
     let id = x.snapshot_id;
-    let ids = ids_of(t);
-    let k = snapshot_key(id);
-    let at = place(&ids[..n], k);
+    let at = place(t, id);
     if at < n {
         let y = t.items[at];
         let other = y.snapshot_id;
