@@ -1,11 +1,11 @@
 -- A tidy update is a blank one of its kind with the records that its kind uses.
 use Prim.Native.Nat.{ℕ}
 use mathlib.Core.Path.{_≡_, refl, sym, ap, _∙_}
-use mathlib.Core.Bool.{Bool, true, false, cond, _||_, false≢true}
+use mathlib.Core.Bool.{Bool, true, false, cond, _||_}
 use mathlib.Core.List.{List, [], _∷_}
 use lib.Dec.{eqb}
 use lib.ListN.{length, replicate}
-use borrow.Author.Tests.{eq-eqb, eqb-true}
+use borrow.Author.Tests.{eq-eqb}
 use Rattle.records.specs.Blanks.{noUpdate, noSnapshotId, noSnapshotIds, noSchemaId, noSchemaIds, noLocation}
 use Rattle.records.specs.declared.update.TableUpdate.{TableUpdate}
 use Rattle.records.specs.declared.text.Location.{Location}
@@ -16,7 +16,7 @@ use Rattle.rules.specs.WellFormed.{updateFormed}
 use Rattle.rules.specs.Capacities.{locationRoom, removalRoom}
 use Rattle.rules.specs.Blanks.{isZero, isZeroZ, isBlankLocation, isBlankSnapshot, isBlankSnapshotId, isBlankSnapshotIds, isBlankRefName, isBlankReference, isBlankSchema, isBlankSchemaId, isBlankSchemaIds, isBlankSortOrder, isBlankStatisticsFile}
 use Rattle.rules.specs.Kinds.{usedBy, isUnusedBlank, isUsedTidy, isTidyUpdate, readKind, readUpdate, assignUuidKind, upgradeFormatVersionKind, setLocationKind, addSnapshotKind, setBranchSnapshotKind, removeSnapshotsKind, setRefKind, removeRefKind, addSchemaKind, setCurrentSchemaKind, removeSchemasKind, addSortOrderKind, setDefaultSortOrderKind, setStatisticsKind, removeStatisticsKind, setPartitionStatisticsKind, removePartitionStatisticsKind}
-use Rattle.rules.proofs.Checks.{both, and-left, by-either, parts}
+use Rattle.rules.proofs.Checks.{both, and-left, parts}
 use Rattle.rules.proofs.Relaid.{zero, zeroZ, unused, blank-ref-name, blank-snapshot, blank-reference, blank-schema, blank-sort-order, blank-statistics-file}
 
 -- ---- blank records
@@ -124,11 +124,3 @@ module _ (u : TableUpdate) (n : length (u .uuid) ≡ 16) (e : isTidyUpdate u ≡
 
   pub formed-kind : updateFormed (readKind u) ≡ true → updateFormed (readKind (byKind k u)) ≡ true
   formed-kind f = ap (λ (x : TableUpdate). updateFormed (readKind x)) (sym of-kind) ∙ f
-
--- ---- one of several kinds
-
-pub not-first : (k a : ℕ) (rest : List ℕ) → (k ≡ a → ⊥) → any (eqb k) (a ∷ rest) ≡ true → any (eqb k) rest ≡ true
-not-first k a rest n h = by-either (eqb k a) (any (eqb k) rest) (λ e. absurd (n (eqb-true k a e))) (λ e. e) h
-
-pub only-one : (k a : ℕ) → any (eqb k) (a ∷ []) ≡ true → k ≡ a
-only-one k a h = by-either (eqb k a) false (λ e. eqb-true k a e) (λ e. absurd (false≢true e)) h

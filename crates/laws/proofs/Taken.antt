@@ -16,12 +16,11 @@ use Rattle.rules.specs.Register as plain
 use Rattle.rules.specs.WellFormed.{updateFormed, removalFormed, refNameFormed}
 use Rattle.rules.specs.Blanks.{isTidyLocation, isTidySnapshot, isTidySnapshotIds, isBlankSnapshotId, isTidyRefName, isTidyReference, isTidySchema, isTidySchemaIds, isTidySortOrder, isTidyStatisticsFile}
 use Rattle.rules.specs.Layout.{readRefName, readSnapshot, laidSnapshot, readReference, laidReference, readSnapshotIds, laidSnapshotIds}
-use Rattle.rules.specs.Kinds.{readUpdate, isUnusedBlank, isUsedTidy, setBranchSnapshotKind, removeSnapshotsKind, setRefKind, removeRefKind, removeSchemasKind}
+use Rattle.rules.specs.Kinds.{readUpdate, isUnusedBlank, isUsedTidy, setBranchSnapshotKind, removeSnapshotsKind, setRefKind, removeRefKind}
 use Rattle.rules.proofs.Checks.{Hold, parts, and-left, and-right}
 use Rattle.rules.proofs.Relaid.{fields-back, back-ref-name, back-snapshot, back-reference, zeroZ}
-use Rattle.tables.specs.Laid.{LaidName, LaidSnapshotIds, LaidSchemaIds}
-use Rattle.start.proofs.Reading.{formed-tidy, read-set-branch-snapshot, read-remove-snapshots, read-set-ref, read-remove-ref, read-remove-schemas}
-use Rattle.builder.proofs.Given.{given-schema-ids}
+use Rattle.tables.specs.Laid.{LaidName, LaidSnapshotIds}
+use Rattle.start.proofs.Reading.{formed-tidy, read-set-branch-snapshot, read-remove-snapshots, read-set-ref, read-remove-ref}
 
 blank-id : (x : SnapshotId) → isBlankSnapshotId x ≡ true → x ≡ noSnapshotId
 blank-id x e = λ i. record { 0 = zeroZ (x .0) e i }
@@ -65,7 +64,3 @@ module _ (u : TableUpdate) (f : updateFormed (readUpdate u) ≡ true) where
   pub removed-name-laid : u .kind ≡ removeRefKind → LaidName (u .«ref_name»)
   unfolding updateFormed
   removed-name-laid k = name-laid (u .«ref_name») (used .1 .1 .1 .0) (rw (read-remove-ref u f k) at f)
-
-  pub schema-ids-laid : u .kind ≡ removeSchemasKind → LaidSchemaIds (u .«schema_ids»)
-  unfolding updateFormed
-  schema-ids-laid k = given-schema-ids u (formed-tidy u f) (rw (read-remove-schemas u f k) at f)
