@@ -501,24 +501,6 @@ loop-holds : tie.Need-loop-holds Inv-loop μ-loop Inv-loop2 μ-loop2
 unfolding listSum
 loop-holds c = (omega arith, omega arith, λ h. (omega arith, omega arith))
 
-mul-weight : tie.Need-mul-weight Inv-loop μ-loop Inv-loop2 μ-loop2
-mul-weight c = omega (arith, slotted c)
-
-element-copy-out-weight : tie.Need-element-copy-out-weight Inv-loop μ-loop Inv-loop2 μ-loop2
-element-copy-out-weight c = slotted c
-
-add-sum : tie.Need-add-sum Inv-loop μ-loop Inv-loop2 μ-loop2
-add-sum c = omega (arith, c .weight .ensures, counts (updateAt (G (c .before .before .before)) (c .before .before .loop .place) .kind) .1, slotted (c .before), c .before .before .loop .inv .1)
-
-add-place : tie.Need-add-place Inv-loop μ-loop Inv-loop2 μ-loop2
-add-place c = omega (arith, slotted (c .before))
-
-loop-less : tie.Need-loop-less Inv-loop μ-loop Inv-loop2 μ-loop2
-loop-less c = omega (arith, slotted (c .before))
-
-loop-again : tie.Need-loop-again Inv-loop μ-loop Inv-loop2 μ-loop2
-loop-again c = (omega (arith, slotted (c .before)), omega (arith, c .weight .ensures, counts (updateAt (G (c .before .before .before)) (c .before .before .loop .place) .kind) .1, c .before .before .loop .inv .1), more-summed (c .before) (c .weight .ensures ∙ sym (weight-read (updateAt (G (c .before .before .before)) (c .before .before .loop .place)))))
-
 loop2-holds : tie.Need-loop2-holds Inv-loop μ-loop Inv-loop2 μ-loop2
 loop2-holds c =
     let a = c .before .before .before .before in
@@ -542,9 +524,6 @@ loop2-again : tie.Need-loop2-again Inv-loop μ-loop Inv-loop2 μ-loop2
 loop2-again c =
     let t = c .before in
     refuses (waiting t .0) (waiting t .1) (short (t .before)) (c .if2 .taken)
-
-after-requires : tie.Need-after-requires Inv-loop μ-loop Inv-loop2 μ-loop2
-after-requires c κs = omega (arith, waiting (c .before) .0, short (c .before .before))
 
 loop2-less-2 : tie.Need-loop2-less-2 Inv-loop μ-loop Inv-loop2 μ-loop2
 loop2-less-2 c =
@@ -588,27 +567,12 @@ loop2-again-3 c =
     let t = f .before .before in
     goes-on (waiting t .0) (waiting t .1) (short (t .before)) (f .before .if2 .left) (f .after .ensures) (waiting t .1 .logs (f .before .if2 .left) (not-false (stored-at t .loop2 .decision .logs) (c .before .before .if3 .left)))
 
-mul-update : tie.Need-mul-update Inv-loop μ-loop Inv-loop2 μ-loop2
-mul-update c = omega (arith, below c, short (c .before))
-
-element-copy-out-update : tie.Need-element-copy-out-update Inv-loop μ-loop Inv-loop2 μ-loop2
-element-copy-out-update c = omega (arith, below c, short (c .before))
-
-loop2-less-4 : tie.Need-loop2-less-4 Inv-loop μ-loop Inv-loop2 μ-loop2
-loop2-less-4 c = turn-less (c .before .before .before .before)
-
 loop2-again-4 : tie.Need-loop2-again-4 Inv-loop μ-loop Inv-loop2 μ-loop2
 loop2-again-4 c =
     let f = c .before .before in
     let e = f .before .before in
     let n : updateFormed (readUpdate (U (decided-at e))) ≡ false = sym (f .is-formed2 .ensures) ∙ not-true (f .is-formed2 .result) (c .before .if4 .taken) in
     waits-now e (not-formed-decided (unformed (stands e) n) (readUpdate (U (decided-at e))) (at e) (one e) n false (ap (λ (d : Decision). d .number) (c .decided2 .ensures)))
-
-decide-requires : tie.Need-decide-requires Inv-loop μ-loop Inv-loop2 μ-loop2
-decide-requires c κs = let e = c .before in (location-fits (single c .stands), (tidy e, (by-kind e, (bounds (u e) (formed e) .0, c .if5 .taken))))
-
-loop2-less-5 : tie.Need-loop2-less-5 Inv-loop μ-loop Inv-loop2 μ-loop2
-loop2-less-5 c = turn-less (deciding (c .before .before))
 
 loop2-again-5 : tie.Need-loop2-again-5 Inv-loop μ-loop Inv-loop2 μ-loop2
 loop2-again-5 c =
@@ -617,21 +581,6 @@ loop2-again-5 c =
     let s = single t in
     waits-now (deciding e) (fields-decided s (readUpdate (u e)) (at (deciding e)) (one (deciding e)) (formed e) (c .decide .ensures (terms e) (s .state) (s .stands .tables .builder)) (is-single (u e) (formed e) (t .if5 .taken)))
 
-commits-on-tag-requires : tie.Need-commits-on-tag-requires Inv-loop μ-loop Inv-loop2 μ-loop2
-commits-on-tag-requires c κs = let e = adding c in (laid-refs (adding-standing c .stands), λ q. branch-name-laid (u e) (formed e) q)
-
-array-share-prefix-ids : tie.Need-array-share-prefix-ids Inv-loop μ-loop Inv-loop2 μ-loop2
-array-share-prefix-ids c = held-within (adding-standing (c .before) .stands)
-
-slice-aggregate-add-snapshot : tie.Need-slice-aggregate-add-snapshot Inv-loop μ-loop Inv-loop2 μ-loop2
-slice-aggregate-add-snapshot c = held-slice (adding-standing (c .before .before) .stands)
-
-add-snapshot-requires : tie.Need-add-snapshot-requires Inv-loop μ-loop Inv-loop2 μ-loop2
-add-snapshot-requires c κs = let t = c .before .before in (tidy (adding t), (either-kind t, held-ascend (adding-standing t .stands)))
-
-loop2-less-6 : tie.Need-loop2-less-6 Inv-loop μ-loop Inv-loop2 μ-loop2
-loop2-less-6 c = added-less (adds-at (c .before .before))
-
 loop2-again-6 : tie.Need-loop2-again-6 Inv-loop μ-loop Inv-loop2 μ-loop2
 loop2-again-6 c =
     let a = c .before .before in
@@ -639,39 +588,6 @@ loop2-again-6 c =
     let e = adding t in
     let n : a .add-snapshot .result .number ≡ 0 → ⊥ = eqb-false _ _ (sym (add-says a .grows) ∙ not-true (a .add-snapshot .result .grows) (c .if7 .taken)) in
     waits-now (deciding e) (add-refused (adding-standing t) (at (deciding e)) (one (deciding e)) (formed e) (either-kind t) (a .before .before .commits-on-tag .ensures) (add-says a) (eqb (adding-kind t) 5) n)
-
-mul-added : tie.Need-mul-added Inv-loop μ-loop Inv-loop2 μ-loop2
-mul-added c = omega (arith, adds-room (c .before .before .before))
-
-array-set-from-added : tie.Need-array-set-from-added Inv-loop μ-loop Inv-loop2 μ-loop2
-array-set-from-added c = omega (arith, adds-room (c .before .before .before))
-
-add-adds : tie.Need-add-adds Inv-loop μ-loop Inv-loop2 μ-loop2
-add-adds c = omega (arith, adds-room (c .before .before .before))
-
-array-share-prefix-ids-2 : tie.Need-array-share-prefix-ids-2 Inv-loop μ-loop Inv-loop2 μ-loop2
-array-share-prefix-ids-2 c = held-within (adding-standing (add-kind (c .before .before .before)) .stands)
-
-slice-aggregate-is-last : tie.Need-slice-aggregate-is-last Inv-loop μ-loop Inv-loop2 μ-loop2
-slice-aggregate-is-last c = held-slice (adding-standing (add-kind (c .before .before .before .before)) .stands)
-
-mul-snapshot : tie.Need-mul-snapshot Inv-loop μ-loop Inv-loop2 μ-loop2
-mul-snapshot c = omega (arith, add-room (to-else7 (c .before)))
-
-element-set-from-snapshot : tie.Need-element-set-from-snapshot Inv-loop μ-loop Inv-loop2 μ-loop2
-element-set-from-snapshot c = omega (arith, add-room (to-else7 (c .before)))
-
-add-snapshots : tie.Need-add-snapshots Inv-loop μ-loop Inv-loop2 μ-loop2
-add-snapshots c = omega (arith, add-room (to-else7 (c .before)))
-
-mul-ids : tie.Need-mul-ids Inv-loop μ-loop Inv-loop2 μ-loop2
-mul-ids c = omega (arith, add-room (to-else7 (c .before)))
-
-array-set-from-ids : tie.Need-array-set-from-ids Inv-loop μ-loop Inv-loop2 μ-loop2
-array-set-from-ids c = omega (arith, add-room (to-else7 (c .before)))
-
-loop2-less-7 : tie.Need-loop2-less-7 Inv-loop μ-loop Inv-loop2 μ-loop2
-loop2-less-7 c = added-less (add-kind (to-else7 (c .before)))
 
 loop2-again-7 : tie.Need-loop2-again-7 Inv-loop μ-loop Inv-loop2 μ-loop2
 loop2-again-7 c =
@@ -688,9 +604,6 @@ put-requires c κs =
     let x = u (adding (add-kind e)) .snapshot in
     (laid-snapshots E, (add-back e, (add-room e, put-new E x (add-back e) (add-fine e))))
 
-loop2-less-8 : tie.Need-loop2-less-8 Inv-loop μ-loop Inv-loop2 μ-loop2
-loop2-less-8 c = added-less (add-kind (to-else7 (c .before .before .before)))
-
 loop2-again-8 : tie.Need-loop2-again-8 Inv-loop μ-loop Inv-loop2 μ-loop2
 loop2-again-8 c =
     let l = c .before .before .before in
@@ -700,44 +613,11 @@ loop2-again-8 c =
     let P = c .before .put .ensures in
     added-now w (put-tables E x (add-back w) (add-fine w) P) (put-ids E x (add-back w) (add-fine w) P (c .ids-of2 .ensures (put-laid E x (add-back w) (add-fine w) P))) (key-back (l .before .before))
 
-array-share-prefix-ids-3 : tie.Need-array-share-prefix-ids-3 Inv-loop μ-loop Inv-loop2 μ-loop2
-array-share-prefix-ids-3 c = held-within (midway (c .before .before) .stands)
-
-slice-aggregate-position-ascending : tie.Need-slice-aggregate-position-ascending Inv-loop μ-loop Inv-loop2 μ-loop2
-slice-aggregate-position-ascending c = held-slice (midway (c .before .before .before) .stands)
-
-position-ascending-requires : tie.Need-position-ascending-requires Inv-loop μ-loop Inv-loop2 μ-loop2
-position-ascending-requires c κs = held-ascend (midway (c .before .before .before) .stands)
-
-slot-requires : tie.Need-slot-requires Inv-loop μ-loop Inv-loop2 μ-loop2
-slot-requires c κs = held-fits (midway (c .before .before .before .before) .stands)
-
-mul-target : tie.Need-mul-target Inv-loop μ-loop Inv-loop2 μ-loop2
-mul-target c = omega (arith, c .slot .ensures .0)
-
-element-copy-out-target : tie.Need-element-copy-out-target Inv-loop μ-loop Inv-loop2 μ-loop2
-element-copy-out-target c = omega (arith, c .slot .ensures .0)
-
-array-share-prefix-added : tie.Need-array-share-prefix-added Inv-loop μ-loop Inv-loop2 μ-loop2
-array-share-prefix-added c = adds-within (midway (c .before .before .before .before .before .before) .stands)
-
-slice-aggregate-position : tie.Need-slice-aggregate-position Inv-loop μ-loop Inv-loop2 μ-loop2
-slice-aggregate-position c = added-slice (midway (c .before .before .before .before .before .before .before) .stands)
-
 set-ref-requires : tie.Need-set-ref-requires Inv-loop μ-loop Inv-loop2 μ-loop2
 set-ref-requires c κs =
     let t = c .before .before .before .before .before .before .before .before in
     let e = setting t in
     (laid-refs (midway t .stands), (set-name t, (reference-back (u e) (formed e), (tidy e, t .if9 .taken))))
-
-refs-after-requires : tie.Need-refs-after-requires Inv-loop μ-loop Inv-loop2 μ-loop2
-refs-after-requires c κs = let t = set-at c in (laid-refs (midway t .stands), (refs-ascend (midway t .stands), λ g. c .set-ref .ensures .new g))
-
-is-main-name-requires : tie.Need-is-main-name-requires Inv-loop μ-loop Inv-loop2 μ-loop2
-is-main-name-requires c κs = set-name (set-at (c .before))
-
-loop2-less-9 : tie.Need-loop2-less-9 Inv-loop μ-loop Inv-loop2 μ-loop2
-loop2-less-9 c = turn-less (deciding (setting (set-kind (c .before .before))))
 
 loop2-again-9 : tie.Need-loop2-again-9 Inv-loop μ-loop Inv-loop2 μ-loop2
 loop2-again-9 c =
@@ -746,51 +626,12 @@ loop2-again-9 c =
     let n : (set-call m .set-ref .result .grows && isMain (nameAt (given (loop-at (setting t))) (loop-at (setting t) .loop2 .place))) ≡ false = ap (λ (b : Bool). set-call m .set-ref .result .grows && b) (sym (main-is m)) ∙ not-true (set-call m .set-ref .result .grows && m .is-main-name .result) (c .if10 .taken) in
     waits-now (deciding (setting t)) (other-decided (midway t) (set-says (set-call m)) (m .before .refs-after .ensures) n)
 
-mul-entry : tie.Need-mul-entry Inv-loop μ-loop Inv-loop2 μ-loop2
-mul-entry c = omega (arith, log-room (c .before .before))
-
-element-set-from-entry : tie.Need-element-set-from-entry Inv-loop μ-loop Inv-loop2 μ-loop2
-element-set-from-entry c = omega (arith, log-room (c .before .before))
-
-add-log : tie.Need-add-log Inv-loop μ-loop Inv-loop2 μ-loop2
-add-log c = omega (arith, log-room (c .before .before))
-
-mul-main-targets : tie.Need-mul-main-targets Inv-loop μ-loop Inv-loop2 μ-loop2
-mul-main-targets c = omega (arith, mains-room (c .before .before))
-
-array-set-from-main-targets : tie.Need-array-set-from-main-targets Inv-loop μ-loop Inv-loop2 μ-loop2
-array-set-from-main-targets c = omega (arith, mains-room (c .before .before))
-
-add-mains : tie.Need-add-mains Inv-loop μ-loop Inv-loop2 μ-loop2
-add-mains c = omega (arith, mains-room (c .before .before))
-
-loop2-less-10 : tie.Need-loop2-less-10 Inv-loop μ-loop Inv-loop2 μ-loop2
-loop2-less-10 c = turn-less (deciding (setting (set-kind (named (c .before .before)))))
-
 loop2-again-10 : tie.Need-loop2-again-10 Inv-loop μ-loop Inv-loop2 μ-loop2
 loop2-again-10 c =
     let w = c .before .before in
     let m = named w in
     let t = set-kind m in
     waits-now (deciding (setting t)) (main-decided (midway t) (set-says (set-call m)) (m .before .refs-after .ensures) (set-grows w) (set-main w) (c .before .main-entry .ensures) (log-room w) refl refl (target-key (sought (set-call m) .before .before .before .before)))
-
-remove-snapshots-requires : tie.Need-remove-snapshots-requires Inv-loop μ-loop Inv-loop2 μ-loop2
-remove-snapshots-requires c κs = let e = removing c in let E = removed c .stands in let q = c .if11 .taken in (laid-snapshots E, (snapshots-ascend E, (asked-laid (u e) (formed e) q, (tidy e, q))))
-
-without-requires : tie.Need-without-requires Inv-loop μ-loop Inv-loop2 μ-loop2
-without-requires c κs = let t = c .before in let e = removing t in (laid-snapshots (removed t .stands), asked-laid (u e) (formed e) (t .if11 .taken))
-
-array-share-prefix-ids-4 : tie.Need-array-share-prefix-ids-4 Inv-loop μ-loop Inv-loop2 μ-loop2
-array-share-prefix-ids-4 c = lent-left c .0
-
-slice-aggregate-pointing : tie.Need-slice-aggregate-pointing Inv-loop μ-loop Inv-loop2 μ-loop2
-slice-aggregate-pointing c = lent-left (c .before) .1
-
-pointing-requires : tie.Need-pointing-requires Inv-loop μ-loop Inv-loop2 μ-loop2
-pointing-requires c κs = (laid-refs (removed (c .before .before .before .before) .stands), lent-left (c .before) .2)
-
-loop2-less-11 : tie.Need-loop2-less-11 Inv-loop μ-loop Inv-loop2 μ-loop2
-loop2-less-11 c = turn-less (deciding (removing (c .before .before .before .before .before .before)))
 
 loop2-again-11 : tie.Need-loop2-again-11 Inv-loop μ-loop Inv-loop2 μ-loop2
 loop2-again-11 c =
@@ -804,15 +645,6 @@ loop2-again-11 c =
     let w = read-remove-snapshots (u e) (formed e) (t .if11 .taken) in
     waits-now (deciding e) (removed-decided s v (at (deciding e)) (one (deciding e)) (formed e) xs w (l .before .remove-snapshots .ensures (s .state) (T .builder) (T .snapshots)) (l .without .ensures) (c .before .before .before .ids-of3 .ensures (left-laid s v (at (deciding e)) (one (deciding e)) (formed e) xs w (l .without .ensures))) (c .before .pointing .ensures))
 
-remove-ref-requires : tie.Need-remove-ref-requires Inv-loop μ-loop Inv-loop2 μ-loop2
-remove-ref-requires c κs = let e = dropping c in let q = c .if12 .taken in (laid-refs (dropped c .stands), (removed-name-laid (u e) (formed e) q, (tidy e, q)))
-
-without-requires-2 : tie.Need-without-requires-2 Inv-loop μ-loop Inv-loop2 μ-loop2
-without-requires-2 c κs = let t = c .before in let e = dropping t in (laid-refs (dropped t .stands), removed-name-laid (u e) (formed e) (t .if12 .taken))
-
-loop2-less-12 : tie.Need-loop2-less-12 Inv-loop μ-loop Inv-loop2 μ-loop2
-loop2-less-12 c = turn-less (deciding (dropping (c .before .before)))
-
 loop2-again-12 : tie.Need-loop2-again-12 Inv-loop μ-loop Inv-loop2 μ-loop2
 loop2-again-12 c =
     let t = c .before .before in
@@ -822,15 +654,6 @@ loop2-again-12 c =
     let q = t .if12 .taken in
     waits-now (deciding e) (refs-decided s (readUpdate (u e)) (at (deciding e)) (one (deciding e)) (formed e) (c .before .remove-ref .ensures (terms e) (s .state) (T .builder) (T .refs)) (is-ref-removal (u e) (formed e) q)
     (λ z. refs-left (s .stands) (readUpdate (u e)) (readRefName (u e .«ref_name»)) (read-remove-ref (u e) (formed e) q) (c .without2 .ensures)))
-
-decide-requires-2 : tie.Need-decide-requires-2 Inv-loop μ-loop Inv-loop2 μ-loop2
-decide-requires-2 c κs = let e = shaping c in let E = shaped c .stands in (laid-schemas E, (schemas-ascend E, (tidy e, (by-kind e, (beyond (c .before), c .if13 .taken)))))
-
-after-requires-2 : tie.Need-after-requires-2 Inv-loop μ-loop Inv-loop2 μ-loop2
-after-requires-2 c κs = (laid-schemas (shaped (c .before) .stands), c .decide2 .ensures .next)
-
-loop2-less-13 : tie.Need-loop2-less-13 Inv-loop μ-loop Inv-loop2 μ-loop2
-loop2-less-13 c = turn-less (deciding (shaping (c .before .before)))
 
 loop2-again-13 : tie.Need-loop2-again-13 Inv-loop μ-loop Inv-loop2 μ-loop2
 loop2-again-13 c =
@@ -842,15 +665,6 @@ loop2-again-13 c =
     own e s ofSchemas (is-schemas (u e) (formed e) (beyond (t .before)) (t .if13 .taken)) (D .answers (terms e) (s .state) (T .builder) (T .ownTables .schemas))
     (λ z. c .after2 .ensures ∙ D .table (terms e) (s .state) (T .ownTables .schemas) z)
 
-decide-requires-3 : tie.Need-decide-requires-3 Inv-loop μ-loop Inv-loop2 μ-loop2
-decide-requires-3 c κs = let e = ordering c in let E = ordered c .stands in (laid-schemas E, (schema-held E, (laid-orders E, (orders-formed E, (tidy e, (by-kind e, (omega (arith, c .before .if13 .left), c .if14 .taken)))))))
-
-after-requires-3 : tie.Need-after-requires-3 Inv-loop μ-loop Inv-loop2 μ-loop2
-after-requires-3 c κs = (laid-orders (ordered (c .before) .stands), c .decide3 .ensures .new)
-
-loop2-less-14 : tie.Need-loop2-less-14 Inv-loop μ-loop Inv-loop2 μ-loop2
-loop2-less-14 c = turn-less (deciding (ordering (c .before .before)))
-
 loop2-again-14 : tie.Need-loop2-again-14 Inv-loop μ-loop Inv-loop2 μ-loop2
 loop2-again-14 c =
     let t = c .before .before in
@@ -860,15 +674,6 @@ loop2-again-14 c =
     let D = c .before .decide3 .ensures in
     own e s ofOrders (is-orders (u e) (formed e) (t .before .if13 .left) (t .if14 .taken)) (D .answers (terms e) (s .state) (T .builder) (T .ownTables .schemas) (T .ownTables .orders))
     (λ z. c .after3 .ensures ∙ D .table (terms e) (s .state) (T .ownTables .orders) z)
-
-decide-requires-4 : tie.Need-decide-requires-4 Inv-loop μ-loop Inv-loop2 μ-loop2
-decide-requires-4 c κs = let e = filing-at c in (laid-statistics (filed c .stands) Statistics, (tidy e, by-kind e))
-
-after-requires-4 : tie.Need-after-requires-4 Inv-loop μ-loop Inv-loop2 μ-loop2
-after-requires-4 c κs = let E = filed (c .before) .stands in (laid-statistics E Statistics, (statistics-ascend E Statistics, c .decide4 .ensures .new))
-
-loop2-less-15 : tie.Need-loop2-less-15 Inv-loop μ-loop Inv-loop2 μ-loop2
-loop2-less-15 c = turn-less (deciding (filing-at (c .before .before)))
 
 loop2-again-15 : tie.Need-loop2-again-15 Inv-loop μ-loop Inv-loop2 μ-loop2
 loop2-again-15 c =
@@ -881,15 +686,6 @@ loop2-again-15 c =
     own e s (ofStatistics Statistics) (is-statistics (u e) (formed e) (t .before .if14 .left) (t .if15 .taken)) (D .answers Statistics (terms e) (s .state) w (T .builder) (T .ownTables .statistics))
     (λ z. c .after4 .ensures ∙ D .table Statistics (terms e) (s .state) w (T .ownTables .statistics) z)
 
-decide-requires-5 : tie.Need-decide-requires-5 Inv-loop μ-loop Inv-loop2 μ-loop2
-decide-requires-5 c κs = let e = partition-at c in (laid-statistics (partition c .stands) PartitionStatistics, (tidy e, by-kind e))
-
-after-requires-5 : tie.Need-after-requires-5 Inv-loop μ-loop Inv-loop2 μ-loop2
-after-requires-5 c κs = let E = partition (c .before) .stands in (laid-statistics E PartitionStatistics, (statistics-ascend E PartitionStatistics, c .decide5 .ensures .new))
-
-loop2-less-16 : tie.Need-loop2-less-16 Inv-loop μ-loop Inv-loop2 μ-loop2
-loop2-less-16 c = turn-less (deciding (partition-at (c .before .before)))
-
 loop2-again-16 : tie.Need-loop2-again-16 Inv-loop μ-loop Inv-loop2 μ-loop2
 loop2-again-16 c =
     let t = c .before .before in
@@ -900,45 +696,6 @@ loop2-again-16 c =
     let w : Within PartitionStatistics (u e) = (omega (arith, t .if15 .left), bounds (u e) (formed e) .1) in
     own e s (ofStatistics PartitionStatistics) (is-partition-statistics (u e) (formed e) (t .if15 .left)) (D .answers PartitionStatistics (terms e) (s .state) w (T .builder) (T .ownTables .partitionStatistics))
     (λ z. c .after5 .ensures ∙ D .table PartitionStatistics (terms e) (s .state) w (T .ownTables .partitionStatistics) z)
-
-returns : tie.Need-returns Inv-loop μ-loop Inv-loop2 μ-loop2
-returns c = c .refused .ensures ∙ c .before .before .before .loop2 .inv .refused (c .before .if16 .taken)
-
-array-share-prefix-ids-5 : tie.Need-array-share-prefix-ids-5 Inv-loop μ-loop Inv-loop2 μ-loop2
-array-share-prefix-ids-5 c = held-within (end (c .before) .stands)
-
-slice-aggregate-close-log : tie.Need-slice-aggregate-close-log Inv-loop μ-loop Inv-loop2 μ-loop2
-slice-aggregate-close-log c = held-slice (end (c .before .before) .stands)
-
-array-share-prefix-added-2 : tie.Need-array-share-prefix-added-2 Inv-loop μ-loop Inv-loop2 μ-loop2
-array-share-prefix-added-2 c = adds-within (end (c .before .before) .stands)
-
-slice-aggregate-close-log-2 : tie.Need-slice-aggregate-close-log-2 Inv-loop μ-loop Inv-loop2 μ-loop2
-slice-aggregate-close-log-2 c = added-slice (end (c .before .before .before) .stands)
-
-array-share-prefix-main-targets : tie.Need-array-share-prefix-main-targets Inv-loop μ-loop Inv-loop2 μ-loop2
-array-share-prefix-main-targets c = mains-within (end (c .before .before .before) .stands)
-
-slice-aggregate-close-log-3 : tie.Need-slice-aggregate-close-log-3 Inv-loop μ-loop Inv-loop2 μ-loop2
-slice-aggregate-close-log-3 c = main-slice (end (c .before .before .before .before) .stands)
-
-close-log-requires : tie.Need-close-log-requires Inv-loop μ-loop Inv-loop2 μ-loop2
-close-log-requires c κs = let E = end (c .before .before .before .before) .stands in (laid-log E, held-ascend E)
-
-surplus-requires : tie.Need-surplus-requires Inv-loop μ-loop Inv-loop2 μ-loop2
-surplus-requires c κs = files-fit (end (c .before .before .before .before .before .before) .stands)
-
-is-overfull-requires : tie.Need-is-overfull-requires Inv-loop μ-loop Inv-loop2 μ-loop2
-is-overfull-requires c κs = (files-fit (E c), gone-within c)
-
-close-number-requires : tie.Need-close-number-requires Inv-loop μ-loop Inv-loop2 μ-loop2
-close-number-requires c κs = let e = E (c .before) in (c .before .before .before .close-log .ensures .1, (laid-refs e, (laid-schemas e, (laid-orders e, (schema-held e, order-held e)))))
-
-returns-2 : tie.Need-returns-2 Inv-loop μ-loop Inv-loop2 μ-loop2
-returns-2 c = let n = c .before .before in let e = closing (filing n) in c .refused2 .ensures ∙ close-refused (E (filing n)) _ (numbered n) (c .before .if17 .taken) ∙ ends (end e) (passed e)
-
-part-requires : tie.Need-part-requires Inv-loop μ-loop Inv-loop2 μ-loop2
-part-requires c κs = let f = filing (c .before) in (files-laid (E f), (search needs, gone-within f))
 
 staying-requires : tie.Need-staying-requires Inv-loop μ-loop Inv-loop2 μ-loop2
 staying-requires c κs =
@@ -971,19 +728,19 @@ run-spec =
     (λ c κs. search needs)
     (λ c κs. search needs)
     loop-holds
-    mul-weight
-    element-copy-out-weight
+    (λ c. omega (arith, slotted c))
+    (λ c. slotted c)
     (λ c κs. search needs)
-    add-sum
-    add-place
-    loop-less
-    loop-again
+    (λ c. omega (arith, c .weight .ensures, counts (updateAt (G (c .before .before .before)) (c .before .before .loop .place) .kind) .1, slotted (c .before), c .before .before .loop .inv .1))
+    (λ c. omega (arith, slotted (c .before)))
+    (λ c. omega (arith, slotted (c .before)))
+    (λ c. (omega (arith, slotted (c .before)), omega (arith, c .weight .ensures, counts (updateAt (G (c .before .before .before)) (c .before .before .loop .place) .kind) .1, c .before .before .loop .inv .1), more-summed (c .before) (c .weight .ensures ∙ sym (weight-read (updateAt (G (c .before .before .before)) (c .before .before .loop .place))))))
     (λ c κs. search needs)
     (λ c κs. search needs)
     loop2-holds
     loop2-less
     loop2-again
-    after-requires
+    (λ c κs. omega (arith, waiting (c .before) .0, short (c .before .before)))
     loop2-less-2
     loop2-again-2
     mul-entries
@@ -991,106 +748,106 @@ run-spec =
     add-count
     loop2-less-3
     loop2-again-3
-    mul-update
-    element-copy-out-update
+    (λ c. omega (arith, below c, short (c .before)))
+    (λ c. omega (arith, below c, short (c .before)))
     (λ c κs. search needs)
     (λ c κs. search needs)
-    loop2-less-4
+    (λ c. turn-less (c .before .before .before .before))
     loop2-again-4
-    decide-requires
-    loop2-less-5
+    (λ c κs. let e = c .before in (location-fits (single c .stands), (tidy e, (by-kind e, (bounds (u e) (formed e) .0, c .if5 .taken)))))
+    (λ c. turn-less (deciding (c .before .before)))
     loop2-again-5
-    commits-on-tag-requires
-    array-share-prefix-ids
-    slice-aggregate-add-snapshot
-    add-snapshot-requires
-    loop2-less-6
+    (λ c κs. let e = adding c in (laid-refs (adding-standing c .stands), λ q. branch-name-laid (u e) (formed e) q))
+    (λ c. held-within (adding-standing (c .before) .stands))
+    (λ c. held-slice (adding-standing (c .before .before) .stands))
+    (λ c κs. let t = c .before .before in (tidy (adding t), (either-kind t, held-ascend (adding-standing t .stands))))
+    (λ c. added-less (adds-at (c .before .before)))
     loop2-again-6
-    mul-added
-    array-set-from-added
-    add-adds
-    array-share-prefix-ids-2
-    slice-aggregate-is-last
+    (λ c. omega (arith, adds-room (c .before .before .before)))
+    (λ c. omega (arith, adds-room (c .before .before .before)))
+    (λ c. omega (arith, adds-room (c .before .before .before)))
+    (λ c. held-within (adding-standing (add-kind (c .before .before .before)) .stands))
+    (λ c. held-slice (adding-standing (add-kind (c .before .before .before .before)) .stands))
     (λ c κs. search needs)
-    mul-snapshot
-    element-set-from-snapshot
-    add-snapshots
-    mul-ids
-    array-set-from-ids
-    loop2-less-7
+    (λ c. omega (arith, add-room (to-else7 (c .before))))
+    (λ c. omega (arith, add-room (to-else7 (c .before))))
+    (λ c. omega (arith, add-room (to-else7 (c .before))))
+    (λ c. omega (arith, add-room (to-else7 (c .before))))
+    (λ c. omega (arith, add-room (to-else7 (c .before))))
+    (λ c. added-less (add-kind (to-else7 (c .before))))
     loop2-again-7
     put-requires
     (λ c κs. search needs)
-    loop2-less-8
+    (λ c. added-less (add-kind (to-else7 (c .before .before .before))))
     loop2-again-8
     (λ c κs. search needs)
-    array-share-prefix-ids-3
-    slice-aggregate-position-ascending
-    position-ascending-requires
-    slot-requires
-    mul-target
-    element-copy-out-target
-    array-share-prefix-added
-    slice-aggregate-position
+    (λ c. held-within (midway (c .before .before) .stands))
+    (λ c. held-slice (midway (c .before .before .before) .stands))
+    (λ c κs. held-ascend (midway (c .before .before .before) .stands))
+    (λ c κs. held-fits (midway (c .before .before .before .before) .stands))
+    (λ c. omega (arith, c .slot .ensures .0))
+    (λ c. omega (arith, c .slot .ensures .0))
+    (λ c. adds-within (midway (c .before .before .before .before .before .before) .stands))
+    (λ c. added-slice (midway (c .before .before .before .before .before .before .before) .stands))
     (λ c κs. search needs)
     set-ref-requires
-    refs-after-requires
-    is-main-name-requires
-    loop2-less-9
+    (λ c κs. let t = set-at c in (laid-refs (midway t .stands), (refs-ascend (midway t .stands), λ g. c .set-ref .ensures .new g)))
+    (λ c κs. set-name (set-at (c .before)))
+    (λ c. turn-less (deciding (setting (set-kind (c .before .before)))))
     loop2-again-9
     (λ c κs. search needs)
-    mul-entry
-    element-set-from-entry
-    add-log
-    mul-main-targets
-    array-set-from-main-targets
-    add-mains
-    loop2-less-10
+    (λ c. omega (arith, log-room (c .before .before)))
+    (λ c. omega (arith, log-room (c .before .before)))
+    (λ c. omega (arith, log-room (c .before .before)))
+    (λ c. omega (arith, mains-room (c .before .before)))
+    (λ c. omega (arith, mains-room (c .before .before)))
+    (λ c. omega (arith, mains-room (c .before .before)))
+    (λ c. turn-less (deciding (setting (set-kind (named (c .before .before))))))
     loop2-again-10
-    remove-snapshots-requires
-    without-requires
+    (λ c κs. let e = removing c in let E = removed c .stands in let q = c .if11 .taken in (laid-snapshots E, (snapshots-ascend E, (asked-laid (u e) (formed e) q, (tidy e, q)))))
+    (λ c κs. let t = c .before in let e = removing t in (laid-snapshots (removed t .stands), asked-laid (u e) (formed e) (t .if11 .taken)))
     (λ c κs. search needs)
-    array-share-prefix-ids-4
-    slice-aggregate-pointing
-    pointing-requires
-    loop2-less-11
+    (λ c. lent-left c .0)
+    (λ c. lent-left (c .before) .1)
+    (λ c κs. (laid-refs (removed (c .before .before .before .before) .stands), lent-left (c .before) .2))
+    (λ c. turn-less (deciding (removing (c .before .before .before .before .before .before))))
     loop2-again-11
-    remove-ref-requires
-    without-requires-2
-    loop2-less-12
+    (λ c κs. let e = dropping c in let q = c .if12 .taken in (laid-refs (dropped c .stands), (removed-name-laid (u e) (formed e) q, (tidy e, q))))
+    (λ c κs. let t = c .before in let e = dropping t in (laid-refs (dropped t .stands), removed-name-laid (u e) (formed e) (t .if12 .taken)))
+    (λ c. turn-less (deciding (dropping (c .before .before))))
     loop2-again-12
-    decide-requires-2
-    after-requires-2
-    loop2-less-13
+    (λ c κs. let e = shaping c in let E = shaped c .stands in (laid-schemas E, (schemas-ascend E, (tidy e, (by-kind e, (beyond (c .before), c .if13 .taken))))))
+    (λ c κs. (laid-schemas (shaped (c .before) .stands), c .decide2 .ensures .next))
+    (λ c. turn-less (deciding (shaping (c .before .before))))
     loop2-again-13
-    decide-requires-3
-    after-requires-3
-    loop2-less-14
+    (λ c κs. let e = ordering c in let E = ordered c .stands in (laid-schemas E, (schema-held E, (laid-orders E, (orders-formed E, (tidy e, (by-kind e, (omega (arith, c .before .if13 .left), c .if14 .taken))))))))
+    (λ c κs. (laid-orders (ordered (c .before) .stands), c .decide3 .ensures .new))
+    (λ c. turn-less (deciding (ordering (c .before .before))))
     loop2-again-14
-    decide-requires-4
-    after-requires-4
-    loop2-less-15
+    (λ c κs. let e = filing-at c in (laid-statistics (filed c .stands) Statistics, (tidy e, by-kind e)))
+    (λ c κs. let E = filed (c .before) .stands in (laid-statistics E Statistics, (statistics-ascend E Statistics, c .decide4 .ensures .new)))
+    (λ c. turn-less (deciding (filing-at (c .before .before))))
     loop2-again-15
-    decide-requires-5
-    after-requires-5
-    loop2-less-16
+    (λ c κs. let e = partition-at c in (laid-statistics (partition c .stands) PartitionStatistics, (tidy e, by-kind e)))
+    (λ c κs. let E = partition (c .before) .stands in (laid-statistics E PartitionStatistics, (statistics-ascend E PartitionStatistics, c .decide5 .ensures .new)))
+    (λ c. turn-less (deciding (partition-at (c .before .before))))
     loop2-again-16
     (λ c κs. search needs)
-    returns
-    array-share-prefix-ids-5
-    slice-aggregate-close-log
-    array-share-prefix-added-2
-    slice-aggregate-close-log-2
-    array-share-prefix-main-targets
-    slice-aggregate-close-log-3
-    close-log-requires
+    (λ c. c .refused .ensures ∙ c .before .before .before .loop2 .inv .refused (c .before .if16 .taken))
+    (λ c. held-within (end (c .before) .stands))
+    (λ c. held-slice (end (c .before .before) .stands))
+    (λ c. adds-within (end (c .before .before) .stands))
+    (λ c. added-slice (end (c .before .before .before) .stands))
+    (λ c. mains-within (end (c .before .before .before) .stands))
+    (λ c. main-slice (end (c .before .before .before .before) .stands))
+    (λ c κs. let E = end (c .before .before .before .before) .stands in (laid-log E, held-ascend E))
     (λ c κs. search needs)
-    surplus-requires
-    is-overfull-requires
-    close-number-requires
+    (λ c κs. files-fit (end (c .before .before .before .before .before .before) .stands))
+    (λ c κs. (files-fit (E c), gone-within c))
+    (λ c κs. let e = E (c .before) in (c .before .before .before .close-log .ensures .1, (laid-refs e, (laid-schemas e, (laid-orders e, (schema-held e, order-held e))))))
     (λ c κs. search needs)
-    returns-2
-    part-requires
+    (λ c. let n = c .before .before in let e = closing (filing n) in c .refused2 .ensures ∙ close-refused (E (filing n)) _ (numbered n) (c .before .if17 .taken) ∙ ends (end e) (passed e))
+    (λ c κs. let f = filing (c .before) in (files-laid (E f), (search needs, gone-within f)))
     staying-requires
     (λ c κs. search needs)
     returns-3)
