@@ -1,10 +1,9 @@
 -- A tidy update is a blank one of its kind with the records that its kind uses, and so is each of its parts.
 use Prim.Native.Nat.{ℕ}
 use mathlib.Core.Path.{_≡_, refl, sym, ap, _∙_}
-use mathlib.Core.Bool.{Bool, true, false, cond, _||_, false≢true}
+use mathlib.Core.Bool.{Bool, true, false, cond, _||_}
 use mathlib.Core.List.{List, [], _∷_}
 use lib.Dec.{eqb}
-use borrow.Author.Tests.{eqb-true}
 use Rattle.records.specs.Blanks.{noFieldsPart, noSnapshotsPart, noRef, noSchemasPart, noSortOrdersPart, noStatisticsPart}
 use Rattle.records.specs.declared.part.FieldsPart.{FieldsPart}
 use Rattle.records.specs.declared.part.SnapshotsPart.{SnapshotsPart}
@@ -17,7 +16,7 @@ use Rattle.rules.specs.Words.{any}
 use Rattle.rules.specs.WellFormed.{updateFormed}
 use Rattle.rules.specs.Blanks.{isZero, isZeroZ, isBlankUuid, isTidyText, isBlankText, isTidySnapshot, isBlankSnapshot, isTidySnapshotIds, isBlankSnapshotIds, isTidyRefName, isBlankRefName, isTidyReference, isBlankReference, isTidySchema, isBlankSchema, isTidySchemaIds, isBlankSchemaIds, isTidySortOrder, isBlankSortOrder, isTidyStatisticsFile, isBlankStatisticsFile}
 use Rattle.rules.specs.Kinds.{usedBy, fitsKinds, isTidyFieldsPart, isTidySnapshotsPart, isTidyRefsPart, isTidySchemasPart, isTidySortOrdersPart, isTidyStatisticsPart, isTidyUpdate, readKind, readUpdate, uuidKinds, versionKinds, locationKinds, snapshotKinds, snapshotIdsKinds, refNameKinds, referenceKinds, schemaKinds, schemaIdKinds, schemaIdsKinds, sortOrderKinds, sortOrderIdKinds, statisticsFileKinds, statisticsIdKinds}
-use Rattle.rules.proofs.Checks.{and-left, by-either, parts}
+use Rattle.rules.proofs.Checks.{and-left, parts}
 use Rattle.rules.proofs.Relaid.{zero, zeroZ, blank-uuid, blank-text, blank-ref-name, blank-snapshot, blank-snapshot-ids, blank-reference, blank-schema, blank-schema-ids, blank-sort-order, blank-statistics-file}
 use Rattle.builder.proofs.Parts.{tidy-parts}
 
@@ -117,7 +116,7 @@ own-statistics k p e =
 -- ---- the update
 
 abbrev pub byKind : ℕ → TableUpdate → TableUpdate
-byKind k u = record { kind = k; fields = fieldsBy k (u .fields); snapshots = snapshotsBy k (u .snapshots); refs = refsBy k (u .refs); schemas = schemasBy k (u .schemas); «sort_orders» = ordersBy k (u .«sort_orders»); statistics = statisticsBy k (u .statistics) }
+byKind k u = record { kind = k; fields = fieldsBy k (u .fields); snapshots = snapshotsBy k (u .snapshots); refs = refsBy k (u .refs); schemas = schemasBy k (u .schemas); «sort_orders» = ordersBy k (u .«sort_orders»); statistics = statisticsBy k (u .statistics .file) }
 
 own-kind : (u : TableUpdate) → isTidyUpdate u ≡ true → u ≡ byKind (u .kind) u
 own-kind u e =
@@ -129,7 +128,7 @@ own-kind u e =
       refs = own-refs (u .kind) (u .refs) (h .refs) i;
       schemas = own-schemas (u .kind) (u .schemas) (h .schemas) i;
       «sort_orders» = own-orders (u .kind) (u .«sort_orders») (h .orders) i;
-      statistics = own-statistics (u .kind) (u .statistics) (h .statistics) i;
+      statistics = own-statistics (u .kind) (u .statistics .file) (h .statistics) i;
     }
 
 -- a tidy update of a kind
@@ -143,11 +142,3 @@ module _ (u : TableUpdate) (e : isTidyUpdate u ≡ true) (k : ℕ) (q : u .kind 
 
   pub formed-kind : updateFormed (readKind u) ≡ true → updateFormed (readKind (byKind k u)) ≡ true
   formed-kind f = ap (λ (x : TableUpdate). updateFormed (readKind x)) (sym of-kind) ∙ f
-
--- ---- one of several kinds
-
-pub not-first : (k a : ℕ) (rest : List ℕ) → (k ≡ a → ⊥) → any (eqb k) (a ∷ rest) ≡ true → any (eqb k) rest ≡ true
-not-first k a rest n h = by-either (eqb k a) (any (eqb k) rest) (λ e. absurd (n (eqb-true k a e))) (λ e. e) h
-
-pub only-one : (k a : ℕ) → any (eqb k) (a ∷ []) ≡ true → k ≡ a
-only-one k a h = by-either (eqb k a) false (λ e. eqb-true k a e) (λ e. absurd (false≢true e)) h

@@ -11,3 +11,4 @@ pub mod Adding
 pub mod Setting
 pub mod Taken
 pub mod Turning
+pub mod Ending

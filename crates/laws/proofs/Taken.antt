@@ -7,13 +7,13 @@ use Rattle.records.specs.declared.update.TableUpdate.{TableUpdate}
 use Rattle.rules.specs.Capacities.{refNameRoom}
 use Rattle.rules.specs.WellFormed.{updateFormed, refNameFormed}
 use Rattle.rules.specs.Layout.{readRefName, readSnapshot, laidSnapshot, readReference, laidReference}
-use Rattle.rules.specs.Kinds.{readUpdate, setBranchSnapshotKind, removeSnapshotsKind, setRefKind, removeRefKind, removeSchemasKind}
+use Rattle.rules.specs.Kinds.{readUpdate, setBranchSnapshotKind, removeSnapshotsKind, setRefKind, removeRefKind}
 use Rattle.rules.proofs.Checks.{and-left}
 use Rattle.rules.proofs.Relaid.{back-ref-name, back-snapshot, back-reference}
-use Rattle.tables.specs.Laid.{LaidName, LaidSnapshotIds, LaidSchemaIds}
-use Rattle.start.proofs.Reading.{formed-tidy, read-set-branch-snapshot, read-remove-snapshots, read-set-ref, read-remove-ref, read-remove-schemas}
+use Rattle.tables.specs.Laid.{LaidName, LaidSnapshotIds}
+use Rattle.start.proofs.Reading.{formed-tidy, read-set-branch-snapshot, read-remove-snapshots, read-set-ref, read-remove-ref}
 use Rattle.builder.proofs.Parts.{snapshot-tidy, ref-name-tidy, reference-tidy}
-use Rattle.builder.proofs.Given.{given-snapshot-ids, given-schema-ids}
+use Rattle.builder.proofs.Given.{given-snapshot-ids}
 
 module _ (u : TableUpdate) (f : updateFormed (readUpdate u) ≡ true) where
   pub snapshot-back : laidSnapshot (readSnapshot (u .snapshots .added)) ≡ u .snapshots .added
@@ -41,7 +41,3 @@ module _ (u : TableUpdate) (f : updateFormed (readUpdate u) ≡ true) where
   pub removed-name-laid : u .kind ≡ removeRefKind → LaidName (u .refs .name)
   unfolding updateFormed
   removed-name-laid k = name-laid (rw (read-remove-ref u f k) at f)
-
-  pub schema-ids-laid : u .kind ≡ removeSchemasKind → LaidSchemaIds (u .schemas .removed)
-  unfolding updateFormed
-  schema-ids-laid k = given-schema-ids u (formed-tidy u f) (rw (read-remove-schemas u f k) at f)

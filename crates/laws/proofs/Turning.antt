@@ -8,7 +8,7 @@ use borrow.Table.Steps.{cases}
 use lib.Dec.{eqb}
 use Rattle.records.specs.declared.update.TableUpdate.{TableUpdate}
 use Rattle.rules.specs.WellFormed.{updateFormed}
-use Rattle.rules.specs.Kinds.{atKind, readings, readKind, readUpdate, assignUuidKind, setLocationKind, setBranchSnapshotKind, removeRefKind, addSchemaKind, addSortOrderKind, setStatisticsKind, setPartitionStatisticsKind}
+use Rattle.rules.specs.Kinds.{atKind, readings, readKind, readUpdate, assignUuidKind, setLocationKind, setBranchSnapshotKind, removeRefKind, addSchemaKind, removeSchemasKind, setDefaultSortOrderKind, removeStatisticsKind}
 use Rattle.builder.specs.declared.decision.Decision.{Decision}
 use Rattle.start.proofs.Reading.{formed-tidy, read-tidy, bounds}
 use Rattle.laws.specs.Standing.{Given, Pieces, Standing}
@@ -60,14 +60,14 @@ module _ (u : TableUpdate) (f : updateFormed (readUpdate u) ≡ true) where
   pub is-ref-removal : u .kind ≡ removeRefKind → group (readUpdate u) ≡ 4
   is-ref-removal e = ap group read ∙ rw e
 
-  pub is-schemas : addSchemaKind ≤ u .kind → u .kind < addSortOrderKind → group (readUpdate u) ≡ 2
-  is-schemas l h = ap group read ∙ cases (eqb (u .kind) addSchemaKind) (λ t. rw (eqb-true (u .kind) addSchemaKind t)) (λ n. two (λ k. group (atKind k (readings u)) ≡ 2) 10 (u .kind) (omega (arith, eqb-false (u .kind) addSchemaKind n)) (omega arith) refl refl)
+  pub is-schemas : addSchemaKind ≤ u .kind → u .kind ≤ removeSchemasKind → group (readUpdate u) ≡ 2
+  is-schemas l h = ap group read ∙ cases (eqb (u .kind) addSchemaKind) (λ t. rw (eqb-true (u .kind) addSchemaKind t)) (λ n. two (λ k. group (atKind k (readings u)) ≡ 2) 10 (u .kind) (omega (arith, eqb-false (u .kind) addSchemaKind n)) h refl refl)
 
-  pub is-orders : addSortOrderKind ≤ u .kind → u .kind < setStatisticsKind → group (readUpdate u) ≡ 3
-  is-orders l h = ap group read ∙ two (λ k. group (atKind k (readings u)) ≡ 3) 12 (u .kind) l (omega arith) refl refl
+  pub is-orders : removeSchemasKind < u .kind → u .kind ≤ setDefaultSortOrderKind → group (readUpdate u) ≡ 3
+  is-orders l h = ap group read ∙ two (λ k. group (atKind k (readings u)) ≡ 3) 12 (u .kind) (omega arith) h refl refl
 
-  pub is-statistics : setStatisticsKind ≤ u .kind → u .kind < setPartitionStatisticsKind → group (readUpdate u) ≡ 5
-  is-statistics l h = ap group read ∙ two (λ k. group (atKind k (readings u)) ≡ 5) 14 (u .kind) l (omega arith) refl refl
+  pub is-statistics : setDefaultSortOrderKind < u .kind → u .kind ≤ removeStatisticsKind → group (readUpdate u) ≡ 5
+  is-statistics l h = ap group read ∙ two (λ k. group (atKind k (readings u)) ≡ 5) 14 (u .kind) (omega arith) h refl refl
 
-  pub is-partition-statistics : setPartitionStatisticsKind ≤ u .kind → group (readUpdate u) ≡ 6
-  is-partition-statistics l = ap group read ∙ two (λ k. group (atKind k (readings u)) ≡ 6) 16 (u .kind) l (omega (arith, bounds u f)) refl refl
+  pub is-partition-statistics : removeStatisticsKind < u .kind → group (readUpdate u) ≡ 6
+  is-partition-statistics l = ap group read ∙ two (λ k. group (atKind k (readings u)) ≡ 6) 16 (u .kind) (omega arith) (omega (arith, bounds u f)) refl refl

@@ -26,15 +26,15 @@ use records::replies::ACCEPTED;
 use records::replies::UPDATE_NOT_FORMED;
 use records::run::Answer;
 use records::run::RunTerms;
-use records::update::ADD_SCHEMA;
 use records::update::ADD_SNAPSHOT;
-use records::update::ADD_SORT_ORDER;
 use records::update::REMOVE_REF;
+use records::update::REMOVE_SCHEMAS;
 use records::update::REMOVE_SNAPSHOTS;
+use records::update::REMOVE_STATISTICS;
 use records::update::SET_BRANCH_SNAPSHOT;
+use records::update::SET_DEFAULT_SORT_ORDER;
 use records::update::SET_LOCATION;
-use records::update::SET_PARTITION_STATISTICS;
-use records::update::SET_STATISTICS;
+use records::update::SET_REF;
 use records::update::TableUpdate;
 use records::update::UpdateList;
 use ref_updates::commits_on_tag;
@@ -150,40 +150,6 @@ pub fn run(metadata: TableMetadata, updates: UpdateList, terms: RunTerms, text: 
             decision = single::decide(builder, update);
             continue;
         }
-        if kind >= SET_PARTITION_STATISTICS {
-            decision = statistics_family::decide(builder, partition_statistics, update);
-            partition_statistics = statistics_family::after(partition_statistics, update, decision);
-            continue;
-        }
-        if kind >= SET_STATISTICS {
-            decision = statistics_family::decide(builder, statistics, update);
-            statistics = statistics_family::after(statistics, update, decision);
-            continue;
-        }
-        if kind >= ADD_SORT_ORDER {
-            decision = order_family::decide(builder, schemas, orders, update);
-            orders = order_family::after(orders, update, decision);
-            continue;
-        }
-        if kind >= ADD_SCHEMA {
-            decision = schema_family::decide(builder, schemas, update);
-            schemas = schema_family::after(schemas, update, decision);
-            continue;
-        }
-        if kind == REMOVE_REF {
-            decision = remove_ref(builder, refs, update);
-            refs = tables::refs::without(refs, update.refs.name);
-            continue;
-        }
-        if kind == REMOVE_SNAPSHOTS {
-            decision = remove_snapshots(builder, snapshots, update);
-            snapshots = tables::snapshots::without(snapshots, update.snapshots.removed);
-            ids = ids_of(snapshots);
-            let left = snapshots.count;
-            refs = tables::refs::pointing(refs, &ids[..left]);
-            removal = removal | decision.logs;
-            continue;
-        }
         let held = snapshots.count;
         let history = log.count;
         if (kind == ADD_SNAPSHOT) | ((kind == SET_BRANCH_SNAPSHOT) & !begun) {
@@ -216,33 +182,67 @@ pub fn run(metadata: TableMetadata, updates: UpdateList, terms: RunTerms, text: 
             ids = ids_of(snapshots);
             continue;
         }
-        let id = ref_target(update);
-        let key = id.0;
-        let spot = position_ascending(&ids[..held], key);
-        let at = slot(spot, held);
-        let target = snapshots.items[at];
-        let addition = position(&added[..adds], key);
-        decision = set_ref(
-            builder,
-            refs,
-            spot < held,
-            addition < adds,
-            target.timestamp_ms,
-            history,
-            clock,
-            update,
-        );
-        refs = refs_after(refs, decision);
-        let main = is_main_name(update.refs.name);
-        if !(decision.grows & main) {
+        if (kind == SET_BRANCH_SNAPSHOT) | (kind == SET_REF) {
+            let id = ref_target(update);
+            let key = id.0;
+            let spot = position_ascending(&ids[..held], key);
+            let at = slot(spot, held);
+            let target = snapshots.items[at];
+            let addition = position(&added[..adds], key);
+            decision = set_ref(
+                builder,
+                refs,
+                spot < held,
+                addition < adds,
+                target.timestamp_ms,
+                history,
+                clock,
+                update,
+            );
+            refs = refs_after(refs, decision);
+            let main = is_main_name(update.refs.name);
+            if !(decision.grows & main) {
+                continue;
+            }
+            let entry = main_entry(decision);
+            last = entry.timestamp_ms;
+            log.items[history] = entry;
+            log.count = history + 1;
+            main_targets[mains] = key;
+            mains += 1;
             continue;
         }
-        let entry = main_entry(decision);
-        last = entry.timestamp_ms;
-        log.items[history] = entry;
-        log.count = history + 1;
-        main_targets[mains] = key;
-        mains += 1;
+        if kind == REMOVE_SNAPSHOTS {
+            decision = remove_snapshots(builder, snapshots, update);
+            snapshots = tables::snapshots::without(snapshots, update.snapshots.removed);
+            ids = ids_of(snapshots);
+            let left = snapshots.count;
+            refs = tables::refs::pointing(refs, &ids[..left]);
+            removal = removal | decision.logs;
+            continue;
+        }
+        if kind == REMOVE_REF {
+            decision = remove_ref(builder, refs, update);
+            refs = tables::refs::without(refs, update.refs.name);
+            continue;
+        }
+        if kind <= REMOVE_SCHEMAS {
+            decision = schema_family::decide(builder, schemas, update);
+            schemas = schema_family::after(schemas, update, decision);
+            continue;
+        }
+        if kind <= SET_DEFAULT_SORT_ORDER {
+            decision = order_family::decide(builder, schemas, orders, update);
+            orders = order_family::after(orders, update, decision);
+            continue;
+        }
+        if kind <= REMOVE_STATISTICS {
+            decision = statistics_family::decide(builder, statistics, update);
+            statistics = statistics_family::after(statistics, update, decision);
+            continue;
+        }
+        decision = statistics_family::decide(builder, partition_statistics, update);
+        partition_statistics = statistics_family::after(partition_statistics, update, decision);
     }
     if number != ACCEPTED {
         return refused(metadata, number, place);

@@ -14,13 +14,12 @@ use Rattle.records.specs.Blanks.{noUpdate}
 use Rattle.records.specs.declared.update.TableUpdate.{TableUpdate}
 use Rattle.records.specs.declared.update.UpdateList.{UpdateList}
 use Rattle.rules.specs.Words.{all, any, total}
-use Rattle.rules.specs.Register.{StatisticsTable, Update}
-use Rattle.rules.specs.Register.StatisticsTable.{Statistics, PartitionStatistics}
-use Rattle.rules.specs.Register.Update.{AddSnapshot, SetBranchSnapshot, RemoveSnapshots, SetRef, RemoveRef, RemoveSchemas, SetStatistics, RemoveStatistics, NotFormed}
+use Rattle.rules.specs.Register.{Update}
+use Rattle.rules.specs.Register.Update.{AddSnapshot, SetBranchSnapshot, RemoveSnapshots, SetRef, RemoveRef, NotFormed}
 use Rattle.rules.specs.WellFormed.{updateFormed}
 use Rattle.rules.specs.Run.{weight}
-use Rattle.rules.specs.Layout.{counted, readRefName, readSnapshot, readReference, readSnapshotIds, readSchemaIds, readStatisticsFile}
-use Rattle.rules.specs.Kinds.{isTidyUpdate, kindWeight, atKind, readings, readKind, readUpdate, readUpdates, assignUuidKind, upgradeFormatVersionKind, setLocationKind, addSnapshotKind, setBranchSnapshotKind, removeSnapshotsKind, setRefKind, removeRefKind, addSchemaKind, setCurrentSchemaKind, removeSchemasKind, addSortOrderKind, setDefaultSortOrderKind, setStatisticsKind, removeStatisticsKind, setPartitionStatisticsKind, removePartitionStatisticsKind, settingKind, removingKind}
+use Rattle.rules.specs.Layout.{counted, readRefName, readSnapshot, readReference, readSnapshotIds}
+use Rattle.rules.specs.Kinds.{isTidyUpdate, kindWeight, atKind, readings, readKind, readUpdate, readUpdates, assignUuidKind, upgradeFormatVersionKind, setLocationKind, addSnapshotKind, setBranchSnapshotKind, removeSnapshotsKind, setRefKind, removeRefKind, addSchemaKind, setCurrentSchemaKind, removeSchemasKind, addSortOrderKind, setDefaultSortOrderKind, setStatisticsKind, removeStatisticsKind, setPartitionStatisticsKind, removePartitionStatisticsKind}
 use Rattle.rules.proofs.Checks.{and-left, and-right, by-either, neither, by-test}
 use Rattle.rules.proofs.Relaid.{counted-take, length-counted}
 
@@ -62,17 +61,6 @@ module _ (u : TableUpdate) (f : updateFormed (readUpdate u) ≡ true) where
 
   pub read-remove-ref : u .kind ≡ removeRefKind → readUpdate u ≡ RemoveRef (readRefName (u .refs .name))
   read-remove-ref e = read-tidy u (formed-tidy u f) ∙ rw e
-
-  pub read-remove-schemas : u .kind ≡ removeSchemasKind → readUpdate u ≡ RemoveSchemas (readSchemaIds (u .schemas .removed))
-  read-remove-schemas e = read-tidy u (formed-tidy u f) ∙ rw e
-
-  pub read-set-statistics : (which : StatisticsTable) → u .kind ≡ settingKind which → readUpdate u ≡ SetStatistics which (readStatisticsFile (u .statistics .file))
-  read-set-statistics Statistics e = read-tidy u (formed-tidy u f) ∙ rw e
-  read-set-statistics PartitionStatistics e = read-tidy u (formed-tidy u f) ∙ rw e
-
-  pub read-remove-statistics : (which : StatisticsTable) → u .kind ≡ removingKind which → readUpdate u ≡ RemoveStatistics which (u .statistics .removed .0)
-  read-remove-statistics Statistics e = read-tidy u (formed-tidy u f) ∙ rw e
-  read-remove-statistics PartitionStatistics e = read-tidy u (formed-tidy u f) ∙ rw e
 
   -- its form by its kind alone
   pub formed-kind : updateFormed (readKind u) ≡ true

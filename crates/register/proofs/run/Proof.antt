@@ -5,7 +5,7 @@ use mathlib.Core.Path.{_≡_, refl, sym, ap, _∙_}
 use mathlib.Core.Bool.{Bool, true, false, not, cond, _&&_, _||_, false≢true}
 use mathlib.Core.List.{_∷_, List}
 use borrow.Author.Needs.{needs, sfits-of}
-use borrow.Author.Tests.{not-true, not-false, eqb-true, eqb-false, eq-eqb, ne-eqb, ltb-true, ltb-false}
+use borrow.Author.Tests.{not-true, not-false, eqb-true, eqb-false, eq-eqb, ltb-true, ltb-false}
 use borrow.Table.Steps.{cases}
 use mir.Syntax.{w64}
 use mir.Val.{toZ, ofZ}
@@ -26,7 +26,7 @@ use Rattle.rules.specs.WellFormed.{updateFormed, snapshotBelow}
 use Rattle.rules.specs.SnapshotUpdates.{addSnapshotChecks}
 use Rattle.rules.specs.Run.{weight, listSum}
 use Rattle.rules.specs.Layout.{pad, readSnapshot, laidSnapshot, laidSnapshots, readSnapshotIds, readRefName}
-use Rattle.rules.specs.Kinds.{isTidyUpdate, readUpdate, readUpdates, addSnapshotKind, setBranchSnapshotKind, setRefKind, readKind}
+use Rattle.rules.specs.Kinds.{isTidyUpdate, readUpdate, readUpdates, addSnapshotKind, setBranchSnapshotKind, setRefKind, addSchemaKind, readKind}
 use Rattle.close.specs.Answers.{HistoryOf}
 use Rattle.rules.proofs.Checks.{and-left, and-right, by-either, neither}
 use Rattle.tables.specs.Laid.{LaidName}
@@ -37,7 +37,7 @@ use Rattle.builder.specs.Pieces.{idsOf, isAbove}
 use Rattle.snapshot_updates.specs.Snapshots.{SnapshotDecided}
 use Rattle.ref_updates.specs.Refs.{RefSet}
 use Rattle.start.specs.Start.{startNumber}
-use Rattle.start.proofs.Reading.{formed-tidy, formed-kind, read-remove-snapshots, read-set-ref, read-remove-ref, here, all-read, weight-read, counts, bounds}
+use Rattle.start.proofs.Reading.{formed-tidy, formed-kind, kinds, read-remove-snapshots, read-set-ref, read-remove-ref, here, all-read, weight-read, counts, bounds}
 use Rattle.start.proofs.Started.{refused-start}
 use Rattle.laws.specs.Standing.{Given, termsOf, Pieces, Represents, Standing, OwnTable, Slots, withTable, ownLists, laidOf}
 use Rattle.laws.specs.Standing.OwnTable.{ofSchemas, ofOrders, ofStatistics}
@@ -54,6 +54,7 @@ use Rattle.laws.proofs.Effects.{group}
 use Rattle.laws.proofs.Turning.{undivided, unformed, at-the-end, decides, refuses, goes-on, is-ref-removal, is-single, is-schemas, is-orders, is-statistics, is-partition-statistics}
 use Rattle.rules.specs.Updates.{effect}
 use Rattle.statistics_updates.specs.Family.{Within}
+use Rattle.laws.proofs.Ending.{turns, stored-less, refused-less, decided-less, halved-less}
 use Rattle.register.proofs.run.Statement.{statement}
 use Rattle.register.proofs.run.Tie as tie
 
@@ -81,10 +82,6 @@ Inv-loop2 metadata terms text updates first clock listed added₀ main-targets�
       changes = record { entries = entries; count = count; added = added; adds = adds; mainTargets = main-targets; mains = mains; removal = removal };
     })
     decision
-
--- of each update four turns at most are left: to decide, to store, and both again for the second half of a branch commit
-abbrev turns : Bool → Bool → ℕ
-turns waits half = cond waits (cond half 3 1) (cond half 2 4)
 
 abbrev μ-loop2 : tie.MeasureT-loop2
 μ-loop2 metadata terms text updates first clock listed added₀ main-targets₀ adds₀ mains₀ removal₀ sum number₀ entries₀ builder₀ decision₀ snapshots₀ ids₀ refs₀ log₀ last₀ schemas₀ orders₀ statistics₀ partitions₀ count₀ place₀ waits₀ half₀ begun₀ added main-targets adds mains removal number entries builder decision snapshots ids refs log last schemas orders statistics partitions count place waits half begun =
@@ -167,13 +164,6 @@ module _ (c : tie.Then1 Inv-loop μ-loop Inv-loop2 μ-loop2) where
   waiting : (stored-at .loop2 .place < given stored-at .updates .count) × Decided (given stored-at) (stored-at .loop2 .place) (stored-at .loop2 .half) (here-pieces stored-at) (stored-at .loop2 .decision)
   waiting = stored-at .loop2 .inv .waits (zero (c .before)) (c .if1 .taken)
 
--- a turn more is done
-stored-less : (number listed place next : ℕ) (half : Bool) {waits : Bool} → number ≡ 0 → waits ≡ true → place < listed → next ≡ cond half place (place + 1) → (n : ℕ) → n ≡ 0 → cond (eqb n 0) (4 * (listed - next) + turns false half) 0 < cond (eqb number 0) (4 * (listed - place) + turns waits half) 0
-stored-less number listed place next half {waits} z w l q n y = rw (z, w, y, q) (cases half (λ t. rw t (omega arith)) (λ f. rw f (omega arith)))
-
-refused-less : (number listed place : ℕ) (half waits : Bool) → number ≡ 0 → (n : ℕ) (next : ℕ) (a b : Bool) → (n ≡ 0 → ⊥) → cond (eqb n 0) (4 * (listed - next) + turns a b) 0 < cond (eqb number 0) (4 * (listed - place) + turns waits half) 0
-refused-less number listed place half waits z n next a b y = rw (z, ne-eqb n 0 y) (cases waits (λ t. cases half (λ u. rw (t, u) (omega arith)) (λ u. rw (t, u) (omega arith))) (λ t. cases half (λ u. rw (t, u) (omega arith)) (λ u. rw (t, u) (omega arith))))
-
 -- ---- a turn that decides
 
 module _ (c : tie.Else1 Inv-loop μ-loop Inv-loop2 μ-loop2) where
@@ -196,16 +186,9 @@ module _ (c : tie.Else1 Inv-loop μ-loop Inv-loop2 μ-loop2) where
   waits-now : {half : Bool} {p : Pieces} {d : Decision} → Decided (given decided-at) (decided-at .loop2 .place) half p d → Turn (given decided-at) (decided-at .loop2 .number) (decided-at .loop2 .place) true half p d
   waits-now D = decides (zero (c .before)) (short (c .before)) below D
 
-decided-less : (number listed place : ℕ) (half : Bool) {waits : Bool} → number ≡ 0 → waits ≡ false → cond (eqb number 0) (4 * (listed - place) + turns true false) 0 < cond (eqb number 0) (4 * (listed - place) + turns waits half) 0
-decided-less number listed place half z w = rw (z, w) (cases half (λ t. rw t (omega arith)) (λ f. rw f (omega arith)))
-
 turn-less : (e : tie.Else1 Inv-loop μ-loop Inv-loop2 μ-loop2) → let l = decided-at e .loop2 in let listed = given (decided-at e) .updates .count in
     cond (eqb (l .number) 0) (4 * (listed - l .place) + turns true false) 0 < cond (eqb (l .number) 0) (4 * (listed - l .place) + turns (l .waits) (l .half)) 0
 turn-less e = let l = decided-at e .loop2 in decided-less (l .number) (given (decided-at e) .updates .count) (l .place) (l .half) (zero (e .before)) (e .if1 .left)
-
--- the same where the first half of a branch commit may be decided
-halved-less : (number listed place : ℕ) (half now : Bool) {waits : Bool} → number ≡ 0 → waits ≡ false → (now ≡ true → half ≡ false) → cond (eqb number 0) (4 * (listed - place) + turns true now) 0 < cond (eqb number 0) (4 * (listed - place) + turns waits half) 0
-halved-less number listed place half now z w h = rw (z, w) (cases now (λ t. rw (t, h t) (omega arith)) (λ f. rw f (cases half (λ t. rw t (omega arith)) (λ u. rw u (omega arith)))))
 
 -- the update is well formed
 module _ (c : tie.Else4 Inv-loop μ-loop Inv-loop2 μ-loop2) where
@@ -242,69 +225,14 @@ module _ (c : tie.Else4 Inv-loop μ-loop Inv-loop2 μ-loop2) where
       → Turn (given loop-at) (loop-at .loop2 .number) (loop-at .loop2 .place) true false (tabled (loop-at .loop2 .refs) (withTable o t (here-pieces loop-at .held .ownTables)) (here-pieces loop-at)) d
   own s o k A x = waits-now deciding (own-decided s (readUpdate u) (at deciding) (one deciding) formed A o k x)
 
--- ---- the families, each in its bounds
-
 module _ (c : tie.Then5 Inv-loop μ-loop Inv-loop2 μ-loop2) where
   single : Stood (c .before)
   single = standing (c .before) (λ q. omega (arith, q, c .if5 .taken))
 
-module _ (c : tie.Then6 Inv-loop μ-loop Inv-loop2 μ-loop2) where
-  abbrev filed2 : tie.Else4 Inv-loop μ-loop Inv-loop2 μ-loop2
-  filed2 = c .before .before
-
-  partition : Stood filed2
-  partition = standing filed2 (λ q. omega (arith, q, c .if6 .taken))
-
-module _ (c : tie.Then7 Inv-loop μ-loop Inv-loop2 μ-loop2) where
-  abbrev filed : tie.Else4 Inv-loop μ-loop Inv-loop2 μ-loop2
-  filed = c .before .before .before
-
-  files : Stood filed
-  files = standing filed (λ q. omega (arith, q, c .if7 .taken))
-
-module _ (c : tie.Then8 Inv-loop μ-loop Inv-loop2 μ-loop2) where
-  abbrev ordering : tie.Else4 Inv-loop μ-loop Inv-loop2 μ-loop2
-  ordering = c .before .before .before .before
-
-  ordered : Stood ordering
-  ordered = standing ordering (λ q. omega (arith, q, c .if8 .taken))
-
-module _ (c : tie.Then9 Inv-loop μ-loop Inv-loop2 μ-loop2) where
-  abbrev shaping : tie.Else4 Inv-loop μ-loop Inv-loop2 μ-loop2
-  shaping = c .before .before .before .before .before
-
-  shaped : Stood shaping
-  shaped = standing shaping (λ q. omega (arith, q, c .if9 .taken))
-
-module _ (c : tie.Then10 Inv-loop μ-loop Inv-loop2 μ-loop2) where
-  abbrev dropping : tie.Else4 Inv-loop μ-loop Inv-loop2 μ-loop2
-  dropping = c .before .before .before .before .before .before
-
-  dropped : Stood dropping
-  dropped = standing dropping (λ q. omega (arith, q, c .if10 .taken))
-
-module _ (c : tie.Then11 Inv-loop μ-loop Inv-loop2 μ-loop2) where
-  abbrev removing : tie.Else4 Inv-loop μ-loop Inv-loop2 μ-loop2
-  removing = c .before .before .before .before .before .before .before
-
-  removed : Stood removing
-  removed = standing removing (λ q. omega (arith, q, c .if11 .taken))
-
--- of the snapshots that are left, so many ids are lent, and they ascend
-lent-left : (c : tie.After-ids-of2 Inv-loop μ-loop Inv-loop2 μ-loop2) → let n : ℕ = c .before .without2 .result .count in
-    (n ≤ length (c .ids-of2 .result)) × (n ≡ length (take n (c .ids-of2 .result))) × (ascending ltZ (take n (c .ids-of2 .result)) ≡ true)
-lent-left c =
-    let t = c .before .before .before in
-    let e = removing t in
-    let v = readUpdate (u e) in
-    let xs = readSnapshotIds (u e .snapshots .removed) in
-    let w = read-remove-snapshots (u e) (formed e) (t .if11 .taken) in
-    left-lent (removed t) v (at (deciding e)) (one (deciding e)) (formed e) xs w (c .before .without2 .ensures) (c .ids-of2 .ensures (left-laid (removed t) v (at (deciding e)) (one (deciding e)) (formed e) xs w (c .before .without2 .ensures)))
-
 -- an addition, or the first half of a branch commit
-module _ (c : tie.Then12 Inv-loop μ-loop Inv-loop2 μ-loop2) where
+module _ (c : tie.Then6 Inv-loop μ-loop Inv-loop2 μ-loop2) where
   abbrev adding : tie.Else4 Inv-loop μ-loop Inv-loop2 μ-loop2
-  adding = c .before .before .before .before .before .before .before .before
+  adding = c .before .before
 
   abbrev adding-kind : ℕ
   adding-kind = U (loop-at adding) .kind
@@ -312,7 +240,7 @@ module _ (c : tie.Then12 Inv-loop μ-loop Inv-loop2 μ-loop2) where
   either-kind : (eqb adding-kind addSnapshotKind || eqb adding-kind setBranchSnapshotKind) ≡ true
   either-kind =
       by-either (eqb adding-kind addSnapshotKind) (eqb adding-kind setBranchSnapshotKind && not (loop-at adding .loop2 .half))
-      (λ y. rw y) (λ y. rw (and-left (eqb adding-kind setBranchSnapshotKind) (not (loop-at adding .loop2 .half)) y) (or-true (eqb adding-kind addSnapshotKind))) (c .if12 .taken)
+      (λ y. rw y) (λ y. rw (and-left (eqb adding-kind setBranchSnapshotKind) (not (loop-at adding .loop2 .half)) y) (or-true (eqb adding-kind addSnapshotKind))) (c .if6 .taken)
     where
       or-true : (b : Bool) → (b || true) ≡ true
       or-true true = refl
@@ -323,7 +251,7 @@ module _ (c : tie.Then12 Inv-loop μ-loop Inv-loop2 μ-loop2) where
       by-either (eqb adding-kind addSnapshotKind) (eqb adding-kind setBranchSnapshotKind && not (loop-at adding .loop2 .half))
       (λ y. standing adding (λ q. omega (arith, q, eqb-true adding-kind addSnapshotKind y)))
       (λ y. stands (deciding adding) .whole (not-true (loop-at adding .loop2 .half) (and-right (eqb adding-kind setBranchSnapshotKind) (not (loop-at adding .loop2 .half)) y)))
-      (c .if12 .taken)
+      (c .if6 .taken)
 
   -- a half is decided only where none was before
   first-half : eqb adding-kind setBranchSnapshotKind ≡ true → loop-at adding .loop2 .half ≡ false
@@ -331,25 +259,25 @@ module _ (c : tie.Then12 Inv-loop μ-loop Inv-loop2 μ-loop2) where
       by-either (eqb adding-kind addSnapshotKind) (eqb adding-kind setBranchSnapshotKind && not (loop-at adding .loop2 .half))
       (λ z. absurd (eqb-false addSnapshotKind setBranchSnapshotKind refl (sym (eqb-true adding-kind addSnapshotKind z) ∙ eqb-true adding-kind setBranchSnapshotKind y)))
       (λ z. not-true (loop-at adding .loop2 .half) (and-right (eqb adding-kind setBranchSnapshotKind) (not (loop-at adding .loop2 .half)) z))
-      (c .if12 .taken)
+      (c .if6 .taken)
 
 module _ (c : tie.After-add-snapshot Inv-loop μ-loop Inv-loop2 μ-loop2) where
-  abbrev adds-at : tie.Then12 Inv-loop μ-loop Inv-loop2 μ-loop2
+  abbrev adds-at : tie.Then6 Inv-loop μ-loop Inv-loop2 μ-loop2
   adds-at = c .before .before .before
 
   add-says : SnapshotDecided (c .before .before .commits-on-tag .result) (termsOf (given (loop-at (adding adds-at))) .tolerance) (readSnapshot (U (loop-at (adding adds-at)) .snapshots .added)) (adding-standing adds-at .state) (c .add-snapshot .result)
   add-says = let E = adding-standing adds-at .stands in c .add-snapshot .ensures (adding-standing adds-at .state) (E .tables .builder) (held-ids E) (E .tables .last)
 
 -- where it is not refused
-module _ (c : tie.Else13 Inv-loop μ-loop Inv-loop2 μ-loop2) where
+module _ (c : tie.Else7 Inv-loop μ-loop Inv-loop2 μ-loop2) where
   abbrev added-call : tie.After-add-snapshot Inv-loop μ-loop Inv-loop2 μ-loop2
   added-call = c .before .before
 
-  abbrev add-kind : tie.Then12 Inv-loop μ-loop Inv-loop2 μ-loop2
+  abbrev add-kind : tie.Then6 Inv-loop μ-loop Inv-loop2 μ-loop2
   add-kind = adds-at added-call
 
   add-zero : added-call .add-snapshot .result .number ≡ 0
-  add-zero = eqb-true _ _ (sym (add-says added-call .grows) ∙ not-false (added-call .add-snapshot .result .grows) (c .if13 .left))
+  add-zero = eqb-true _ _ (sym (add-says added-call .grows) ∙ not-false (added-call .add-snapshot .result .grows) (c .if7 .left))
 
   add-fine : firstOf (addSnapshotChecks (termsOf (given (loop-at (adding add-kind))) .tolerance) (readSnapshot (U (loop-at (adding add-kind)) .snapshots .added)) (adding-standing add-kind .state)) ≡ 0
   add-fine = adds-fine (adding-standing add-kind) (at (deciding (adding add-kind))) (one (deciding (adding add-kind))) (formed (adding add-kind)) (either-kind add-kind) (added-call .before .before .commits-on-tag .ensures) (add-says added-call) add-zero
@@ -367,22 +295,22 @@ module _ (c : tie.Else13 Inv-loop μ-loop Inv-loop2 μ-loop2) where
 key-back : (c : tie.After-struct-told Inv-loop μ-loop Inv-loop2 μ-loop2) → toZ w64 (ofZ w64 (U (loop-at (adding (add-kind (c .before .before .before)))) .snapshot .«snapshot_id» .0)) ≡ U (loop-at (adding (add-kind (c .before .before .before)))) .snapshot .«snapshot_id» .0
 key-back c = toZ-ofZ (sfits-of (c .struct-told .given .0 .1))
 
-abbrev to-else13 : tie.After-is-last Inv-loop μ-loop Inv-loop2 μ-loop2 → tie.Else13 Inv-loop μ-loop Inv-loop2 μ-loop2
-to-else13 c = c .before .before .before .before .before
+abbrev to-else7 : tie.After-is-last Inv-loop μ-loop Inv-loop2 μ-loop2 → tie.Else7 Inv-loop μ-loop Inv-loop2 μ-loop2
+to-else7 c = c .before .before .before .before .before
 
 -- above the last id
-above : (c : tie.Then14 Inv-loop μ-loop Inv-loop2 μ-loop2) → let e = adding (add-kind (to-else13 (c .before))) in isAbove (take (loop-at e .loop2 .snapshots .count) (loop-at e .loop2 .ids)) (u e .snapshots .added .«snapshot_id» .0) ≡ true
+above : (c : tie.Then8 Inv-loop μ-loop Inv-loop2 μ-loop2) → let e = adding (add-kind (to-else7 (c .before))) in isAbove (take (loop-at e .loop2 .snapshots .count) (loop-at e .loop2 .ids)) (u e .snapshots .added .«snapshot_id» .0) ≡ true
 above c =
-    let l = loop-at (adding (add-kind (to-else13 (c .before)))) .loop2 in
-    ap (isAbove (take (l .snapshots .count) (l .ids))) (sym (key-back (c .before .before .before))) ∙ sym (c .before .is-last .ensures) ∙ c .if14 .taken
+    let l = loop-at (adding (add-kind (to-else7 (c .before)))) .loop2 in
+    ap (isAbove (take (l .snapshots .count) (l .ids))) (sym (key-back (c .before .before .before))) ∙ sym (c .before .is-last .ensures) ∙ c .if8 .taken
 
 -- the first half of a branch commit may be decided, or an addition
-added-less : (t : tie.Then12 Inv-loop μ-loop Inv-loop2 μ-loop2) → let l = decided-at (deciding (adding t)) .loop2 in let listed = given (decided-at (deciding (adding t))) .updates .count in
+added-less : (t : tie.Then6 Inv-loop μ-loop Inv-loop2 μ-loop2) → let l = decided-at (deciding (adding t)) .loop2 in let listed = given (decided-at (deciding (adding t))) .updates .count in
     cond (eqb (l .number) 0) (4 * (listed - l .place) + turns true (eqb (adding-kind t) setBranchSnapshotKind)) 0 < cond (eqb (l .number) 0) (4 * (listed - l .place) + turns (l .waits) (l .half)) 0
 added-less t = let e = deciding (adding t) in let l = decided-at e .loop2 in halved-less (l .number) (given (decided-at e) .updates .count) (l .place) (l .half) _ (zero (e .before)) (e .if1 .left) (first-half t)
 
 -- one snapshot more, and its id
-added-now : (w : tie.Else13 Inv-loop μ-loop Inv-loop2 μ-loop2) {s : Snapshots} {is : List ℤ} {id : ℤ} → let t = add-kind w in let a = loop-at (adding t) in let x = readSnapshot (u (adding t) .snapshot) in
+added-now : (w : tie.Else7 Inv-loop μ-loop Inv-loop2 μ-loop2) {s : Snapshots} {is : List ℤ} {id : ℤ} → let t = add-kind w in let a = loop-at (adding t) in let x = readSnapshot (u (adding t) .snapshot) in
     s ≡ laidSnapshots (put snapshotBelow x (adding-standing t .state .metadata .snapshots)) → is ≡ pad 64 (pos 0) (idsOf (put snapshotBelow x (adding-standing t .state .metadata .snapshots))) → id ≡ u (adding t) .snapshot .«snapshot_id» .0
     → Turn (given a) (a .loop2 .number) (a .loop2 .place) true (eqb (adding-kind t) setBranchSnapshotKind) (grown s is id (here-pieces a)) (added-call w .add-snapshot .result)
 added-now w p q r =
@@ -392,28 +320,22 @@ added-now w p q r =
 
 -- ---- a set ref, or the second half of a branch commit
 
-module _ (c : tie.Else12 Inv-loop μ-loop Inv-loop2 μ-loop2) where
+module _ (c : tie.Then9 Inv-loop μ-loop Inv-loop2 μ-loop2) where
   abbrev setting : tie.Else4 Inv-loop μ-loop Inv-loop2 μ-loop2
-  setting = c .before .before .before .before .before .before .before .before
+  setting = c .before .before .before
 
   abbrev setting-kind : ℕ
   setting-kind = U (loop-at setting) .kind
 
-  either-set : (eqb setting-kind setBranchSnapshotKind || eqb setting-kind setRefKind) ≡ true
-  either-set =
-      cases (eqb setting-kind setBranchSnapshotKind) (λ t. rw t)
-      (λ f. let four = neither (eqb setting-kind addSnapshotKind) (eqb setting-kind setBranchSnapshotKind && not (loop-at setting .loop2 .half)) (c .if12 .left) .0 in
-      rw f (eq-eqb setting-kind setRefKind (omega (arith, eqb-false setting-kind setBranchSnapshotKind f, eqb-false setting-kind addSnapshotKind four, c .before .if11 .left, c .before .before .if10 .left, c .before .before .before .if9 .left, c .before .before .before .before .before .before .before .if5 .left))))
-
   midway : Midway (given (loop-at setting)) (loop-at setting .loop2 .place) (here-pieces (loop-at setting))
   midway =
       by-either (eqb setting-kind setBranchSnapshotKind) (eqb setting-kind setRefKind)
-      (λ y. stands (deciding setting) .midway (not-false (loop-at setting .loop2 .half) (and-second (eqb setting-kind setBranchSnapshotKind) (not (loop-at setting .loop2 .half)) y (neither (eqb setting-kind addSnapshotKind) (eqb setting-kind setBranchSnapshotKind && not (loop-at setting .loop2 .half)) (c .if12 .left) .1))))
+      (λ y. stands (deciding setting) .midway (not-false (loop-at setting .loop2 .half) (and-second (eqb setting-kind setBranchSnapshotKind) (not (loop-at setting .loop2 .half)) y (neither (eqb setting-kind addSnapshotKind) (eqb setting-kind setBranchSnapshotKind && not (loop-at setting .loop2 .half)) (c .before .if6 .left) .1))))
       (λ y. let q = eqb-true setting-kind setRefKind y in set-midway (standing setting (λ z. omega (arith, z, q))) (readUpdate (U (loop-at setting))) (at (deciding setting)) (one (deciding setting)) (formed setting) (read-set-ref (U (loop-at setting)) (formed setting) q) q)
-      either-set
+      (c .if9 .taken)
 
   set-name : LaidName (U (loop-at setting) .refs .name)
-  set-name = by-either (eqb setting-kind setBranchSnapshotKind) (eqb setting-kind setRefKind) (λ y. branch-name-laid (U (loop-at setting)) (formed setting) (eqb-true setting-kind setBranchSnapshotKind y)) (λ y. set-name-laid (U (loop-at setting)) (formed setting) (eqb-true setting-kind setRefKind y)) either-set
+  set-name = by-either (eqb setting-kind setBranchSnapshotKind) (eqb setting-kind setRefKind) (λ y. branch-name-laid (U (loop-at setting)) (formed setting) (eqb-true setting-kind setBranchSnapshotKind y)) (λ y. set-name-laid (U (loop-at setting)) (formed setting) (eqb-true setting-kind setRefKind y)) (c .if9 .taken)
 
 -- the snapshot's id, from its bits
 target-key : (c : tie.After-struct-told2 Inv-loop μ-loop Inv-loop2 μ-loop2) → toZ w64 (ofZ w64 (c .before .ref-target .result .0)) ≡ midway (c .before .before) .wanted .snapshot
@@ -425,7 +347,7 @@ module _ (c : tie.After-set-ref Inv-loop μ-loop Inv-loop2 μ-loop2) where
   abbrev sought : tie.After-target Inv-loop μ-loop Inv-loop2 μ-loop2
   sought = c .before .before .before
 
-  abbrev set-at : tie.Else12 Inv-loop μ-loop Inv-loop2 μ-loop2
+  abbrev set-at : tie.Then9 Inv-loop μ-loop Inv-loop2 μ-loop2
   set-at = sought .before .before .before .before .before .before
 
   set-says : RefSet (termsOf (given (loop-at (setting set-at)))) (midway set-at .state) (nameAt (given (loop-at (setting set-at))) (loop-at (setting set-at) .loop2 .place)) (midway set-at .wanted) (c .set-ref .result)
@@ -444,19 +366,19 @@ module _ (c : tie.After-is-main-name Inv-loop μ-loop Inv-loop2 μ-loop2) where
   abbrev set-call : tie.After-set-ref Inv-loop μ-loop Inv-loop2 μ-loop2
   set-call = c .before .before
 
-  abbrev set-kind : tie.Else12 Inv-loop μ-loop Inv-loop2 μ-loop2
+  abbrev set-kind : tie.Then9 Inv-loop μ-loop Inv-loop2 μ-loop2
   set-kind = set-at set-call
 
   main-is : c .is-main-name .result ≡ isMain (nameAt (given (loop-at (setting set-kind))) (loop-at (setting set-kind) .loop2 .place))
   main-is = c .is-main-name .ensures
 
 -- it is
-module _ (c : tie.Else15 Inv-loop μ-loop Inv-loop2 μ-loop2) where
+module _ (c : tie.Else10 Inv-loop μ-loop Inv-loop2 μ-loop2) where
   abbrev named : tie.After-is-main-name Inv-loop μ-loop Inv-loop2 μ-loop2
   named = c .before .before
 
   sets-main : (set-call named .set-ref .result .grows && named .is-main-name .result) ≡ true
-  sets-main = not-false (set-call named .set-ref .result .grows && named .is-main-name .result) (c .if15 .left)
+  sets-main = not-false (set-call named .set-ref .result .grows && named .is-main-name .result) (c .if10 .left)
 
   set-grows : set-call named .set-ref .result .grows ≡ true
   set-grows = and-left (set-call named .set-ref .result .grows) (named .is-main-name .result) sets-main
@@ -469,6 +391,74 @@ module _ (c : tie.Else15 Inv-loop μ-loop Inv-loop2 μ-loop2) where
 
   mains-room : loop-at (setting (set-kind named)) .loop2 .mains < 64
   mains-room = omega (arith, mains-most (midway (set-kind named) .stands), midway (set-kind named) .more)
+
+-- ---- snapshots and refs that are removed
+
+module _ (c : tie.Then11 Inv-loop μ-loop Inv-loop2 μ-loop2) where
+  abbrev removing : tie.Else4 Inv-loop μ-loop Inv-loop2 μ-loop2
+  removing = c .before .before .before .before
+
+  removed : Stood removing
+  removed = standing removing (λ q. omega (arith, q, c .if11 .taken))
+
+-- of the snapshots that are left, so many ids are lent, and they ascend
+lent-left : (c : tie.After-ids-of3 Inv-loop μ-loop Inv-loop2 μ-loop2) → let n : ℕ = c .before .without .result .count in
+    (n ≤ length (c .ids-of3 .result)) × (n ≡ length (take n (c .ids-of3 .result))) × (ascending ltZ (take n (c .ids-of3 .result)) ≡ true)
+lent-left c =
+    let t = c .before .before .before in
+    let e = removing t in
+    let v = readUpdate (u e) in
+    let xs = readSnapshotIds (u e .snapshots .removed) in
+    let w = read-remove-snapshots (u e) (formed e) (t .if11 .taken) in
+    left-lent (removed t) v (at (deciding e)) (one (deciding e)) (formed e) xs w (c .before .without .ensures) (c .ids-of3 .ensures (left-laid (removed t) v (at (deciding e)) (one (deciding e)) (formed e) xs w (c .before .without .ensures)))
+
+module _ (c : tie.Then12 Inv-loop μ-loop Inv-loop2 μ-loop2) where
+  abbrev dropping : tie.Else4 Inv-loop μ-loop Inv-loop2 μ-loop2
+  dropping = c .before .before .before .before .before
+
+  dropped : Stood dropping
+  dropped = standing dropping (λ q. omega (arith, q, c .if12 .taken))
+
+-- ---- the families with a table of their own, each in its bounds
+
+-- the kinds up to here have had their turns
+beyond : (c : tie.Else12 Inv-loop μ-loop Inv-loop2 μ-loop2) → addSchemaKind ≤ u (c .before .before .before .before .before) .kind
+beyond c =
+    let s = c .before .before in
+    let a = s .before in
+    let e = a .before .before in
+    let k = u e .kind in
+    let five = neither (eqb k setBranchSnapshotKind) (eqb k setRefKind) (s .if9 .left) in
+    let four = neither (eqb k addSnapshotKind) (eqb k setBranchSnapshotKind && not (loop-at e .loop2 .half)) (a .if6 .left) in
+    omega (arith, c .if12 .left, c .before .if11 .left, eqb-false k setBranchSnapshotKind (five .0), eqb-false k setRefKind (five .1), eqb-false k addSnapshotKind (four .0), a .before .if5 .left)
+
+module _ (c : tie.Then13 Inv-loop μ-loop Inv-loop2 μ-loop2) where
+  abbrev shaping : tie.Else4 Inv-loop μ-loop Inv-loop2 μ-loop2
+  shaping = c .before .before .before .before .before .before
+
+  shaped : Stood shaping
+  shaped = standing shaping (λ q. omega (arith, q, beyond (c .before)))
+
+module _ (c : tie.Then14 Inv-loop μ-loop Inv-loop2 μ-loop2) where
+  abbrev ordering : tie.Else4 Inv-loop μ-loop Inv-loop2 μ-loop2
+  ordering = c .before .before .before .before .before .before .before
+
+  ordered : Stood ordering
+  ordered = standing ordering (λ q. omega (arith, q, c .before .if13 .left))
+
+module _ (c : tie.Then15 Inv-loop μ-loop Inv-loop2 μ-loop2) where
+  abbrev filing-at : tie.Else4 Inv-loop μ-loop Inv-loop2 μ-loop2
+  filing-at = c .before .before .before .before .before .before .before .before
+
+  filed : Stood filing-at
+  filed = standing filing-at (λ q. omega (arith, q, c .before .if14 .left))
+
+module _ (c : tie.Else15 Inv-loop μ-loop Inv-loop2 μ-loop2) where
+  abbrev partition-at : tie.Else4 Inv-loop μ-loop Inv-loop2 μ-loop2
+  partition-at = c .before .before .before .before .before .before .before .before
+
+  partition : Stood partition-at
+  partition = standing partition-at (λ q. omega (arith, q, c .if15 .left))
 
 -- ---- the close
 
@@ -511,24 +501,6 @@ loop-holds : tie.Need-loop-holds Inv-loop μ-loop Inv-loop2 μ-loop2
 unfolding listSum
 loop-holds c = (omega arith, omega arith, λ h. (omega arith, omega arith))
 
-mul-weight : tie.Need-mul-weight Inv-loop μ-loop Inv-loop2 μ-loop2
-mul-weight c = omega (arith, slotted c)
-
-element-copy-out-weight : tie.Need-element-copy-out-weight Inv-loop μ-loop Inv-loop2 μ-loop2
-element-copy-out-weight c = slotted c
-
-add-sum : tie.Need-add-sum Inv-loop μ-loop Inv-loop2 μ-loop2
-add-sum c = omega (arith, c .weight .ensures, counts (updateAt (G (c .before .before .before)) (c .before .before .loop .place) .kind) .1, slotted (c .before), c .before .before .loop .inv .1)
-
-add-place : tie.Need-add-place Inv-loop μ-loop Inv-loop2 μ-loop2
-add-place c = omega (arith, slotted (c .before))
-
-loop-less : tie.Need-loop-less Inv-loop μ-loop Inv-loop2 μ-loop2
-loop-less c = omega (arith, slotted (c .before))
-
-loop-again : tie.Need-loop-again Inv-loop μ-loop Inv-loop2 μ-loop2
-loop-again c = (omega (arith, slotted (c .before)), omega (arith, c .weight .ensures, counts (updateAt (G (c .before .before .before)) (c .before .before .loop .place) .kind) .1, c .before .before .loop .inv .1), more-summed (c .before) (c .weight .ensures ∙ sym (weight-read (updateAt (G (c .before .before .before)) (c .before .before .loop .place)))))
-
 loop2-holds : tie.Need-loop2-holds Inv-loop μ-loop Inv-loop2 μ-loop2
 loop2-holds c =
     let a = c .before .before .before .before in
@@ -552,9 +524,6 @@ loop2-again : tie.Need-loop2-again Inv-loop μ-loop Inv-loop2 μ-loop2
 loop2-again c =
     let t = c .before in
     refuses (waiting t .0) (waiting t .1) (short (t .before)) (c .if2 .taken)
-
-after-requires : tie.Need-after-requires Inv-loop μ-loop Inv-loop2 μ-loop2
-after-requires c κs = omega (arith, waiting (c .before) .0, short (c .before .before))
 
 loop2-less-2 : tie.Need-loop2-less-2 Inv-loop μ-loop Inv-loop2 μ-loop2
 loop2-less-2 c =
@@ -598,27 +567,12 @@ loop2-again-3 c =
     let t = f .before .before in
     goes-on (waiting t .0) (waiting t .1) (short (t .before)) (f .before .if2 .left) (f .after .ensures) (waiting t .1 .logs (f .before .if2 .left) (not-false (stored-at t .loop2 .decision .logs) (c .before .before .if3 .left)))
 
-mul-update : tie.Need-mul-update Inv-loop μ-loop Inv-loop2 μ-loop2
-mul-update c = omega (arith, below c, short (c .before))
-
-element-copy-out-update : tie.Need-element-copy-out-update Inv-loop μ-loop Inv-loop2 μ-loop2
-element-copy-out-update c = omega (arith, below c, short (c .before))
-
-loop2-less-4 : tie.Need-loop2-less-4 Inv-loop μ-loop Inv-loop2 μ-loop2
-loop2-less-4 c = turn-less (c .before .before .before .before)
-
 loop2-again-4 : tie.Need-loop2-again-4 Inv-loop μ-loop Inv-loop2 μ-loop2
 loop2-again-4 c =
     let f = c .before .before in
     let e = f .before .before in
     let n : updateFormed (readUpdate (U (decided-at e))) ≡ false = sym (f .is-formed2 .ensures) ∙ not-true (f .is-formed2 .result) (c .before .if4 .taken) in
     waits-now e (not-formed-decided (unformed (stands e) n) (readUpdate (U (decided-at e))) (at e) (one e) n false (ap (λ (d : Decision). d .number) (c .decided2 .ensures)))
-
-decide-requires : tie.Need-decide-requires Inv-loop μ-loop Inv-loop2 μ-loop2
-decide-requires c κs = let e = c .before in (location-fits (single c .stands), (tidy e, (by-kind e, (bounds (u e) (formed e) .0, c .if5 .taken))))
-
-loop2-less-5 : tie.Need-loop2-less-5 Inv-loop μ-loop Inv-loop2 μ-loop2
-loop2-less-5 c = turn-less (deciding (c .before .before))
 
 loop2-again-5 : tie.Need-loop2-again-5 Inv-loop μ-loop Inv-loop2 μ-loop2
 loop2-again-5 c =
@@ -627,120 +581,57 @@ loop2-again-5 c =
     let s = single t in
     waits-now (deciding e) (fields-decided s (readUpdate (u e)) (at (deciding e)) (one (deciding e)) (formed e) (c .decide .ensures (terms e) (s .state) (s .stands .tables .builder)) (is-single (u e) (formed e) (t .if5 .taken)))
 
-decide-requires-2 : tie.Need-decide-requires-2 Inv-loop μ-loop Inv-loop2 μ-loop2
-decide-requires-2 c κs = let e = filed2 c in (laid-statistics (partition c .stands) PartitionStatistics, (tidy e, by-kind e))
-
-after-requires-2 : tie.Need-after-requires-2 Inv-loop μ-loop Inv-loop2 μ-loop2
-after-requires-2 c κs = let E = partition (c .before) .stands in (laid-statistics E PartitionStatistics, (statistics-ascend E PartitionStatistics, c .decide2 .ensures .new))
-
-loop2-less-6 : tie.Need-loop2-less-6 Inv-loop μ-loop Inv-loop2 μ-loop2
-loop2-less-6 c = turn-less (deciding (filed2 (c .before .before)))
-
 loop2-again-6 : tie.Need-loop2-again-6 Inv-loop μ-loop Inv-loop2 μ-loop2
 loop2-again-6 c =
-    let t = c .before .before in
-    let e = filed2 t in
-    let s = partition t in
-    let T = s .stands .tables in
-    let D = c .before .decide2 .ensures in
-    let w : Within PartitionStatistics (u e) = (t .if6 .taken, bounds (u e) (formed e) .1) in
-    own e s (ofStatistics PartitionStatistics) (is-partition-statistics (u e) (formed e) (t .if6 .taken)) (D .answers PartitionStatistics (terms e) (s .state) w (T .builder) (T .ownTables .partitionStatistics))
-    (λ z. c .after2 .ensures ∙ D .table PartitionStatistics (terms e) (s .state) w (T .ownTables .partitionStatistics) z)
-
-decide-requires-3 : tie.Need-decide-requires-3 Inv-loop μ-loop Inv-loop2 μ-loop2
-decide-requires-3 c κs = let e = filed c in (laid-statistics (files c .stands) Statistics, (tidy e, by-kind e))
-
-after-requires-3 : tie.Need-after-requires-3 Inv-loop μ-loop Inv-loop2 μ-loop2
-after-requires-3 c κs = let E = files (c .before) .stands in (laid-statistics E Statistics, (statistics-ascend E Statistics, c .decide3 .ensures .new))
-
-loop2-less-7 : tie.Need-loop2-less-7 Inv-loop μ-loop Inv-loop2 μ-loop2
-loop2-less-7 c = turn-less (deciding (filed (c .before .before)))
+    let a = c .before .before in
+    let t = adds-at a in
+    let e = adding t in
+    let n : a .add-snapshot .result .number ≡ 0 → ⊥ = eqb-false _ _ (sym (add-says a .grows) ∙ not-true (a .add-snapshot .result .grows) (c .if7 .taken)) in
+    waits-now (deciding e) (add-refused (adding-standing t) (at (deciding e)) (one (deciding e)) (formed e) (either-kind t) (a .before .before .commits-on-tag .ensures) (add-says a) (eqb (adding-kind t) 5) n)
 
 loop2-again-7 : tie.Need-loop2-again-7 Inv-loop μ-loop Inv-loop2 μ-loop2
 loop2-again-7 c =
-    let t = c .before .before in
-    let e = filed t in
-    let s = files t in
-    let T = s .stands .tables in
-    let D = c .before .decide3 .ensures in
-    let w : Within Statistics (u e) = (t .if7 .taken, omega (arith, t .before .if6 .left)) in
-    own e s (ofStatistics Statistics) (is-statistics (u e) (formed e) (t .if7 .taken) (t .before .if6 .left)) (D .answers Statistics (terms e) (s .state) w (T .builder) (T .ownTables .statistics))
-    (λ z. c .after3 .ensures ∙ D .table Statistics (terms e) (s .state) w (T .ownTables .statistics) z)
+    let w = to-else7 (c .before) in
+    let x = u (adding (add-kind w)) .snapshot in
+    let E = adding-standing (add-kind w) .stands in
+    let k = key-back (c .before .before .before) in
+    added-now w (stored-last E x (add-back w) (add-fine w) (above c) _ refl refl) (id-last E x (add-back w) (add-fine w) (above c) k) k
 
-decide-requires-4 : tie.Need-decide-requires-4 Inv-loop μ-loop Inv-loop2 μ-loop2
-decide-requires-4 c κs = let e = ordering c in let E = ordered c .stands in (laid-schemas E, (schema-held E, (laid-orders E, (orders-formed E, (tidy e, (by-kind e, (c .if8 .taken, omega (arith, c .before .if7 .left))))))))
-
-after-requires-4 : tie.Need-after-requires-4 Inv-loop μ-loop Inv-loop2 μ-loop2
-after-requires-4 c κs = (laid-orders (ordered (c .before) .stands), c .decide4 .ensures .new)
-
-loop2-less-8 : tie.Need-loop2-less-8 Inv-loop μ-loop Inv-loop2 μ-loop2
-loop2-less-8 c = turn-less (deciding (ordering (c .before .before)))
+put-requires : tie.Need-put-requires Inv-loop μ-loop Inv-loop2 μ-loop2
+put-requires c κs =
+    let e = to-else7 (c .before) in
+    let E = adding-standing (add-kind e) .stands in
+    let x = u (adding (add-kind e)) .snapshot in
+    (laid-snapshots E, (add-back e, (add-room e, put-new E x (add-back e) (add-fine e))))
 
 loop2-again-8 : tie.Need-loop2-again-8 Inv-loop μ-loop Inv-loop2 μ-loop2
 loop2-again-8 c =
-    let t = c .before .before in
-    let e = ordering t in
-    let s = ordered t in
-    let T = s .stands .tables in
-    let D = c .before .decide4 .ensures in
-    own e s ofOrders (is-orders (u e) (formed e) (t .if8 .taken) (t .before .if7 .left)) (D .answers (terms e) (s .state) (T .builder) (T .ownTables .schemas) (T .ownTables .orders))
-    (λ z. c .after4 .ensures ∙ D .table (terms e) (s .state) (T .ownTables .orders) z)
+    let l = c .before .before .before in
+    let w = to-else7 l in
+    let x = u (adding (add-kind w)) .snapshot in
+    let E = adding-standing (add-kind w) .stands in
+    let P = c .before .put .ensures in
+    added-now w (put-tables E x (add-back w) (add-fine w) P) (put-ids E x (add-back w) (add-fine w) P (c .ids-of2 .ensures (put-laid E x (add-back w) (add-fine w) P))) (key-back (l .before .before))
 
-decide-requires-5 : tie.Need-decide-requires-5 Inv-loop μ-loop Inv-loop2 μ-loop2
-decide-requires-5 c κs = let e = shaping c in let E = shaped c .stands in (laid-schemas E, (schemas-ascend E, (tidy e, (by-kind e, (c .if9 .taken, omega (arith, c .before .if8 .left))))))
-
-after-requires-5 : tie.Need-after-requires-5 Inv-loop μ-loop Inv-loop2 μ-loop2
-after-requires-5 c κs = (laid-schemas (shaped (c .before) .stands), c .decide5 .ensures .next)
-
-loop2-less-9 : tie.Need-loop2-less-9 Inv-loop μ-loop Inv-loop2 μ-loop2
-loop2-less-9 c = turn-less (deciding (shaping (c .before .before)))
+set-ref-requires : tie.Need-set-ref-requires Inv-loop μ-loop Inv-loop2 μ-loop2
+set-ref-requires c κs =
+    let t = c .before .before .before .before .before .before .before .before in
+    let e = setting t in
+    (laid-refs (midway t .stands), (set-name t, (reference-back (u e) (formed e), (tidy e, t .if9 .taken))))
 
 loop2-again-9 : tie.Need-loop2-again-9 Inv-loop μ-loop Inv-loop2 μ-loop2
 loop2-again-9 c =
-    let t = c .before .before in
-    let e = shaping t in
-    let s = shaped t in
-    let T = s .stands .tables in
-    let D = c .before .decide5 .ensures in
-    own e s ofSchemas (is-schemas (u e) (formed e) (t .if9 .taken) (t .before .if8 .left)) (D .answers (terms e) (s .state) (T .builder) (T .ownTables .schemas))
-    (λ z. c .after5 .ensures ∙ D .table (terms e) (s .state) (T .ownTables .schemas) z)
-
-remove-ref-requires : tie.Need-remove-ref-requires Inv-loop μ-loop Inv-loop2 μ-loop2
-remove-ref-requires c κs = let e = dropping c in let q = c .if10 .taken in (laid-refs (dropped c .stands), (removed-name-laid (u e) (formed e) q, (tidy e, q)))
-
-without-requires : tie.Need-without-requires Inv-loop μ-loop Inv-loop2 μ-loop2
-without-requires c κs = let t = c .before in let e = dropping t in (laid-refs (dropped t .stands), removed-name-laid (u e) (formed e) (t .if10 .taken))
-
-loop2-less-10 : tie.Need-loop2-less-10 Inv-loop μ-loop Inv-loop2 μ-loop2
-loop2-less-10 c = turn-less (deciding (dropping (c .before .before)))
+    let m = c .before .before in
+    let t = set-kind m in
+    let n : (set-call m .set-ref .result .grows && isMain (nameAt (given (loop-at (setting t))) (loop-at (setting t) .loop2 .place))) ≡ false = ap (λ (b : Bool). set-call m .set-ref .result .grows && b) (sym (main-is m)) ∙ not-true (set-call m .set-ref .result .grows && m .is-main-name .result) (c .if10 .taken) in
+    waits-now (deciding (setting t)) (other-decided (midway t) (set-says (set-call m)) (m .before .refs-after .ensures) n)
 
 loop2-again-10 : tie.Need-loop2-again-10 Inv-loop μ-loop Inv-loop2 μ-loop2
 loop2-again-10 c =
-    let t = c .before .before in
-    let e = dropping t in
-    let s = dropped t in
-    let T = s .stands .tables in
-    let q = t .if10 .taken in
-    waits-now (deciding e) (refs-decided s (readUpdate (u e)) (at (deciding e)) (one (deciding e)) (formed e) (c .before .remove-ref .ensures (terms e) (s .state) (T .builder) (T .refs)) (is-ref-removal (u e) (formed e) q)
-    (λ z. refs-left (s .stands) (readUpdate (u e)) (readRefName (u e .refs .name)) (read-remove-ref (u e) (formed e) q) (c .without .ensures)))
-
-remove-snapshots-requires : tie.Need-remove-snapshots-requires Inv-loop μ-loop Inv-loop2 μ-loop2
-remove-snapshots-requires c κs = let e = removing c in let E = removed c .stands in let q = c .if11 .taken in (laid-snapshots E, (snapshots-ascend E, (asked-laid (u e) (formed e) q, (tidy e, q))))
-
-without-requires-2 : tie.Need-without-requires-2 Inv-loop μ-loop Inv-loop2 μ-loop2
-without-requires-2 c κs = let t = c .before in let e = removing t in (laid-snapshots (removed t .stands), asked-laid (u e) (formed e) (t .if11 .taken))
-
-array-share-prefix-ids : tie.Need-array-share-prefix-ids Inv-loop μ-loop Inv-loop2 μ-loop2
-array-share-prefix-ids c = lent-left c .0
-
-slice-aggregate-pointing : tie.Need-slice-aggregate-pointing Inv-loop μ-loop Inv-loop2 μ-loop2
-slice-aggregate-pointing c = lent-left (c .before) .1
-
-pointing-requires : tie.Need-pointing-requires Inv-loop μ-loop Inv-loop2 μ-loop2
-pointing-requires c κs = (laid-refs (removed (c .before .before .before .before) .stands), lent-left (c .before) .2)
-
-loop2-less-11 : tie.Need-loop2-less-11 Inv-loop μ-loop Inv-loop2 μ-loop2
-loop2-less-11 c = turn-less (deciding (removing (c .before .before .before .before .before .before)))
+    let w = c .before .before in
+    let m = named w in
+    let t = set-kind m in
+    waits-now (deciding (setting t)) (main-decided (midway t) (set-says (set-call m)) (m .before .refs-after .ensures) (set-grows w) (set-main w) (c .before .main-entry .ensures) (log-room w) refl refl (target-key (sought (set-call m) .before .before .before .before)))
 
 loop2-again-11 : tie.Need-loop2-again-11 Inv-loop μ-loop Inv-loop2 μ-loop2
 loop2-again-11 c =
@@ -752,203 +643,59 @@ loop2-again-11 c =
     let v = readUpdate (u e) in
     let xs = readSnapshotIds (u e .snapshots .removed) in
     let w = read-remove-snapshots (u e) (formed e) (t .if11 .taken) in
-    waits-now (deciding e) (removed-decided s v (at (deciding e)) (one (deciding e)) (formed e) xs w (l .before .remove-snapshots .ensures (s .state) (T .builder) (T .snapshots)) (l .without2 .ensures) (c .before .before .before .ids-of2 .ensures (left-laid s v (at (deciding e)) (one (deciding e)) (formed e) xs w (l .without2 .ensures))) (c .before .pointing .ensures))
-
-commits-on-tag-requires : tie.Need-commits-on-tag-requires Inv-loop μ-loop Inv-loop2 μ-loop2
-commits-on-tag-requires c κs = let e = adding c in (laid-refs (adding-standing c .stands), λ q. branch-name-laid (u e) (formed e) q)
-
-array-share-prefix-ids-2 : tie.Need-array-share-prefix-ids-2 Inv-loop μ-loop Inv-loop2 μ-loop2
-array-share-prefix-ids-2 c = held-within (adding-standing (c .before) .stands)
-
-slice-aggregate-add-snapshot : tie.Need-slice-aggregate-add-snapshot Inv-loop μ-loop Inv-loop2 μ-loop2
-slice-aggregate-add-snapshot c = held-slice (adding-standing (c .before .before) .stands)
-
-add-snapshot-requires : tie.Need-add-snapshot-requires Inv-loop μ-loop Inv-loop2 μ-loop2
-add-snapshot-requires c κs = let t = c .before .before in (tidy (adding t), (either-kind t, held-ascend (adding-standing t .stands)))
-
-loop2-less-12 : tie.Need-loop2-less-12 Inv-loop μ-loop Inv-loop2 μ-loop2
-loop2-less-12 c = added-less (adds-at (c .before .before))
+    waits-now (deciding e) (removed-decided s v (at (deciding e)) (one (deciding e)) (formed e) xs w (l .before .remove-snapshots .ensures (s .state) (T .builder) (T .snapshots)) (l .without .ensures) (c .before .before .before .ids-of3 .ensures (left-laid s v (at (deciding e)) (one (deciding e)) (formed e) xs w (l .without .ensures))) (c .before .pointing .ensures))
 
 loop2-again-12 : tie.Need-loop2-again-12 Inv-loop μ-loop Inv-loop2 μ-loop2
 loop2-again-12 c =
-    let a = c .before .before in
-    let t = adds-at a in
-    let e = adding t in
-    let n : a .add-snapshot .result .number ≡ 0 → ⊥ = eqb-false _ _ (sym (add-says a .grows) ∙ not-true (a .add-snapshot .result .grows) (c .if13 .taken)) in
-    waits-now (deciding e) (add-refused (adding-standing t) (at (deciding e)) (one (deciding e)) (formed e) (either-kind t) (a .before .before .commits-on-tag .ensures) (add-says a) (eqb (adding-kind t) 5) n)
-
-mul-added : tie.Need-mul-added Inv-loop μ-loop Inv-loop2 μ-loop2
-mul-added c = omega (arith, adds-room (c .before .before .before))
-
-array-set-from-added : tie.Need-array-set-from-added Inv-loop μ-loop Inv-loop2 μ-loop2
-array-set-from-added c = omega (arith, adds-room (c .before .before .before))
-
-add-adds : tie.Need-add-adds Inv-loop μ-loop Inv-loop2 μ-loop2
-add-adds c = omega (arith, adds-room (c .before .before .before))
-
-array-share-prefix-ids-3 : tie.Need-array-share-prefix-ids-3 Inv-loop μ-loop Inv-loop2 μ-loop2
-array-share-prefix-ids-3 c = held-within (adding-standing (add-kind (c .before .before .before)) .stands)
-
-slice-aggregate-is-last : tie.Need-slice-aggregate-is-last Inv-loop μ-loop Inv-loop2 μ-loop2
-slice-aggregate-is-last c = held-slice (adding-standing (add-kind (c .before .before .before .before)) .stands)
-
-mul-snapshot : tie.Need-mul-snapshot Inv-loop μ-loop Inv-loop2 μ-loop2
-mul-snapshot c = omega (arith, add-room (to-else13 (c .before)))
-
-element-set-from-snapshot : tie.Need-element-set-from-snapshot Inv-loop μ-loop Inv-loop2 μ-loop2
-element-set-from-snapshot c = omega (arith, add-room (to-else13 (c .before)))
-
-add-snapshots : tie.Need-add-snapshots Inv-loop μ-loop Inv-loop2 μ-loop2
-add-snapshots c = omega (arith, add-room (to-else13 (c .before)))
-
-mul-ids : tie.Need-mul-ids Inv-loop μ-loop Inv-loop2 μ-loop2
-mul-ids c = omega (arith, add-room (to-else13 (c .before)))
-
-array-set-from-ids : tie.Need-array-set-from-ids Inv-loop μ-loop Inv-loop2 μ-loop2
-array-set-from-ids c = omega (arith, add-room (to-else13 (c .before)))
-
-loop2-less-13 : tie.Need-loop2-less-13 Inv-loop μ-loop Inv-loop2 μ-loop2
-loop2-less-13 c = added-less (add-kind (to-else13 (c .before)))
+    let t = c .before .before in
+    let e = dropping t in
+    let s = dropped t in
+    let T = s .stands .tables in
+    let q = t .if12 .taken in
+    waits-now (deciding e) (refs-decided s (readUpdate (u e)) (at (deciding e)) (one (deciding e)) (formed e) (c .before .remove-ref .ensures (terms e) (s .state) (T .builder) (T .refs)) (is-ref-removal (u e) (formed e) q)
+    (λ z. refs-left (s .stands) (readUpdate (u e)) (readRefName (u e .refs .name)) (read-remove-ref (u e) (formed e) q) (c .without2 .ensures)))
 
 loop2-again-13 : tie.Need-loop2-again-13 Inv-loop μ-loop Inv-loop2 μ-loop2
 loop2-again-13 c =
-    let w = to-else13 (c .before) in
-    let x = u (adding (add-kind w)) .snapshot in
-    let E = adding-standing (add-kind w) .stands in
-    let k = key-back (c .before .before .before) in
-    added-now w (stored-last E x (add-back w) (add-fine w) (above c) _ refl refl) (id-last E x (add-back w) (add-fine w) (above c) k) k
-
-put-requires : tie.Need-put-requires Inv-loop μ-loop Inv-loop2 μ-loop2
-put-requires c κs =
-    let e = to-else13 (c .before) in
-    let E = adding-standing (add-kind e) .stands in
-    let x = u (adding (add-kind e)) .snapshot in
-    (laid-snapshots E, (add-back e, (add-room e, put-new E x (add-back e) (add-fine e))))
-
-loop2-less-14 : tie.Need-loop2-less-14 Inv-loop μ-loop Inv-loop2 μ-loop2
-loop2-less-14 c = added-less (add-kind (to-else13 (c .before .before .before)))
+    let t = c .before .before in
+    let e = shaping t in
+    let s = shaped t in
+    let T = s .stands .tables in
+    let D = c .before .decide2 .ensures in
+    own e s ofSchemas (is-schemas (u e) (formed e) (beyond (t .before)) (t .if13 .taken)) (D .answers (terms e) (s .state) (T .builder) (T .ownTables .schemas))
+    (λ z. c .after2 .ensures ∙ D .table (terms e) (s .state) (T .ownTables .schemas) z)
 
 loop2-again-14 : tie.Need-loop2-again-14 Inv-loop μ-loop Inv-loop2 μ-loop2
 loop2-again-14 c =
-    let l = c .before .before .before in
-    let w = to-else13 l in
-    let x = u (adding (add-kind w)) .snapshot in
-    let E = adding-standing (add-kind w) .stands in
-    let P = c .before .put .ensures in
-    added-now w (put-tables E x (add-back w) (add-fine w) P) (put-ids E x (add-back w) (add-fine w) P (c .ids-of3 .ensures (put-laid E x (add-back w) (add-fine w) P))) (key-back (l .before .before))
-
-array-share-prefix-ids-4 : tie.Need-array-share-prefix-ids-4 Inv-loop μ-loop Inv-loop2 μ-loop2
-array-share-prefix-ids-4 c = held-within (midway (c .before .before) .stands)
-
-slice-aggregate-position-ascending : tie.Need-slice-aggregate-position-ascending Inv-loop μ-loop Inv-loop2 μ-loop2
-slice-aggregate-position-ascending c = held-slice (midway (c .before .before .before) .stands)
-
-position-ascending-requires : tie.Need-position-ascending-requires Inv-loop μ-loop Inv-loop2 μ-loop2
-position-ascending-requires c κs = held-ascend (midway (c .before .before .before) .stands)
-
-slot-requires : tie.Need-slot-requires Inv-loop μ-loop Inv-loop2 μ-loop2
-slot-requires c κs = held-fits (midway (c .before .before .before .before) .stands)
-
-mul-target : tie.Need-mul-target Inv-loop μ-loop Inv-loop2 μ-loop2
-mul-target c = omega (arith, c .slot .ensures .0)
-
-element-copy-out-target : tie.Need-element-copy-out-target Inv-loop μ-loop Inv-loop2 μ-loop2
-element-copy-out-target c = omega (arith, c .slot .ensures .0)
-
-array-share-prefix-added : tie.Need-array-share-prefix-added Inv-loop μ-loop Inv-loop2 μ-loop2
-array-share-prefix-added c = adds-within (midway (c .before .before .before .before .before .before) .stands)
-
-slice-aggregate-position : tie.Need-slice-aggregate-position Inv-loop μ-loop Inv-loop2 μ-loop2
-slice-aggregate-position c = added-slice (midway (c .before .before .before .before .before .before .before) .stands)
-
-set-ref-requires : tie.Need-set-ref-requires Inv-loop μ-loop Inv-loop2 μ-loop2
-set-ref-requires c κs =
-    let t = c .before .before .before .before .before .before .before .before in
-    let e = setting t in
-    (laid-refs (midway t .stands), (set-name t, (reference-back (u e) (formed e), (tidy e, either-set t))))
-
-refs-after-requires : tie.Need-refs-after-requires Inv-loop μ-loop Inv-loop2 μ-loop2
-refs-after-requires c κs = let t = set-at c in (laid-refs (midway t .stands), (refs-ascend (midway t .stands), λ g. c .set-ref .ensures .new g))
-
-is-main-name-requires : tie.Need-is-main-name-requires Inv-loop μ-loop Inv-loop2 μ-loop2
-is-main-name-requires c κs = set-name (set-at (c .before))
-
-loop2-less-15 : tie.Need-loop2-less-15 Inv-loop μ-loop Inv-loop2 μ-loop2
-loop2-less-15 c = turn-less (deciding (setting (set-kind (c .before .before))))
+    let t = c .before .before in
+    let e = ordering t in
+    let s = ordered t in
+    let T = s .stands .tables in
+    let D = c .before .decide3 .ensures in
+    own e s ofOrders (is-orders (u e) (formed e) (t .before .if13 .left) (t .if14 .taken)) (D .answers (terms e) (s .state) (T .builder) (T .ownTables .schemas) (T .ownTables .orders))
+    (λ z. c .after3 .ensures ∙ D .table (terms e) (s .state) (T .ownTables .orders) z)
 
 loop2-again-15 : tie.Need-loop2-again-15 Inv-loop μ-loop Inv-loop2 μ-loop2
 loop2-again-15 c =
-    let m = c .before .before in
-    let t = set-kind m in
-    let n : (set-call m .set-ref .result .grows && isMain (nameAt (given (loop-at (setting t))) (loop-at (setting t) .loop2 .place))) ≡ false = ap (λ (b : Bool). set-call m .set-ref .result .grows && b) (sym (main-is m)) ∙ not-true (set-call m .set-ref .result .grows && m .is-main-name .result) (c .if15 .taken) in
-    waits-now (deciding (setting t)) (other-decided (midway t) (set-says (set-call m)) (m .before .refs-after .ensures) n)
-
-mul-entry : tie.Need-mul-entry Inv-loop μ-loop Inv-loop2 μ-loop2
-mul-entry c = omega (arith, log-room (c .before .before))
-
-element-set-from-entry : tie.Need-element-set-from-entry Inv-loop μ-loop Inv-loop2 μ-loop2
-element-set-from-entry c = omega (arith, log-room (c .before .before))
-
-add-log : tie.Need-add-log Inv-loop μ-loop Inv-loop2 μ-loop2
-add-log c = omega (arith, log-room (c .before .before))
-
-mul-main-targets : tie.Need-mul-main-targets Inv-loop μ-loop Inv-loop2 μ-loop2
-mul-main-targets c = omega (arith, mains-room (c .before .before))
-
-array-set-from-main-targets : tie.Need-array-set-from-main-targets Inv-loop μ-loop Inv-loop2 μ-loop2
-array-set-from-main-targets c = omega (arith, mains-room (c .before .before))
-
-add-mains : tie.Need-add-mains Inv-loop μ-loop Inv-loop2 μ-loop2
-add-mains c = omega (arith, mains-room (c .before .before))
-
-loop2-less-16 : tie.Need-loop2-less-16 Inv-loop μ-loop Inv-loop2 μ-loop2
-loop2-less-16 c = turn-less (deciding (setting (set-kind (named (c .before .before)))))
+    let t = c .before .before in
+    let e = filing-at t in
+    let s = filed t in
+    let T = s .stands .tables in
+    let D = c .before .decide4 .ensures in
+    let w : Within Statistics (u e) = (omega (arith, t .before .if14 .left), t .if15 .taken) in
+    own e s (ofStatistics Statistics) (is-statistics (u e) (formed e) (t .before .if14 .left) (t .if15 .taken)) (D .answers Statistics (terms e) (s .state) w (T .builder) (T .ownTables .statistics))
+    (λ z. c .after4 .ensures ∙ D .table Statistics (terms e) (s .state) w (T .ownTables .statistics) z)
 
 loop2-again-16 : tie.Need-loop2-again-16 Inv-loop μ-loop Inv-loop2 μ-loop2
 loop2-again-16 c =
-    let w = c .before .before in
-    let m = named w in
-    let t = set-kind m in
-    waits-now (deciding (setting t)) (main-decided (midway t) (set-says (set-call m)) (m .before .refs-after .ensures) (set-grows w) (set-main w) (c .before .main-entry .ensures) (log-room w) refl refl (target-key (sought (set-call m) .before .before .before .before)))
-
-returns : tie.Need-returns Inv-loop μ-loop Inv-loop2 μ-loop2
-returns c = c .refused .ensures ∙ c .before .before .before .loop2 .inv .refused (c .before .if16 .taken)
-
-array-share-prefix-ids-5 : tie.Need-array-share-prefix-ids-5 Inv-loop μ-loop Inv-loop2 μ-loop2
-array-share-prefix-ids-5 c = held-within (end (c .before) .stands)
-
-slice-aggregate-close-log : tie.Need-slice-aggregate-close-log Inv-loop μ-loop Inv-loop2 μ-loop2
-slice-aggregate-close-log c = held-slice (end (c .before .before) .stands)
-
-array-share-prefix-added-2 : tie.Need-array-share-prefix-added-2 Inv-loop μ-loop Inv-loop2 μ-loop2
-array-share-prefix-added-2 c = adds-within (end (c .before .before) .stands)
-
-slice-aggregate-close-log-2 : tie.Need-slice-aggregate-close-log-2 Inv-loop μ-loop Inv-loop2 μ-loop2
-slice-aggregate-close-log-2 c = added-slice (end (c .before .before .before) .stands)
-
-array-share-prefix-main-targets : tie.Need-array-share-prefix-main-targets Inv-loop μ-loop Inv-loop2 μ-loop2
-array-share-prefix-main-targets c = mains-within (end (c .before .before .before) .stands)
-
-slice-aggregate-close-log-3 : tie.Need-slice-aggregate-close-log-3 Inv-loop μ-loop Inv-loop2 μ-loop2
-slice-aggregate-close-log-3 c = main-slice (end (c .before .before .before .before) .stands)
-
-close-log-requires : tie.Need-close-log-requires Inv-loop μ-loop Inv-loop2 μ-loop2
-close-log-requires c κs = let E = end (c .before .before .before .before) .stands in (laid-log E, held-ascend E)
-
-surplus-requires : tie.Need-surplus-requires Inv-loop μ-loop Inv-loop2 μ-loop2
-surplus-requires c κs = files-fit (end (c .before .before .before .before .before .before) .stands)
-
-is-overfull-requires : tie.Need-is-overfull-requires Inv-loop μ-loop Inv-loop2 μ-loop2
-is-overfull-requires c κs = (files-fit (E c), gone-within c)
-
-close-number-requires : tie.Need-close-number-requires Inv-loop μ-loop Inv-loop2 μ-loop2
-close-number-requires c κs = let e = E (c .before) in (c .before .before .before .close-log .ensures .1, (laid-refs e, (laid-schemas e, (laid-orders e, (schema-held e, order-held e)))))
-
-returns-2 : tie.Need-returns-2 Inv-loop μ-loop Inv-loop2 μ-loop2
-returns-2 c = let n = c .before .before in let e = closing (filing n) in c .refused2 .ensures ∙ close-refused (E (filing n)) _ (numbered n) (c .before .if17 .taken) ∙ ends (end e) (passed e)
-
-part-requires : tie.Need-part-requires Inv-loop μ-loop Inv-loop2 μ-loop2
-part-requires c κs = let f = filing (c .before) in (files-laid (E f), (search needs, gone-within f))
+    let t = c .before .before in
+    let e = partition-at t in
+    let s = partition t in
+    let T = s .stands .tables in
+    let D = c .before .decide5 .ensures in
+    let w : Within PartitionStatistics (u e) = (omega (arith, t .if15 .left), bounds (u e) (formed e) .1) in
+    own e s (ofStatistics PartitionStatistics) (is-partition-statistics (u e) (formed e) (t .if15 .left)) (D .answers PartitionStatistics (terms e) (s .state) w (T .builder) (T .ownTables .partitionStatistics))
+    (λ z. c .after5 .ensures ∙ D .table PartitionStatistics (terms e) (s .state) w (T .ownTables .partitionStatistics) z)
 
 staying-requires : tie.Need-staying-requires Inv-loop μ-loop Inv-loop2 μ-loop2
 staying-requires c κs =
@@ -981,19 +728,19 @@ run-spec =
     (λ c κs. search needs)
     (λ c κs. search needs)
     loop-holds
-    mul-weight
-    element-copy-out-weight
+    (λ c. omega (arith, slotted c))
+    (λ c. slotted c)
     (λ c κs. search needs)
-    add-sum
-    add-place
-    loop-less
-    loop-again
+    (λ c. omega (arith, c .weight .ensures, counts (updateAt (G (c .before .before .before)) (c .before .before .loop .place) .kind) .1, slotted (c .before), c .before .before .loop .inv .1))
+    (λ c. omega (arith, slotted (c .before)))
+    (λ c. omega (arith, slotted (c .before)))
+    (λ c. (omega (arith, slotted (c .before)), omega (arith, c .weight .ensures, counts (updateAt (G (c .before .before .before)) (c .before .before .loop .place) .kind) .1, c .before .before .loop .inv .1), more-summed (c .before) (c .weight .ensures ∙ sym (weight-read (updateAt (G (c .before .before .before)) (c .before .before .loop .place))))))
     (λ c κs. search needs)
     (λ c κs. search needs)
     loop2-holds
     loop2-less
     loop2-again
-    after-requires
+    (λ c κs. omega (arith, waiting (c .before) .0, short (c .before .before)))
     loop2-less-2
     loop2-again-2
     mul-entries
@@ -1001,106 +748,106 @@ run-spec =
     add-count
     loop2-less-3
     loop2-again-3
-    mul-update
-    element-copy-out-update
+    (λ c. omega (arith, below c, short (c .before)))
+    (λ c. omega (arith, below c, short (c .before)))
     (λ c κs. search needs)
     (λ c κs. search needs)
-    loop2-less-4
+    (λ c. turn-less (c .before .before .before .before))
     loop2-again-4
-    decide-requires
-    loop2-less-5
+    (λ c κs. let e = c .before in (location-fits (single c .stands), (tidy e, (by-kind e, (bounds (u e) (formed e) .0, c .if5 .taken)))))
+    (λ c. turn-less (deciding (c .before .before)))
     loop2-again-5
-    decide-requires-2
-    after-requires-2
-    loop2-less-6
+    (λ c κs. let e = adding c in (laid-refs (adding-standing c .stands), λ q. branch-name-laid (u e) (formed e) q))
+    (λ c. held-within (adding-standing (c .before) .stands))
+    (λ c. held-slice (adding-standing (c .before .before) .stands))
+    (λ c κs. let t = c .before .before in (tidy (adding t), (either-kind t, held-ascend (adding-standing t .stands))))
+    (λ c. added-less (adds-at (c .before .before)))
     loop2-again-6
-    decide-requires-3
-    after-requires-3
-    loop2-less-7
+    (λ c. omega (arith, adds-room (c .before .before .before)))
+    (λ c. omega (arith, adds-room (c .before .before .before)))
+    (λ c. omega (arith, adds-room (c .before .before .before)))
+    (λ c. held-within (adding-standing (add-kind (c .before .before .before)) .stands))
+    (λ c. held-slice (adding-standing (add-kind (c .before .before .before .before)) .stands))
+    (λ c κs. search needs)
+    (λ c. omega (arith, add-room (to-else7 (c .before))))
+    (λ c. omega (arith, add-room (to-else7 (c .before))))
+    (λ c. omega (arith, add-room (to-else7 (c .before))))
+    (λ c. omega (arith, add-room (to-else7 (c .before))))
+    (λ c. omega (arith, add-room (to-else7 (c .before))))
+    (λ c. added-less (add-kind (to-else7 (c .before))))
     loop2-again-7
-    decide-requires-4
-    after-requires-4
-    loop2-less-8
-    loop2-again-8
-    decide-requires-5
-    after-requires-5
-    loop2-less-9
-    loop2-again-9
-    remove-ref-requires
-    without-requires
-    loop2-less-10
-    loop2-again-10
-    remove-snapshots-requires
-    without-requires-2
-    (λ c κs. search needs)
-    array-share-prefix-ids
-    slice-aggregate-pointing
-    pointing-requires
-    loop2-less-11
-    loop2-again-11
-    commits-on-tag-requires
-    array-share-prefix-ids-2
-    slice-aggregate-add-snapshot
-    add-snapshot-requires
-    loop2-less-12
-    loop2-again-12
-    mul-added
-    array-set-from-added
-    add-adds
-    array-share-prefix-ids-3
-    slice-aggregate-is-last
-    (λ c κs. search needs)
-    mul-snapshot
-    element-set-from-snapshot
-    add-snapshots
-    mul-ids
-    array-set-from-ids
-    loop2-less-13
-    loop2-again-13
     put-requires
     (λ c κs. search needs)
-    loop2-less-14
-    loop2-again-14
+    (λ c. added-less (add-kind (to-else7 (c .before .before .before))))
+    loop2-again-8
     (λ c κs. search needs)
-    array-share-prefix-ids-4
-    slice-aggregate-position-ascending
-    position-ascending-requires
-    slot-requires
-    mul-target
-    element-copy-out-target
-    array-share-prefix-added
-    slice-aggregate-position
+    (λ c. held-within (midway (c .before .before) .stands))
+    (λ c. held-slice (midway (c .before .before .before) .stands))
+    (λ c κs. held-ascend (midway (c .before .before .before) .stands))
+    (λ c κs. held-fits (midway (c .before .before .before .before) .stands))
+    (λ c. omega (arith, c .slot .ensures .0))
+    (λ c. omega (arith, c .slot .ensures .0))
+    (λ c. adds-within (midway (c .before .before .before .before .before .before) .stands))
+    (λ c. added-slice (midway (c .before .before .before .before .before .before .before) .stands))
     (λ c κs. search needs)
     set-ref-requires
-    refs-after-requires
-    is-main-name-requires
-    loop2-less-15
-    loop2-again-15
+    (λ c κs. let t = set-at c in (laid-refs (midway t .stands), (refs-ascend (midway t .stands), λ g. c .set-ref .ensures .new g)))
+    (λ c κs. set-name (set-at (c .before)))
+    (λ c. turn-less (deciding (setting (set-kind (c .before .before)))))
+    loop2-again-9
     (λ c κs. search needs)
-    mul-entry
-    element-set-from-entry
-    add-log
-    mul-main-targets
-    array-set-from-main-targets
-    add-mains
-    loop2-less-16
+    (λ c. omega (arith, log-room (c .before .before)))
+    (λ c. omega (arith, log-room (c .before .before)))
+    (λ c. omega (arith, log-room (c .before .before)))
+    (λ c. omega (arith, mains-room (c .before .before)))
+    (λ c. omega (arith, mains-room (c .before .before)))
+    (λ c. omega (arith, mains-room (c .before .before)))
+    (λ c. turn-less (deciding (setting (set-kind (named (c .before .before))))))
+    loop2-again-10
+    (λ c κs. let e = removing c in let E = removed c .stands in let q = c .if11 .taken in (laid-snapshots E, (snapshots-ascend E, (asked-laid (u e) (formed e) q, (tidy e, q)))))
+    (λ c κs. let t = c .before in let e = removing t in (laid-snapshots (removed t .stands), asked-laid (u e) (formed e) (t .if11 .taken)))
+    (λ c κs. search needs)
+    (λ c. lent-left c .0)
+    (λ c. lent-left (c .before) .1)
+    (λ c κs. (laid-refs (removed (c .before .before .before .before) .stands), lent-left (c .before) .2))
+    (λ c. turn-less (deciding (removing (c .before .before .before .before .before .before))))
+    loop2-again-11
+    (λ c κs. let e = dropping c in let q = c .if12 .taken in (laid-refs (dropped c .stands), (removed-name-laid (u e) (formed e) q, (tidy e, q))))
+    (λ c κs. let t = c .before in let e = dropping t in (laid-refs (dropped t .stands), removed-name-laid (u e) (formed e) (t .if12 .taken)))
+    (λ c. turn-less (deciding (dropping (c .before .before))))
+    loop2-again-12
+    (λ c κs. let e = shaping c in let E = shaped c .stands in (laid-schemas E, (schemas-ascend E, (tidy e, (by-kind e, (beyond (c .before), c .if13 .taken))))))
+    (λ c κs. (laid-schemas (shaped (c .before) .stands), c .decide2 .ensures .next))
+    (λ c. turn-less (deciding (shaping (c .before .before))))
+    loop2-again-13
+    (λ c κs. let e = ordering c in let E = ordered c .stands in (laid-schemas E, (schema-held E, (laid-orders E, (orders-formed E, (tidy e, (by-kind e, (omega (arith, c .before .if13 .left), c .if14 .taken))))))))
+    (λ c κs. (laid-orders (ordered (c .before) .stands), c .decide3 .ensures .new))
+    (λ c. turn-less (deciding (ordering (c .before .before))))
+    loop2-again-14
+    (λ c κs. let e = filing-at c in (laid-statistics (filed c .stands) Statistics, (tidy e, by-kind e)))
+    (λ c κs. let E = filed (c .before) .stands in (laid-statistics E Statistics, (statistics-ascend E Statistics, c .decide4 .ensures .new)))
+    (λ c. turn-less (deciding (filing-at (c .before .before))))
+    loop2-again-15
+    (λ c κs. let e = partition-at c in (laid-statistics (partition c .stands) PartitionStatistics, (tidy e, by-kind e)))
+    (λ c κs. let E = partition (c .before) .stands in (laid-statistics E PartitionStatistics, (statistics-ascend E PartitionStatistics, c .decide5 .ensures .new)))
+    (λ c. turn-less (deciding (partition-at (c .before .before))))
     loop2-again-16
     (λ c κs. search needs)
-    returns
-    array-share-prefix-ids-5
-    slice-aggregate-close-log
-    array-share-prefix-added-2
-    slice-aggregate-close-log-2
-    array-share-prefix-main-targets
-    slice-aggregate-close-log-3
-    close-log-requires
+    (λ c. c .refused .ensures ∙ c .before .before .before .loop2 .inv .refused (c .before .if16 .taken))
+    (λ c. held-within (end (c .before) .stands))
+    (λ c. held-slice (end (c .before .before) .stands))
+    (λ c. adds-within (end (c .before .before) .stands))
+    (λ c. added-slice (end (c .before .before .before) .stands))
+    (λ c. mains-within (end (c .before .before .before) .stands))
+    (λ c. main-slice (end (c .before .before .before .before) .stands))
+    (λ c κs. let E = end (c .before .before .before .before) .stands in (laid-log E, held-ascend E))
     (λ c κs. search needs)
-    surplus-requires
-    is-overfull-requires
-    close-number-requires
+    (λ c κs. files-fit (end (c .before .before .before .before .before .before) .stands))
+    (λ c κs. (files-fit (E c), gone-within c))
+    (λ c κs. let e = E (c .before) in (c .before .before .before .close-log .ensures .1, (laid-refs e, (laid-schemas e, (laid-orders e, (schema-held e, order-held e))))))
     (λ c κs. search needs)
-    returns-2
-    part-requires
+    (λ c. let n = c .before .before in let e = closing (filing n) in c .refused2 .ensures ∙ close-refused (E (filing n)) _ (numbered n) (c .before .if17 .taken) ∙ ends (end e) (passed e))
+    (λ c κs. let f = filing (c .before) in (files-laid (E f), (search needs, gone-within f)))
     staying-requires
     (λ c κs. search needs)
     returns-3)
