@@ -116,7 +116,7 @@ own-statistics k p e =
 -- ---- the update
 
 abbrev pub byKind : ℕ → TableUpdate → TableUpdate
-byKind k u = record { kind = k; fields = fieldsBy k (u .fields); snapshots = snapshotsBy k (u .snapshots); refs = refsBy k (u .refs); schemas = schemasBy k (u .schemas); «sort_orders» = ordersBy k (u .«sort_orders»); statistics = statisticsBy k (u .statistics .file) }
+byKind k u = record { kind = k; fields = fieldsBy k (u .fields); snapshots = snapshotsBy k (u .snapshots); refs = refsBy k (u .refs); schemas = schemasBy k (u .schemas); «sort_orders» = ordersBy k (u .«sort_orders»); statistics = statisticsBy k (u .statistics) }
 
 own-kind : (u : TableUpdate) → isTidyUpdate u ≡ true → u ≡ byKind (u .kind) u
 own-kind u e =
@@ -128,7 +128,7 @@ own-kind u e =
       refs = own-refs (u .kind) (u .refs) (h .refs) i;
       schemas = own-schemas (u .kind) (u .schemas) (h .schemas) i;
       «sort_orders» = own-orders (u .kind) (u .«sort_orders») (h .orders) i;
-      statistics = own-statistics (u .kind) (u .statistics .file) (h .statistics) i;
+      statistics = own-statistics (u .kind) (u .statistics) (h .statistics) i;
     }
 
 -- a tidy update of a kind
