@@ -1,10 +1,13 @@
 // What a run is given.
+use crate::case::read_case;
 use crate::limit_text::LimitText;
 use crate::limit_text::read_limit_text;
+use crate::metadata::read_metadata;
 use crate::metadata::read_metadata_of;
 use crate::more::Given;
 use crate::more::More;
 use crate::more::read_more;
+use crate::statistics::read_statistics;
 use crate::text::read_file_name;
 use crate::update::read_updates;
 use numbers::field::read_flag;
@@ -12,6 +15,9 @@ use numbers::field::read_i64;
 use numbers::field::read_u8;
 use numbers::input::Input;
 use numbers::input::Place;
+use numbers::input::is_first;
+use numbers::input::spoil;
+use numbers::wanted;
 use records::counters::Age;
 use records::counters::Time;
 use records::metadata::TableMetadata;
@@ -33,8 +39,26 @@ pub const RUN: u64 = 1;
 
 pub const RUN_GIVEN_MORE: u64 = 9;
 
-pub fn is_run(kind: u64) -> bool {
-    kind == RUN || kind == RUN_GIVEN_MORE
+// A run of kind 1 may be written without its kind: it starts with the version of its metadata then, if that is one of these. A 1 is always
+// the kind.
+const VERSION_2: u64 = 2;
+
+const VERSION_3: u64 = 3;
+
+fn is_first_of_run(first: u64) -> bool {
+    first == RUN || first == VERSION_2 || first == VERSION_3 || first == RUN_GIVEN_MORE
+}
+
+// The first number of the next run; 0 at the end of the input, between runs. An input has a run.
+pub fn read_first_of_run(input: &mut Input, place: &mut Place) -> u64 {
+    let first = read_case(input, place, wanted::RUN, RUN_GIVEN_MORE);
+    if is_first_of_run(first) {
+        return first;
+    }
+    if first != 0 || is_first(place) {
+        spoil(place, wanted::RUN, RUN_GIVEN_MORE);
+    }
+    0
 }
 
 // The clock, a flag, and the file's name if it is set. The tolerance comes after the updates, and is 0 here.
@@ -53,20 +77,29 @@ fn read_terms(input: &mut Input, place: &mut Place) -> RunTerms {
     }
 }
 
-fn read_more_of(kind: u64, input: &mut Input, place: &mut Place) -> More {
-    if kind == RUN_GIVEN_MORE {
+fn read_more_of(first: u64, input: &mut Input, place: &mut Place) -> More {
+    if first == RUN_GIVEN_MORE {
         return read_more(input, place);
     }
     More::none()
 }
 
-// A run of this kind whose metadata has this format version: the first of its numbers, which is read already.
-pub fn read_run_of(kind: u64, version: u8, input: &mut Input, place: &mut Place) -> Run {
+fn read_version(first: u64, input: &mut Input, place: &mut Place) -> u8 {
+    match first {
+        VERSION_2 => 2,
+        VERSION_3 => 3,
+        _ => read_u8(input, place),
+    }
+}
+
+// The run that starts with this number, which is read already.
+pub fn read_run(first: u64, input: &mut Input, place: &mut Place) -> Run {
+    let version = read_version(first, input, place);
     let mut metadata = read_metadata_of(version, input, place);
     let mut terms = read_terms(input, place);
     let limit = read_limit_text(input, place);
     let updates = read_updates(input, place);
-    let more = read_more_of(kind, input, place);
+    let more = read_more_of(first, input, place);
     let tolerance_ms = more.tolerance_ms;
     let statistics = more.statistics;
     let partition_statistics = more.partition_statistics;
@@ -83,7 +116,14 @@ pub fn read_run_of(kind: u64, version: u8, input: &mut Input, place: &mut Place)
     }
 }
 
-pub fn read_run(kind: u64, input: &mut Input, place: &mut Place) -> Run {
-    let version = read_u8(input, place);
-    read_run_of(kind, version, input, place)
+// The metadata that a run is to lead to, as an answer has it: with each table that the run was given.
+pub fn read_ending(given: Given, input: &mut Input, place: &mut Place) -> TableMetadata {
+    let mut ending = read_metadata(input, place);
+    if given.statistics {
+        ending.statistics = read_statistics(input, place);
+    }
+    if given.partition_statistics {
+        ending.partition_statistics = read_statistics(input, place);
+    }
+    ending
 }

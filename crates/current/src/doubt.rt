@@ -61,6 +61,13 @@ pub fn doubt_of(text: &[u8]) -> Doubt {
     Doubt { kind, date }
 }
 
+// As `2025-03-12`.
+fn say_day(output: &mut Output, end: &mut usize, date: Date) {
+    let day = text_of(date);
+    let bytes = day.bytes;
+    say_escaped(output, end, &bytes, 10);
+}
+
 pub fn say_doubt(output: &mut Output, end: &mut usize, text: &[u8], doubt: Doubt) {
     let hints = b"\n\
         a year is no moment, write a day of it, as 2025-03-12\n\
@@ -74,9 +81,7 @@ pub fn say_doubt(output: &mut Output, end: &mut usize, text: &[u8], doubt: Doubt
     say(output, end, b" was read as milliseconds since 1970; ");
     say_line(output, end, hints, doubt.kind);
     if doubt.kind == DAY {
-        let day = text_of(doubt.date);
-        let bytes = day.bytes;
-        say_escaped(output, end, &bytes, 10);
+        say_day(output, end, doubt.date);
     }
     if doubt.kind == SECONDS {
         say_escaped(output, end, text, text.len());

@@ -1,5 +1,5 @@
-// Standard input, a buffer at a time: a lent array that reads fill, and the reader's place in it.
-use libc::STDIN_FILENO;
+// An input, a buffer at a time: a lent array that reads of a file fill, or that holds a whole text, and the reader's place in it.
+use crate::number::absolute;
 use std::num::wrapping_add_usize;
 
 pub const INPUT: usize = 16384;
@@ -8,7 +8,7 @@ pub type Input = [u8; INPUT];
 
 // The reader's place: where it reads, in which state, and at which number of which piece (a run, a question, a case) it is. At the first fault
 // all but the buffer's counts stays as it is, so that the fault can be told. Nothing bounds the counts, so they are added modulo 2^64.
-pub type Place = [usize; 10];
+pub type Place = [usize; 11];
 
 // The next byte of the buffer.
 const AT: usize = 0;
@@ -38,6 +38,12 @@ const WANTED: usize = 8;
 
 const BOUND: usize = 9;
 
+// The descriptor of the file that is read.
+const SOURCE: usize = 10;
+
+// No file has a descriptor from here on.
+const DESCRIPTORS: usize = 1 << 31;
+
 const READING: usize = 0;
 
 const ENDED: usize = 1;
@@ -56,8 +62,36 @@ pub fn empty_input() -> Input {
     [0; INPUT]
 }
 
-pub fn start() -> Place {
-    [0; 10]
+// The place at the beginning of a file that is open for reading, whose descriptor is not below 0.
+pub fn start(descriptor: i32) -> Place {
+    let mut place = [0; 11];
+    place[SOURCE] = absolute(descriptor as i64) as usize;
+    place
+}
+
+// A text in the place of a file: this byte after those that are held already. What has no room is left out.
+fn hold(input: &mut Input, place: &mut Place, byte: u8) {
+    let at = place[FILLED];
+    place[STATE] = ENDED;
+    if at < INPUT {
+        input[at] = byte;
+        place[FILLED] = at + 1;
+    }
+}
+
+// One of many lines, counted from 0, without its end.
+pub fn hold_line(input: &mut Input, place: &mut Place, lines: &[u8], line: usize) {
+    let mut passed: usize = 0;
+    let mut i = 0;
+    while i < lines.len() {
+        let byte = lines[i];
+        i += 1;
+        if byte == b'\n' {
+            passed += 1;
+        } else if passed == line {
+            hold(input, place, byte);
+        }
+    }
 }
 
 pub fn is_good(place: &Place) -> bool {
@@ -99,6 +133,11 @@ pub fn note(place: &mut Place, byte: u8, is_odd: bool) {
     if is_odd && place[ODD] == 0 {
         place[ODD] = byte as usize + 1;
     }
+}
+
+// Which piece is read, counted from 1.
+pub fn piece_of(place: &Place) -> usize {
+    place[PIECE]
 }
 
 // Whether nothing stands before the number that was read last.
@@ -159,9 +198,18 @@ pub fn fault_of(place: &Place) -> Fault {
     }
 }
 
+fn descriptor_of(place: &Place) -> i32 {
+    let source = place[SOURCE];
+    if source < DESCRIPTORS {
+        source as i32
+    } else {
+        -1
+    }
+}
+
 fn refill(input: &mut Input, place: &mut Place) {
     let bytes: &mut [u8] = input;
-    let got = libc::read(STDIN_FILENO, bytes);
+    let got = libc::read(descriptor_of(place), bytes);
     place[BEFORE] = wrapping_add_usize(place[BEFORE], place[FILLED]);
     place[AT] = 0;
     place[FILLED] = io::count(got, bytes);

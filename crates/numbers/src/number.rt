@@ -31,7 +31,7 @@ fn put_number(output: &mut Output, end: &mut usize, is_negative: bool, magnitude
     *end = append(output, spelled, b" ");
 }
 
-fn absolute(number: i64) -> u64
+pub fn absolute(number: i64) -> u64
     ensures { λ r. ⌜ r ≡ natAbs number ⌝ }
 {
     if number < 0 {

@@ -16,17 +16,22 @@ pub fn say(output: &mut Output, end: &mut usize, text: &[u8]) {
     }
 }
 
-// One of many lines, counted from 0, without its end. Where words depend on a number, this asks for less proof than a `match` that prints.
-pub fn say_line(output: &mut Output, end: &mut usize, lines: &[u8], line: usize) {
-    let mut at: usize = 0;
+// One of the parts of a text between marks, counted from 0. Where words depend on a number, this asks for less proof than a `match` that prints.
+pub fn say_between(output: &mut Output, end: &mut usize, text: &[u8], mark: u8, part: usize) {
+    let mut passed: usize = 0;
     let mut i = 0;
-    while i < lines.len() {
-        let byte = lines[i];
+    while i < text.len() {
+        let byte = text[i];
         i += 1;
-        if byte == b'\n' {
-            at += 1;
-        } else if at == line {
+        if byte == mark {
+            passed += 1;
+        } else if passed == part {
             say_byte(output, end, byte);
         }
     }
+}
+
+// One of many lines, without its end.
+pub fn say_line(output: &mut Output, end: &mut usize, lines: &[u8], line: usize) {
+    say_between(output, end, lines, b'\n', line);
 }
