@@ -292,7 +292,7 @@ module _ (c : tie.Else7 Inv-loop μ-loop Inv-loop2 μ-loop2) where
   adds-room = omega (arith, adds-most (adding-standing add-kind .stands), fits (adding-standing add-kind) (readUpdate (U (loop-at (adding add-kind)))) (at (deciding (adding add-kind))), one (deciding (adding add-kind)))
 
 -- the snapshot's id, from its bits
-key-back : (c : tie.After-struct-told Inv-loop μ-loop Inv-loop2 μ-loop2) → toZ w64 (ofZ w64 (U (loop-at (adding (add-kind (c .before .before .before)))) .snapshot .«snapshot_id» .0)) ≡ U (loop-at (adding (add-kind (c .before .before .before)))) .snapshot .«snapshot_id» .0
+key-back : (c : tie.After-struct-told Inv-loop μ-loop Inv-loop2 μ-loop2) → toZ w64 (ofZ w64 (U (loop-at (adding (add-kind (c .before .before .before)))) .snapshots .added .«snapshot_id» .0)) ≡ U (loop-at (adding (add-kind (c .before .before .before)))) .snapshots .added .«snapshot_id» .0
 key-back c = toZ-ofZ (sfits-of (c .struct-told .given .0 .1))
 
 abbrev to-else7 : tie.After-is-last Inv-loop μ-loop Inv-loop2 μ-loop2 → tie.Else7 Inv-loop μ-loop Inv-loop2 μ-loop2
@@ -310,8 +310,8 @@ added-less : (t : tie.Then6 Inv-loop μ-loop Inv-loop2 μ-loop2) → let l = dec
 added-less t = let e = deciding (adding t) in let l = decided-at e .loop2 in halved-less (l .number) (given (decided-at e) .updates .count) (l .place) (l .half) _ (zero (e .before)) (e .if1 .left) (first-half t)
 
 -- one snapshot more, and its id
-added-now : (w : tie.Else7 Inv-loop μ-loop Inv-loop2 μ-loop2) {s : Snapshots} {is : List ℤ} {id : ℤ} → let t = add-kind w in let a = loop-at (adding t) in let x = readSnapshot (u (adding t) .snapshot) in
-    s ≡ laidSnapshots (put snapshotBelow x (adding-standing t .state .metadata .snapshots)) → is ≡ pad 64 (pos 0) (idsOf (put snapshotBelow x (adding-standing t .state .metadata .snapshots))) → id ≡ u (adding t) .snapshot .«snapshot_id» .0
+added-now : (w : tie.Else7 Inv-loop μ-loop Inv-loop2 μ-loop2) {s : Snapshots} {is : List ℤ} {id : ℤ} → let t = add-kind w in let a = loop-at (adding t) in let x = readSnapshot (u (adding t) .snapshots .added) in
+    s ≡ laidSnapshots (put snapshotBelow x (adding-standing t .state .metadata .snapshots)) → is ≡ pad 64 (pos 0) (idsOf (put snapshotBelow x (adding-standing t .state .metadata .snapshots))) → id ≡ u (adding t) .snapshots .added .«snapshot_id» .0
     → Turn (given a) (a .loop2 .number) (a .loop2 .place) true (eqb (adding-kind t) setBranchSnapshotKind) (grown s is id (here-pieces a)) (added-call w .add-snapshot .result)
 added-now w p q r =
     let t = add-kind w in
@@ -592,7 +592,7 @@ loop2-again-6 c =
 loop2-again-7 : tie.Need-loop2-again-7 Inv-loop μ-loop Inv-loop2 μ-loop2
 loop2-again-7 c =
     let w = to-else7 (c .before) in
-    let x = u (adding (add-kind w)) .snapshot in
+    let x = u (adding (add-kind w)) .snapshots .added in
     let E = adding-standing (add-kind w) .stands in
     let k = key-back (c .before .before .before) in
     added-now w (stored-last E x (add-back w) (add-fine w) (above c) _ refl refl) (id-last E x (add-back w) (add-fine w) (above c) k) k
@@ -601,14 +601,14 @@ put-requires : tie.Need-put-requires Inv-loop μ-loop Inv-loop2 μ-loop2
 put-requires c κs =
     let e = to-else7 (c .before) in
     let E = adding-standing (add-kind e) .stands in
-    let x = u (adding (add-kind e)) .snapshot in
+    let x = u (adding (add-kind e)) .snapshots .added in
     (laid-snapshots E, (add-back e, (add-room e, put-new E x (add-back e) (add-fine e))))
 
 loop2-again-8 : tie.Need-loop2-again-8 Inv-loop μ-loop Inv-loop2 μ-loop2
 loop2-again-8 c =
     let l = c .before .before .before in
     let w = to-else7 l in
-    let x = u (adding (add-kind w)) .snapshot in
+    let x = u (adding (add-kind w)) .snapshots .added in
     let E = adding-standing (add-kind w) .stands in
     let P = c .before .put .ensures in
     added-now w (put-tables E x (add-back w) (add-fine w) P) (put-ids E x (add-back w) (add-fine w) P (c .ids-of2 .ensures (put-laid E x (add-back w) (add-fine w) P))) (key-back (l .before .before))
