@@ -12,7 +12,7 @@ use Rattle.rules.specs.Register.{lastAdded}
 use Rattle.rules.specs.SchemaUpdates.{chosen, choiceChecks, choiceLogged}
 use Rattle.rules.specs.Layout.{given}
 use Rattle.rules.proofs.Checks.{by-test}
-use Rattle.rules.proofs.Relaid.{flag-given}
+use Rattle.rules.proofs.Slots.Relaid.{flag-given}
 use Rattle.builder.specs.Added.{Chosen}
 
 -- a number laid behind its flag is read back

@@ -17,7 +17,7 @@ use Rattle.rules.specs.WellFormed.{updateFormed}
 use Rattle.rules.specs.Blanks.{isZero, isZeroZ, isBlankUuid, isTidyText, isBlankText, isTidySnapshot, isBlankSnapshot, isTidySnapshotIds, isBlankSnapshotIds, isTidyRefName, isBlankRefName, isTidyReference, isBlankReference, isTidySchema, isBlankSchema, isTidySchemaIds, isBlankSchemaIds, isTidySortOrder, isBlankSortOrder, isTidyStatisticsFile, isBlankStatisticsFile}
 use Rattle.rules.specs.Kinds.{usedBy, fitsKinds, isTidyFieldsPart, isTidySnapshotsPart, isTidyRefsPart, isTidySchemasPart, isTidySortOrdersPart, isTidyStatisticsPart, isTidyUpdate, readKind, readUpdate, uuidKinds, versionKinds, locationKinds, snapshotKinds, snapshotIdsKinds, refNameKinds, referenceKinds, schemaKinds, schemaIdKinds, schemaIdsKinds, sortOrderKinds, sortOrderIdKinds, statisticsFileKinds, statisticsIdKinds}
 use Rattle.rules.proofs.Checks.{and-left, parts}
-use Rattle.rules.proofs.Relaid.{zero, zeroZ, blank-uuid, blank-text, blank-ref-name, blank-snapshot, blank-snapshot-ids, blank-reference, blank-schema, blank-schema-ids, blank-sort-order, blank-statistics-file}
+use Rattle.rules.proofs.Slots.Relaid.{zero, zeroZ, blank-uuid, blank-text, blank-ref-name, blank-snapshot, blank-snapshot-ids, blank-reference, blank-schema, blank-schema-ids, blank-sort-order, blank-statistics-file}
 use Rattle.builder.proofs.Parts.{tidy-parts}
 
 -- ---- by the kind

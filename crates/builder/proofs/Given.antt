@@ -15,7 +15,7 @@ use Rattle.rules.specs.WellFormed.{atLeastOne, fieldIds, schemaFormed, sortFiel
 use Rattle.rules.specs.Layout.{readText, readSnapshotIds, readSchema, readSchemaIds, readSortOrder, readStatisticsFile}
 use Rattle.rules.specs.Kinds.{isTidyUpdate}
 use Rattle.rules.proofs.Checks.{and-left, parts}
-use Rattle.rules.proofs.Relaid.{length-counted, back-snapshot-ids, back-schema, back-schema-ids, back-sort-order, back-statistics-file}
+use Rattle.rules.proofs.Slots.Relaid.{length-counted, back-snapshot-ids, back-schema, back-schema-ids, back-sort-order, back-statistics-file}
 use Rattle.tables.specs.Laid.{LaidSnapshotIds, LaidSchema, LaidOrder, LaidStatisticsFile, LaidSchemaIds}
 use Rattle.builder.proofs.Parts.{snapshot-ids-tidy, schema-tidy, schema-ids-tidy, order-tidy, statistics-file-tidy}
 

@@ -15,7 +15,7 @@ use Rattle.rules.specs.Register.{AddSnapshot, SetRef}
 use Rattle.rules.specs.Layout.{readRefName, readSnapshot, readReference, laidReference}
 use Rattle.rules.specs.Kinds.{addSnapshotKind, setBranchSnapshotKind, setRefKind, isTidyUpdate, ofKind, withSnapshotsPart, withRefsPart, withSnapshot, withReference, laidUpdate}
 use Rattle.rules.proofs.Checks.{by-either}
-use Rattle.rules.proofs.Relaid.{back-ref-name, back-snapshot}
+use Rattle.rules.proofs.Slots.Relaid.{back-ref-name, back-snapshot}
 use Rattle.builder.proofs.Parts.{snapshot-tidy, ref-name-tidy}
 use Rattle.builder.proofs.Entries.{of-kind}
 

@@ -5,8 +5,8 @@ use Rattle.records.specs.declared.text.Text.{Text}
 use Rattle.rules.specs.Capacities.{textRoom}
 use Rattle.rules.specs.Names.{trimmed}
 use Rattle.rules.specs.Layout.{readText, laidText}
-use Rattle.rules.proofs.Relaid.{length-counted}
-use Rattle.rules.proofs.SoundSingles.{trimmed-length}
+use Rattle.rules.proofs.Slots.Relaid.{length-counted}
+use Rattle.rules.proofs.Sound.Singles.{trimmed-length}
 
 pub trimmed-fits : (t : Text) → t .len ≤ textRoom → laidText (trimmed (readText t)) .len ≤ textRoom
 unfolding laidText

@@ -16,7 +16,7 @@ ghost use Rattle.builder.specs.Answers.{Answers};
 use crate::checks::choose;
 use crate::text::same_text;
 use crate::text::trimmed;
-use leaves::names::same_bytes;
+use primitives::names::same_bytes;
 use records::counters::RowId;
 use records::counters::SchemaId;
 use records::counters::SortOrderId;

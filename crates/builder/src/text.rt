@@ -6,8 +6,8 @@ ghost use Rattle.rules.specs.Words.{sameBytes};
 ghost use Rattle.rules.specs.Names.{trimmed as trimmedBytes};
 ghost use Rattle.rules.specs.Capacities.{textRoom};
 ghost use Rattle.rules.specs.Layout.{readText, laidText};
-use leaves::location::trim;
-use leaves::names::same_bytes;
+use primitives::location::trim;
+use primitives::names::same_bytes;
 use records::text::Text;
 
 fn text_of(bytes: &[u8]) -> Text

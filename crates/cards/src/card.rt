@@ -1,8 +1,8 @@
 // A card: the single numbers of a record, of either sign and wide, its text and its list. What a record has not is blank.
-use fitting::with_slots;
 use records::capacities::SCHEMA_FIELDS;
 use records::capacities::SORT_FIELDS;
 use records::capacities::TEXT;
+use slot_bounds::with_slots;
 
 pub const SIGNED: usize = 8;
 

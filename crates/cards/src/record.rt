@@ -4,7 +4,6 @@ use crate::card::List;
 use crate::card::Text;
 use crate::card::text_of;
 use crate::card::wide;
-use fitting::with_slots;
 use records::capacities::REMOVALS;
 use records::capacities::SCHEMA_FIELDS;
 use records::capacities::SORT_FIELDS;
@@ -20,6 +19,7 @@ use records::snapshot::SnapshotLogEntry;
 use records::sort_order::SortOrder;
 use records::statistics::StatisticsFile;
 use records::text::RefName;
+use slot_bounds::with_slots;
 
 // id, has_parent, parent, sequence, time, has_rows; first row, added rows
 pub fn snapshot(s: Snapshot) -> Card {

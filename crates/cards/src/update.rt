@@ -12,7 +12,6 @@ use crate::record::snapshot;
 use crate::record::snapshot_ids;
 use crate::record::sort_order;
 use crate::record::statistics_file;
-use fitting::with_slots;
 use records::capacities::UPDATES;
 use records::part::FieldsPart;
 use records::update::ADD_SCHEMA;
@@ -34,6 +33,7 @@ use records::update::SET_STATISTICS;
 use records::update::TableUpdate;
 use records::update::UPGRADE_FORMAT_VERSION;
 use records::update::UpdateList;
+use slot_bounds::with_slots;
 
 // uuid
 fn uuid(p: FieldsPart) -> Card {

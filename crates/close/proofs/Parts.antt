@@ -8,7 +8,7 @@ use mathlib.Core.Option.{some}
 use lib.ListN.{length, getD, take, drop, take-append-drop}
 use lib.Seq.{length-take-le, drop-append-le, take-all}
 use Rattle.rules.specs.Words.{any, keep, lastOf, afterLast}
-use Rattle.rules.proofs.ReplayLists.{keep-append}
+use Rattle.rules.proofs.Replay.Lists.{keep-append}
 use Rattle.tables.proofs.Table.{Kind, Tidy, listed, read-length, rest, next}
 use Rattle.close.proofs.Scans.{after-here, last-added}
 

@@ -1,9 +1,9 @@
 // The words of a command line: how many there are, each by its place, and which of some a word is. A line is a text whose words are parted by
 // spaces outside of quotation marks or, where it is empty, what the program was started with, behind its own name.
 // Nothing is refused: a word that is not there, or of more bytes than there are slots, is an empty one.
-ghost use Rattle.fitting.specs.Counted.{Counted};
-use fitting::store_byte;
-use fitting::with_slots;
+ghost use Rattle.slot_bounds.specs.Counted.{Counted};
+use slot_bounds::store_byte;
+use slot_bounds::with_slots;
 use std::num::wrapping_add_usize;
 
 const SPACE: u8 = b' ';

@@ -13,7 +13,6 @@ use crate::turn::TIMES;
 use crate::turn::Turn;
 use crate::words::read_name;
 use command::line_of;
-use numbers::output::Output;
 use plaintext::name::say_escaped;
 use plaintext::number::say_count;
 use plaintext::text::say;
@@ -24,6 +23,7 @@ use report::example::form_of;
 use report::leaf::say_leaf;
 use report::shown::say_label;
 use std::num::wrapping_add_usize;
+use tokens::output::Output;
 
 fn begin_example(turn: &mut Turn, example: usize) {
     turn[FIRST] = first_step(example);

@@ -13,17 +13,17 @@ use crate::turn::RUN;
 use crate::turn::STAGE;
 use crate::turn::Turn;
 use crate::words::read_name;
-use numbers::input::Place;
-use numbers::input::is_good;
-use numbers::input::start;
-use numbers::number::absolute;
-use numbers::output::Output;
-use numbers::output::flush;
-use numbers::output::flush_aside;
 use plaintext::fault::say_fault;
 use plaintext::fault::say_unopened;
 use plaintext::text::say;
 use std::num::wrapping_add_usize;
+use tokens::input::Place;
+use tokens::input::is_good;
+use tokens::input::start;
+use tokens::number::absolute;
+use tokens::output::Output;
+use tokens::output::flush;
+use tokens::output::flush_aside;
 
 // No file has a descriptor from here on.
 const DESCRIPTORS: usize = 1 << 31;

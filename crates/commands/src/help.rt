@@ -3,10 +3,10 @@ use crate::turn::COMMANDS;
 use crate::turn::HELP;
 use command::read_word;
 use command::word_count;
-use numbers::output::Output;
 use plaintext::name::say_name;
 use plaintext::text::say;
 use plaintext::text::say_between;
+use tokens::output::Output;
 
 // A part for each command, in the order of their numbers.
 pub fn say_help(output: &mut Output, end: &mut usize, command: usize) {

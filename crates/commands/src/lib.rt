@@ -8,9 +8,9 @@ use crate::turn::PIECES;
 use crate::turn::STAGE;
 use crate::turn::STEPS;
 use crate::turn::Turn;
-use numbers::input::Input;
-use numbers::input::Place;
-use numbers::output::Output;
+use tokens::input::Input;
+use tokens::input::Place;
+use tokens::output::Output;
 
 mod example;
 mod file;

@@ -32,12 +32,12 @@ use crate::words::read_tour;
 use command::which_word;
 use command::word_count;
 use libc::STDIN_FILENO;
-use numbers::input::Place;
-use numbers::input::start;
-use numbers::output::Output;
 use plaintext::text::say;
 use report::example::EXAMPLES as ALL_EXAMPLES;
 use std::num::wrapping_add_usize;
+use tokens::input::Place;
+use tokens::input::start;
+use tokens::output::Output;
 
 // How many lines the tour has, and how many with the other example files.
 const TOUR_LINES: usize = 20;

@@ -3,16 +3,16 @@ use crate::turn::COMMAND;
 use crate::turn::FIRST;
 use crate::turn::RUN;
 use crate::turn::Turn;
-use casefile::more::Given;
-use casewrite::run::put_answer;
-use casewrite::statistics::put_statistics;
-use numbers::output::Output;
-use numbers::output::put_line_end;
+use case_reader::more::Given;
+use case_writer::run::put_answer;
+use case_writer::statistics::put_statistics;
 use records::metadata::TableMetadata;
 use records::run::Answer;
 use report::example::form_of;
 use report::shown::say_shown;
 use std::num::wrapping_add_usize;
+use tokens::output::Output;
+use tokens::output::put_line_end;
 
 // Whether the run is told in words; else its answer is written in numbers.
 pub fn is_in_words(turn: &Turn) -> bool {

@@ -1,5 +1,5 @@
 // The words of the line that is gone through. The program's own line is the empty one.
-ghost use Rattle.fitting.specs.Counted.{Counted};
+ghost use Rattle.slot_bounds.specs.Counted.{Counted};
 use crate::turn::AT;
 use crate::turn::FILE;
 use crate::turn::IS_TOUR;

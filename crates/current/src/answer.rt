@@ -1,7 +1,7 @@
 // What there is to say of a moment.
-use crate::kept::Kept;
-use crate::kept::earliest;
-use crate::kept::held_as;
+use crate::log_and_snapshots::LogAndSnapshots;
+use crate::log_and_snapshots::earliest;
+use crate::log_and_snapshots::held_as;
 use moment::Moment;
 use records::counters::SnapshotId;
 use records::counters::Time;
@@ -64,7 +64,7 @@ pub fn of_entry(snapshots: Snapshots, entry: SnapshotLogEntry) -> Answer {
     }
 }
 
-pub fn of_moment(kept: Kept, found: Moment) -> Answer {
+pub fn of_moment(kept: LogAndSnapshots, found: Moment) -> Answer {
     if found.found {
         return of_entry(kept.snapshots, found.entry);
     }

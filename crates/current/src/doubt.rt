@@ -2,11 +2,11 @@
 use calendar::date::Date;
 use calendar::date::day_of;
 use calendar::text::text_of;
-use numbers::output::Output;
-use numbers::token::token_of;
 use plaintext::name::say_escaped;
 use plaintext::text::say;
 use plaintext::text::say_line;
+use tokens::output::Output;
+use tokens::token::token_of;
 
 const NONE: usize = 0;
 

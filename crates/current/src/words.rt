@@ -1,12 +1,12 @@
 // A line for each moment, and for each snapshot of a day.
 use crate::answer::Answer;
 use cards::card::Card;
-use numbers::output::Output;
 use plaintext::name::say_name;
 use plaintext::template::say_part;
 use plaintext::text::say;
 use plaintext::text::say_line;
 use records::counters::Time;
+use tokens::output::Output;
 
 // As `2025-03-12 10:00:00 UTC (1741773600000)`.
 pub fn say_moment(output: &mut Output, end: &mut usize, time: Time) {

@@ -8,7 +8,7 @@ use lib.IntN.{ℤ}
 use lib.ListN.{length, take, length-map}
 use Rattle.rules.specs.Words.{eqZ, sameOption, sameList}
 use Rattle.rules.specs.Layout.{given, counted}
-use Rattle.rules.proofs.Relaid.{length-counted, counted-take}
+use Rattle.rules.proofs.Slots.Relaid.{length-counted, counted-take}
 
 -- both flags are set and the numbers equal, or neither is set
 pub same-given : (h : Bool) (x : ℤ) (g : Bool) (y : ℤ) {same : Bool} → same ≡ eqZ x y → (Bool·beq h g && (not h || same)) ≡ sameOption eqZ (given h x) (given g y)

@@ -2,7 +2,7 @@
 ghost use mathlib.Core.Path.{_≡_};
 ghost use Rattle.rules.specs.Words.{sameBytes};
 ghost use Rattle.equality.specs.Same.{sameRefName, sameText};
-use leaves::names::same_bytes;
+use primitives::names::same_bytes;
 use records::text::RefName;
 use records::text::Text;
 

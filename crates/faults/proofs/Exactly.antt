@@ -16,8 +16,8 @@ use Rattle.rules.specs.Layout.{given, readText, readMetadata}
 use Rattle.rules.specs.Register as plain
 use Rattle.rules.specs.Answer.{answer}
 use Rattle.rules.proofs.Checks.{both, and-left, and-right, parts, whole, Passed, passed, passed-before, passed-after, first-after}
-use Rattle.rules.proofs.AnswerLaws.{Formed}
-use Rattle.rules.proofs.AnswerStart.{not-formed-one, formed-not-one}
+use Rattle.rules.proofs.Answer.Laws.{Formed}
+use Rattle.rules.proofs.Answer.Start.{not-formed-one, formed-not-one}
 use Rattle.faults.specs.Faults.{partFaults, agreementFaults, metadataFaults, metadataFault, fileFaults, startFault}
 use Rattle.faults.proofs.Parts.{FineParts, fine-parts, faultless-parts, parts-numbered, all-numbered}
 

@@ -24,7 +24,7 @@ use Rattle.rules.specs.Blanks.{isZero, isZeroZ, restBlank, noneUsed, isBlankSna
 use Rattle.rules.specs.Layout.{readStatisticsFile}
 use Rattle.rules.specs.Capacities.{removalRoom, schemaFieldRoom, sortFieldRoom}
 use Rattle.rules.proofs.Checks.{and-left, and-right}
-use Rattle.rules.proofs.Relaid.{blank-snapshot, blank-reference, blank-statistics-file}
+use Rattle.rules.proofs.Slots.Relaid.{blank-snapshot, blank-reference, blank-statistics-file}
 
 -- ---- used or not
 

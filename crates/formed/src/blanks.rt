@@ -207,7 +207,5 @@ pub fn statistics_file_fits(used: bool, f: StatisticsFile) -> bool
     if used {
         return text_fits(true, p);
     }
-    ids::same_snapshot(id, SnapshotId(0))
-        & text_fits(false, p)
-        & same_file_size(s, FileSize(0))
+    ids::same_snapshot(id, SnapshotId(0)) & text_fits(false, p) & same_file_size(s, FileSize(0))
 }

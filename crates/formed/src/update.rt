@@ -80,7 +80,8 @@ fn refs_fit(k: u8, p: NamedRef) -> bool
     ref_name_fits(
         (k == SET_BRANCH_SNAPSHOT) | ((k == SET_REF) | (k == REMOVE_REF)),
         p.name,
-    ) & reference_fits(k == SET_REF, p.reference)
+    )
+        & reference_fits(k == SET_REF, p.reference)
 }
 
 fn schemas_fit(k: u8, p: SchemasPart) -> bool
@@ -104,9 +105,10 @@ fn statistics_fit(k: u8, p: StatisticsPart) -> bool
     statistics_file_fits(
         (k == SET_STATISTICS) | (k == SET_PARTITION_STATISTICS),
         p.file,
-    ) & ((k == REMOVE_STATISTICS)
-        | (k == REMOVE_PARTITION_STATISTICS)
-        | same_snapshot(p.removed, SnapshotId(0)))
+    )
+        & ((k == REMOVE_STATISTICS)
+            | (k == REMOVE_PARTITION_STATISTICS)
+            | same_snapshot(p.removed, SnapshotId(0)))
 }
 
 // ---- the update

@@ -17,7 +17,7 @@ use Rattle.rules.specs.Updates.{effect}
 use Rattle.rules.specs.Layout.{readSortOrder, readSortOrders, laidSortOrders}
 use Rattle.rules.specs.Kinds.{addSortOrderKind, setDefaultSortOrderKind}
 use Rattle.rules.proofs.Checks.{by-test}
-use Rattle.rules.proofs.Reread.{reread-sort-orders}
+use Rattle.rules.proofs.Slots.Reread.{reread-sort-orders}
 use Rattle.builder.specs.declared.decision.Decision.{Decision}
 use Rattle.order_updates.specs.Family.{ordersAfter}
 

@@ -4,14 +4,14 @@ use crate::name::say_escaped;
 use crate::number::say_count;
 use crate::text::say;
 use crate::text::say_line;
-use numbers::input::A_BYTE;
-use numbers::input::Fault;
-use numbers::input::Place;
-use numbers::input::fault_of;
-use numbers::output::Output;
-use numbers::wanted::REPEATED;
-use numbers::wanted::SIGNED;
-use numbers::wanted::UP_TO;
+use tokens::input::A_BYTE;
+use tokens::input::Fault;
+use tokens::input::Place;
+use tokens::input::fault_of;
+use tokens::output::Output;
+use tokens::wanted::REPEATED;
+use tokens::wanted::SIGNED;
+use tokens::wanted::UP_TO;
 
 // A word and a number, and what parts them from the next.
 fn say_counted(output: &mut Output, end: &mut usize, word: &[u8], number: usize, after: &[u8]) {
@@ -30,7 +30,7 @@ fn say_where(output: &mut Output, end: &mut usize, piece: &[u8], fault: Fault) {
     say_counted(output, end, b"at byte ", fault.byte, b": ");
 }
 
-// A line for each of `numbers::wanted`, the bound last.
+// A line for each of `tokens::wanted`, the bound last.
 fn say_wanted(output: &mut Output, end: &mut usize, wanted: usize, bound: usize) {
     let words = b"the input could not be read\n\
         there should be a number from 0 to \n\

@@ -4,9 +4,9 @@ ghost use Prim.Native.Nat.{_<_};
 use crate::table::say_left_out;
 use crate::text::say;
 use cards::card::Text;
-use fitting::lent;
-use fitting::with_slots;
-use numbers::output::Output;
+use slot_bounds::lent;
+use slot_bounds::with_slots;
+use tokens::output::Output;
 
 fn is_plain(byte: u8) -> bool {
     b' ' <= byte && byte <= b'~' && byte != b'"' && byte != b'\\'

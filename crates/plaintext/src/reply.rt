@@ -3,8 +3,8 @@ use crate::number::say_count;
 use crate::number::say_u8;
 use crate::text::say;
 use crate::text::say_line;
-use numbers::output::Output;
 use records::replies::START_NOT_FORMED;
+use tokens::output::Output;
 
 // As `refused 21 at 1`.
 fn say_refused(output: &mut Output, end: &mut usize, number: u8, place: usize) {

@@ -3,7 +3,6 @@ use crate::conditions::say_removes_and_adds;
 use crate::conditions::say_with_conditions;
 use faults::fault;
 use faults::start_fault;
-use numbers::output::Output;
 use plaintext::metadata::say_files;
 use plaintext::reply::say_refusal;
 use plaintext::text::say;
@@ -12,6 +11,7 @@ use records::metadata::TableMetadata;
 use records::replies::START_NOT_FORMED;
 use records::run::Answer;
 use records::run::RunTerms;
+use tokens::output::Output;
 
 fn say_accepted(output: &mut Output, end: &mut usize, answer: Answer) {
     say(output, end, b"accepted\nthis session's metadata\n");

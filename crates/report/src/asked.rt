@@ -2,16 +2,16 @@
 use crate::conditions::say_with_conditions;
 use cards::card::Card;
 use cards::card::text_of;
-use casefile::limit_text::LimitText;
-use casefile::run::Run;
-use fitting::lent;
-use leaves::limit::limit;
-use numbers::output::Output;
+use case_reader::limit_text::LimitText;
+use case_reader::run::Run;
 use plaintext::number::say_count;
 use plaintext::template::say_part;
 use plaintext::text::say;
 use plaintext::update::say_updates;
+use primitives::limit::limit;
 use records::run::RunTerms;
+use slot_bounds::lent;
+use tokens::output::Output;
 
 fn limit_of(text: LimitText) -> u64 {
     let bytes = text.bytes;

@@ -1,10 +1,10 @@
 // What a history needs to keep its answers, and rows to stay apart: said of metadata after its tables, and of a change log.
-use numbers::output::Output;
 use plaintext::metadata::say_metadata;
 use plaintext::text::say;
 use plaintext::text::say_line;
 use records::metadata::TableMetadata;
 use std::num::wrapping_add_usize;
+use tokens::output::Output;
 
 // The format version from which on row ids are given out.
 const ROWS_FROM: u8 = 3;

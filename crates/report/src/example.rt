@@ -1,11 +1,11 @@
 // The runs of the examples P1 to P12 of document 01, in the case format, as the crate `rules` has them in Examples. An example is made of steps,
 // each a run or a call of a leaf.
-use casefile::run::RUN;
-use casefile::run::Run;
-use casefile::run::read_run;
-use numbers::input::empty_input;
-use numbers::input::hold_line;
-use numbers::input::start;
+use case_reader::run::RUN;
+use case_reader::run::Run;
+use case_reader::run::read_run;
+use tokens::input::empty_input;
+use tokens::input::hold_line;
+use tokens::input::start;
 
 pub const EXAMPLES: usize = 12;
 

@@ -2,12 +2,12 @@
 use cards::card::Card;
 use compare::difference::Difference;
 use compare::part;
-use numbers::output::Output;
 use plaintext::reply::say_refusal;
 use plaintext::template::say_part;
 use records::capacities;
 use records::counters::Age;
 use records::run::DEFAULT_TOLERANCE_MS;
+use tokens::output::Output;
 
 // The number and the place of the run's answer, the fault of its start, where its metadata first differs from the ending one, and the
 // tolerance that it was given.

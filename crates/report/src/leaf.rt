@@ -2,16 +2,16 @@
 use crate::example::LIMITS;
 use crate::example::run_of;
 use catalogue::table_ancestors;
-use fitting::with_slots;
-use leaves::limit::limit;
-use numbers::output::Output;
 use plaintext::name::say_name;
 use plaintext::number::say_i64;
 use plaintext::number::say_u64;
 use plaintext::table::say_comma;
 use plaintext::table::say_none;
 use plaintext::text::say;
+use primitives::limit::limit;
 use records::snapshot::Snapshots;
+use slot_bounds::with_slots;
+use tokens::output::Output;
 use walk::ancestors;
 
 // The step that starts from history 1, 2, 3.

@@ -5,8 +5,6 @@ use crate::example::FILES;
 use crate::example::HISTORY;
 use cards::card::Card;
 use cards::record::file;
-use fitting::with_slots;
-use numbers::output::Output;
 use plaintext::number::say_i64;
 use plaintext::table::say_comma;
 use plaintext::table::say_none;
@@ -23,6 +21,8 @@ use records::run::Answer;
 use records::snapshot::SnapshotLog;
 use records::snapshot::SnapshotLogEntry;
 use records::update::UpdateList;
+use slot_bounds::with_slots;
+use tokens::output::Output;
 
 // What stands before the answer of a step.
 pub fn say_label(output: &mut Output, end: &mut usize, step: usize) {

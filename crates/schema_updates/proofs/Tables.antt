@@ -17,7 +17,7 @@ use Rattle.rules.specs.Updates.{effect}
 use Rattle.rules.specs.Layout.{readSchema, readSchemas, laidSchemas, readSchemaIds}
 use Rattle.rules.specs.Kinds.{addSchemaKind, setCurrentSchemaKind, removeSchemasKind}
 use Rattle.rules.proofs.Checks.{by-test}
-use Rattle.rules.proofs.Reread.{reread-schemas}
+use Rattle.rules.proofs.Slots.Reread.{reread-schemas}
 use Rattle.builder.specs.declared.decision.Decision.{Decision}
 use Rattle.schema_updates.specs.Family.{schemasAfter}
 

@@ -1,9 +1,9 @@
 // soritauba COMMAND WORDS: the program. What a command has to say is in what it prints: it has no status of its own.
 // The crate `commands` goes through the words, the files and the pieces, and says what came of them; here stand the calls of the run.
-use casefile::limit_text::LimitText;
-use casefile::run::Run;
-use casefile::run::read_ending;
-use casefile::run::read_run;
+use case_reader::limit_text::LimitText;
+use case_reader::run::Run;
+use case_reader::run::read_ending;
+use case_reader::run::read_run;
 use commands::advance;
 use commands::begin;
 use commands::tell::is_in_words;
@@ -17,16 +17,6 @@ use commands::turn::Turn;
 use commands::turn::first_of;
 use commands::turn::step_of;
 use commands::turn::times_of;
-use fitting::lent;
-use numbers::input::Input;
-use numbers::input::Place;
-use numbers::input::empty_input;
-use numbers::input::is_good;
-use numbers::input::piece_of;
-use numbers::input::start;
-use numbers::output::Output;
-use numbers::output::empty_output;
-use numbers::output::flush;
 use records::metadata::MetadataLog;
 use records::metadata::TableMetadata;
 use records::run::Answer;
@@ -40,6 +30,16 @@ use report::example::form_of;
 use report::example::run_of;
 use report::judged::Judged;
 use report::judged::say_judged;
+use slot_bounds::lent;
+use tokens::input::Input;
+use tokens::input::Place;
+use tokens::input::empty_input;
+use tokens::input::is_good;
+use tokens::input::piece_of;
+use tokens::input::start;
+use tokens::output::Output;
+use tokens::output::empty_output;
+use tokens::output::flush;
 use verdict::Verdict;
 
 // The metadata as it is, with no changes: what is answered before the first call.

@@ -21,7 +21,7 @@ use Rattle.rules.specs.Run.{weight}
 use Rattle.rules.specs.Layout.{counted, readRefName, readSnapshot, readReference, readSnapshotIds}
 use Rattle.rules.specs.Kinds.{isTidyUpdate, kindWeight, atKind, readings, readKind, readUpdate, readUpdates, assignUuidKind, upgradeFormatVersionKind, setLocationKind, addSnapshotKind, setBranchSnapshotKind, removeSnapshotsKind, setRefKind, removeRefKind, addSchemaKind, setCurrentSchemaKind, removeSchemasKind, addSortOrderKind, setDefaultSortOrderKind, setStatisticsKind, removeStatisticsKind, setPartitionStatisticsKind, removePartitionStatisticsKind}
 use Rattle.rules.proofs.Checks.{and-left, and-right, by-either, neither, by-test}
-use Rattle.rules.proofs.Relaid.{counted-take, length-counted}
+use Rattle.rules.proofs.Slots.Relaid.{counted-take, length-counted}
 
 -- ---- by its kind
 

@@ -23,8 +23,8 @@ use Rattle.rules.specs.Layout.{given, counted, readText, readMetadata}
 use Rattle.rules.specs.Kinds.{readUpdates}
 use Rattle.rules.specs.Answer.{readTerms, laidOutcome, answer}
 use Rattle.rules.proofs.Checks.{only-then, both, and-left, and-right, passed}
-use Rattle.rules.proofs.AcceptedRun.{run-started}
-use Rattle.rules.proofs.Relaid.{length-counted}
+use Rattle.rules.proofs.Sound.Accepted.{run-started}
+use Rattle.rules.proofs.Slots.Relaid.{length-counted}
 use Rattle.records.specs.Blanks.{noUpdate}
 use Rattle.start.specs.Start.{startNumber}
 use Rattle.start.proofs.Reading.{weighs}

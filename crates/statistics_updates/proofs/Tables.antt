@@ -15,7 +15,7 @@ use Rattle.rules.specs.StatisticsUpdates.{isOf, hasFileOf, removeStatistics}
 use Rattle.rules.specs.Updates.{effect}
 use Rattle.rules.specs.Layout.{readStatisticsFile, readStatistics, laidStatistics}
 use Rattle.rules.proofs.Checks.{neither}
-use Rattle.rules.proofs.Reread.{reread-statistics}
+use Rattle.rules.proofs.Slots.Reread.{reread-statistics}
 use Rattle.builder.specs.declared.decision.Decision.{Decision}
 
 keep-others : {A : Type 0} (p : A → Bool) (l : List A) → any p l ≡ false → keep (λ x. not (p x)) l ≡ l

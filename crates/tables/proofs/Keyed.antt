@@ -13,7 +13,7 @@ use mir.Syntax.{Width, w32, w64}
 use mir.Val.{SFits, hbits}
 use Rattle.rules.specs.Words.{eqZ, any, isIn}
 use Rattle.rules.specs.Layout.{pad}
-use Rattle.rules.proofs.Relaid.{set-pad}
+use Rattle.rules.proofs.Slots.Relaid.{set-pad}
 use Rattle.search.specs.Places.{indexOf}
 use Rattle.search.proofs.Places.{eqZ-turned}
 use Rattle.tables.proofs.Table.{Kind, Tidy, listed, read-length, within, at}

@@ -24,8 +24,8 @@ use Rattle.builder.specs.declared.builder.TableMetadataBuilder.{TableMetadataBu
 use Rattle.builder.specs.Pieces.{fresh, laidBuilder, idsOf, lastTime}
 use Rattle.close.specs.Facts.{additions}
 use Rattle.start.specs.Start.{startNumber}
-use Rattle.laws.specs.Standing.{Given, Pieces, Represents, Standing}
-use Rattle.laws.proofs.Beginning.{start-log, standing-start}
+use Rattle.refinement.specs.Standing.{Given, Pieces, Represents, Standing}
+use Rattle.refinement.proofs.Beginning.{start-log, standing-start}
 
 -- the change log of such a run
 abbrev pub removal : List Update

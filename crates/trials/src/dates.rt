@@ -3,21 +3,21 @@
 use calendar::date::date_of;
 use calendar::text::text_of;
 use calendar::text::time_of_text;
-use fitting::lent;
-use numbers::field::signed_of;
-use numbers::input::Input;
-use numbers::input::Place;
-use numbers::input::is_first;
-use numbers::input::is_good;
-use numbers::input::spoil;
-use numbers::number::put_i64;
-use numbers::output::Output;
-use numbers::output::append;
-use numbers::output::make_room;
-use numbers::output::put_line_end;
-use numbers::token::read_token;
-use numbers::wanted::SIGNED;
 use records::counters::Time;
+use slot_bounds::lent;
+use tokens::field::signed_of;
+use tokens::input::Input;
+use tokens::input::Place;
+use tokens::input::is_first;
+use tokens::input::is_good;
+use tokens::input::spoil;
+use tokens::number::put_i64;
+use tokens::output::Output;
+use tokens::output::append;
+use tokens::output::make_room;
+use tokens::output::put_line_end;
+use tokens::token::read_token;
+use tokens::wanted::SIGNED;
 
 fn put_text(output: &mut Output, end: &mut usize, text: &[u8]) {
     if text.len() < 24 {

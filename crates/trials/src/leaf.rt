@@ -1,30 +1,30 @@
 // Cases 4 to 7 and 10: the leaves.
-use casefile::limit_text::LimitText;
-use casefile::limit_text::read_limit_text;
-use casefile::untrimmed::read_untrimmed;
-use casewrite::text::put_bytes;
-use fitting::lent;
-use leaves::window::is_before;
-use numbers::field::read_i64;
-use numbers::field::read_u64;
-use numbers::input::Input;
-use numbers::input::Place;
-use numbers::input::is_good;
-use numbers::number::put_flag;
-use numbers::number::put_u8;
-use numbers::number::put_u64;
-use numbers::output::Output;
+use case_reader::limit_text::LimitText;
+use case_reader::limit_text::read_limit_text;
+use case_reader::untrimmed::read_untrimmed;
+use case_writer::text::put_bytes;
+use primitives::window::is_before;
 use records::capacities::TEXT;
 use records::counters::Age;
 use records::counters::RowId;
 use records::counters::Time;
 use records::run::DEFAULT_TOLERANCE_MS;
+use slot_bounds::lent;
+use tokens::field::read_i64;
+use tokens::field::read_u64;
+use tokens::input::Input;
+use tokens::input::Place;
+use tokens::input::is_good;
+use tokens::number::put_flag;
+use tokens::number::put_u8;
+use tokens::number::put_u64;
+use tokens::output::Output;
 
 fn limit_of(text: LimitText) -> u64 {
     let bytes = text.bytes;
     let slots: &[u8] = &bytes;
     let len = lent(slots, text.len);
-    leaves::limit::limit(&slots[..len])
+    primitives::limit::limit(&slots[..len])
 }
 
 pub fn limit(input: &mut Input, place: &mut Place, output: &mut Output, end: &mut usize) {
@@ -62,7 +62,7 @@ pub fn row_ids(input: &mut Input, place: &mut Place, output: &mut Output, end: &
     let first = RowId(read_u64(input, place));
     let added = read_u64(input, place);
     if is_good(place) {
-        let checked = leaves::row_ids::check_rows(next, first, added);
+        let checked = primitives::row_ids::check_rows(next, first, added);
         put_u8(output, end, checked.number);
         put_u64(output, end, checked.next.0);
     }
@@ -74,7 +74,7 @@ pub fn trim(input: &mut Input, place: &mut Place, output: &mut Output, end: &mut
     let len = read_untrimmed(input, place, &mut slots);
     if is_good(place) {
         if len <= TEXT {
-            let trimmed = leaves::location::trim(&slots[..len]);
+            let trimmed = primitives::location::trim(&slots[..len]);
             put_bytes(output, end, trimmed, trimmed.len());
         } else {
             put_bytes(output, end, &slots, len);

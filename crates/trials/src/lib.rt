@@ -2,13 +2,13 @@
 // and again, to time them; and the date of a time. Each is read, and its answer written in numbers.
 // Nothing is refused but what can not be read.
 // The page of the case format decides.
-use casefile::run::RUN_GIVEN_MORE;
-use numbers::input::Input;
-use numbers::input::Place;
-use numbers::input::spoil;
-use numbers::output::Output;
-use numbers::wanted::CASE;
-use numbers::wanted::REPEATED;
+use case_reader::run::RUN_GIVEN_MORE;
+use tokens::input::Input;
+use tokens::input::Place;
+use tokens::input::spoil;
+use tokens::output::Output;
+use tokens::wanted::CASE;
+use tokens::wanted::REPEATED;
 
 mod closes;
 pub mod dates;

@@ -1,16 +1,16 @@
 // Case 8: which snapshot was current at a time.
-use casefile::snapshot::read_snapshot_log;
-use casewrite::snapshot::put_log_entry;
+use case_reader::snapshot::read_snapshot_log;
+use case_writer::snapshot::put_log_entry;
 use moment::Moment;
-use numbers::field::read_i64;
-use numbers::input::Input;
-use numbers::input::Place;
-use numbers::input::is_good;
-use numbers::number::put_count;
-use numbers::number::put_flag;
-use numbers::number::put_u8;
-use numbers::output::Output;
 use records::counters::Time;
+use tokens::field::read_i64;
+use tokens::input::Input;
+use tokens::input::Place;
+use tokens::input::is_good;
+use tokens::number::put_count;
+use tokens::number::put_flag;
+use tokens::number::put_u8;
+use tokens::output::Output;
 
 fn put_moment(output: &mut Output, end: &mut usize, moment: Moment) {
     put_u8(output, end, moment.number);

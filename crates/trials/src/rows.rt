@@ -1,10 +1,10 @@
 // Case 11: whether the row ranges that metadata holds are apart.
-use casefile::metadata::read_metadata;
-use numbers::input::Input;
-use numbers::input::Place;
-use numbers::input::is_good;
-use numbers::number::put_flag;
-use numbers::output::Output;
+use case_reader::metadata::read_metadata;
+use tokens::input::Input;
+use tokens::input::Place;
+use tokens::input::is_good;
+use tokens::number::put_flag;
+use tokens::output::Output;
 
 pub fn rows_apart(input: &mut Input, place: &mut Place, output: &mut Output, end: &mut usize) {
     let metadata = read_metadata(input, place);

@@ -1,21 +1,21 @@
 // Cases 2 and 3: ancestor walks, over ids and over records, made so many times into the same buffer.
 ghost use mathlib.Core.Path.{_≡_};
 ghost use lib.ListN.{length};
-use casefile::ids::BUFFER;
-use casefile::ids::IDS;
-use casefile::ids::read_ids;
-use casefile::snapshot::read_snapshots;
-use casefile::walk_terms::WalkTerms;
-use casefile::walk_terms::read_walk_terms;
-use casewrite::ids::put_ids;
+use case_reader::ids::BUFFER;
+use case_reader::ids::IDS;
+use case_reader::ids::read_ids;
+use case_reader::snapshot::read_snapshots;
+use case_reader::walk_terms::WalkTerms;
+use case_reader::walk_terms::read_walk_terms;
+use case_writer::ids::put_ids;
 use catalogue::table_ancestors;
-use numbers::input::Input;
-use numbers::input::Place;
-use numbers::input::is_good;
-use numbers::number::put_count;
-use numbers::number::put_u8;
-use numbers::output::Output;
 use records::snapshot::Snapshots;
+use tokens::input::Input;
+use tokens::input::Place;
+use tokens::input::is_good;
+use tokens::number::put_count;
+use tokens::number::put_u8;
+use tokens::output::Output;
 use walk::Walked;
 use walk::ancestors;
 

@@ -3,7 +3,7 @@ use Prim.Native.Nat.{_-_, _≤_}
 use mathlib.Core.Path.{_≡_}
 use borrow.Author.Needs.{needs}
 use lib.ListN.{length}
-use Rattle.fitting.proofs.Counted.{counted}
+use Rattle.slot_bounds.proofs.Counted.{counted}
 use Rattle.command.proofs.read_part.Statement.{statement}
 use Rattle.command.proofs.read_part.Tie as tie
 

@@ -9,7 +9,7 @@ use Rattle.rules.specs.Words.{ifSome}
 use Rattle.rules.specs.Capacities.{fileNameRoom}
 use Rattle.rules.specs.WellFormed.{fileNameFormed}
 use Rattle.rules.specs.Layout.{given, readText}
-use Rattle.rules.proofs.Relaid.{length-counted}
+use Rattle.rules.proofs.Slots.Relaid.{length-counted}
 use Rattle.faults.specs.Faults.{metadataFaults, metadataFault, fileFaults, startFault}
 use Rattle.faults.proofs.Picked.{join}
 use Rattle.faults.proofs.Parts.{all-numbered}

@@ -27,7 +27,7 @@ use Rattle.rules.specs.OrderUpdates as rule
 use Rattle.rules.specs.Layout.{readSchema, readSchemas, laidSchemas, readSortOrder, laidSortOrder, readSortOrders, laidSortOrders, laidFields}
 use Rattle.rules.specs.Kinds.{laidUpdate, ofKind, withSortOrdersPart, withSortOrder, addSortOrderKind}
 use Rattle.rules.proofs.Checks.{by-test, Passed, passed}
-use Rattle.rules.proofs.Reread.{reread-schemas, reread-sort-orders}
+use Rattle.rules.proofs.Slots.Reread.{reread-schemas, reread-sort-orders}
 use Rattle.tables.specs.Laid.{LaidOrder}
 use Rattle.tables.proofs.Table.{listed-length}
 use Rattle.tables.proofs.Each.{sortOrders}

@@ -13,7 +13,7 @@ use Rattle.rules.specs.SchemaUpdates.{chosen, choiceLogged}
 use Rattle.rules.specs.OrderUpdates.{holdsOrder, setDefaultSortOrderChecks, setDefaultSortOrder}
 use Rattle.rules.specs.Layout.{given, readSortOrders, laidFields}
 use Rattle.rules.specs.Kinds.{laidUpdate}
-use Rattle.rules.proofs.Reread.{reread-sort-orders}
+use Rattle.rules.proofs.Slots.Reread.{reread-sort-orders}
 use Rattle.tables.proofs.Keyed.{lent-in, lent-within, lent-slice}
 use Rattle.tables.proofs.Each.{tidy-sort-orders}
 use Rattle.builder.specs.declared.builder.TableMetadataBuilder.{TableMetadataBuilder}

@@ -17,8 +17,8 @@ use Rattle.rules.specs.RefUpdates.{refNamed, removeRef}
 use Rattle.rules.specs.Updates.{checks, effect}
 use Rattle.rules.specs.Layout.{readRefName, readRef, readRefs, laidRefs}
 use Rattle.rules.specs.Kinds.{readUpdate, laidUpdate}
-use Rattle.rules.proofs.Relaid.{flag-given}
-use Rattle.rules.proofs.Reread.{reread-refs}
+use Rattle.rules.proofs.Slots.Relaid.{flag-given}
+use Rattle.rules.proofs.Slots.Reread.{reread-refs}
 use Rattle.builder.specs.declared.builder.TableMetadataBuilder.{TableMetadataBuilder}
 use Rattle.builder.specs.Pieces.{laidBuilder, Stepped}
 use Rattle.builder.proofs.Entries.{of-kind, read-kind}

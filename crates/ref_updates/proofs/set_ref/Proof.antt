@@ -14,7 +14,7 @@ use Rattle.rules.specs.RefUpdates.{isHeldRef, ownAfter}
 use Rattle.rules.specs.Layout.{readRefName, readReference, readRefs}
 use Rattle.rules.specs.Kinds.{laidUpdate}
 use Rattle.rules.proofs.Checks.{and-left, and-right}
-use Rattle.rules.proofs.Reread.{reread-refs}
+use Rattle.rules.proofs.Slots.Reread.{reread-refs}
 use Rattle.ref_updates.specs.Refs.{askedRef, NewRef}
 use Rattle.ref_updates.proofs.Named.{named-long}
 use Rattle.ref_updates.proofs.WantedRefs.{laid-ref}

@@ -39,22 +39,22 @@ use Rattle.ref_updates.specs.Refs.{RefSet}
 use Rattle.start.specs.Start.{startNumber}
 use Rattle.start.proofs.Reading.{formed-tidy, formed-kind, kinds, read-remove-snapshots, read-set-ref, read-remove-ref, here, all-read, weight-read, counts, bounds}
 use Rattle.start.proofs.Started.{refused-start}
-use Rattle.laws.specs.Standing.{Given, termsOf, Pieces, Represents, Standing, OwnTable, Slots, withTable, ownLists, laidOf}
-use Rattle.laws.specs.Standing.OwnTable.{ofSchemas, ofOrders, ofStatistics}
-use Rattle.laws.specs.Turns.{nothing, updateAt, nameAt, Midway, Stands, Decided, Turn}
-use Rattle.laws.proofs.Beginning.{start-snapshots, start-log, start-short, standing-start, laid-snapshots, laid-refs, laid-log, laid-schemas, laid-orders, laid-statistics, statistics-ascend, location-fits, snapshots-ascend, schemas-ascend, refs-ascend, orders-formed, schema-held, order-held}
-use Rattle.laws.proofs.Closed.{held-ids, held-ascend, held-fits, held-within, held-slice, adds-within, added-slice, mains-within, main-slice, adds-most, mains-most, told, handed, files-laid, files-fit, gone-fits, overfull-is, joins-fit, stay-is, gone-is, checks, close-refused, close-accepted}
-use Rattle.laws.proofs.Moving.{fits, ends}
-use Rattle.laws.proofs.Deciding.{whole, not-formed-decided, fields-decided, refs-decided, refs-left, tabled, numberOf, own-decided}
-use Rattle.laws.proofs.Removing.{left-laid, left-lent, removed-decided}
-use Rattle.laws.proofs.Adding.{has-room, stored-last, id-last, put-new, put-laid, put-tables, put-ids, add-refused, adds-fine, add-decided, grown}
-use Rattle.laws.proofs.Setting.{faced, set-midway, set-decides, main-room, other-decided, main-decided}
-use Rattle.laws.proofs.Taken.{snapshot-back, reference-back, asked-laid, branch-name-laid, set-name-laid, removed-name-laid}
-use Rattle.laws.proofs.Effects.{group}
-use Rattle.laws.proofs.Turning.{undivided, unformed, at-the-end, decides, refuses, goes-on, is-ref-removal, is-single, is-schemas, is-orders, is-statistics, is-partition-statistics}
+use Rattle.refinement.specs.Standing.{Given, termsOf, Pieces, Represents, Standing, OwnTable, Slots, withTable, ownLists, laidOf}
+use Rattle.refinement.specs.Standing.OwnTable.{ofSchemas, ofOrders, ofStatistics}
+use Rattle.refinement.specs.Turns.{nothing, updateAt, nameAt, Midway, Stands, Decided, Turn}
+use Rattle.refinement.proofs.Beginning.{start-snapshots, start-log, start-short, standing-start, laid-snapshots, laid-refs, laid-log, laid-schemas, laid-orders, laid-statistics, statistics-ascend, location-fits, snapshots-ascend, schemas-ascend, refs-ascend, orders-formed, schema-held, order-held}
+use Rattle.refinement.proofs.Closed.{held-ids, held-ascend, held-fits, held-within, held-slice, adds-within, added-slice, mains-within, main-slice, adds-most, mains-most, told, handed, files-laid, files-fit, gone-fits, overfull-is, joins-fit, stay-is, gone-is, checks, close-refused, close-accepted}
+use Rattle.refinement.proofs.Moving.{fits, ends}
+use Rattle.refinement.proofs.Deciding.{whole, not-formed-decided, fields-decided, refs-decided, refs-left, tabled, numberOf, own-decided}
+use Rattle.refinement.proofs.Removing.{left-laid, left-lent, removed-decided}
+use Rattle.refinement.proofs.Adding.{has-room, stored-last, id-last, put-new, put-laid, put-tables, put-ids, add-refused, adds-fine, add-decided, grown}
+use Rattle.refinement.proofs.Setting.{faced, set-midway, set-decides, main-room, other-decided, main-decided}
+use Rattle.refinement.proofs.Taken.{snapshot-back, reference-back, asked-laid, branch-name-laid, set-name-laid, removed-name-laid}
+use Rattle.refinement.proofs.Effects.{group}
+use Rattle.refinement.proofs.Turning.{undivided, unformed, at-the-end, decides, refuses, goes-on, is-ref-removal, is-single, is-schemas, is-orders, is-statistics, is-partition-statistics}
 use Rattle.rules.specs.Updates.{effect}
 use Rattle.statistics_updates.specs.Family.{Within}
-use Rattle.laws.proofs.Ending.{turns, stored-less, refused-less, decided-less, halved-less}
+use Rattle.refinement.proofs.Ending.{turns, stored-less, refused-less, decided-less, halved-less}
 use Rattle.register.proofs.run.Statement.{statement}
 use Rattle.register.proofs.run.Tie as tie
 

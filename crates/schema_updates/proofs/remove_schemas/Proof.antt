@@ -19,8 +19,8 @@ use Rattle.rules.specs.SchemaUpdates.{heldSchemas, removeSchemasChecks, removeS
 use Rattle.rules.specs.Updates.{checks, effect}
 use Rattle.rules.specs.Layout.{counted, readSchemas, readSchemaIds, laidSchemaIds, laidFields}
 use Rattle.rules.specs.Kinds.{readUpdate, laidUpdate, withSchemasPart, withSchemaIds}
-use Rattle.rules.proofs.Relaid.{length-counted}
-use Rattle.rules.proofs.Reread.{reread-schemas}
+use Rattle.rules.proofs.Slots.Relaid.{length-counted}
+use Rattle.rules.proofs.Slots.Reread.{reread-schemas}
 use Rattle.tables.specs.Laid.{LaidSchemaIds}
 use Rattle.builder.specs.declared.builder.TableMetadataBuilder.{TableMetadataBuilder}
 use Rattle.builder.specs.Pieces.{laidBuilder}

@@ -26,7 +26,7 @@ use Rattle.rules.specs.SchemaUpdates as rule
 use Rattle.rules.specs.Layout.{readSchema, laidSchema, readSchemas, laidSchemas, laidFields}
 use Rattle.rules.specs.Kinds.{laidUpdate, ofKind, withSchemasPart, withSchema, addSchemaKind}
 use Rattle.rules.proofs.Checks.{by-test, Passed, passed}
-use Rattle.rules.proofs.Reread.{reread-schemas}
+use Rattle.rules.proofs.Slots.Reread.{reread-schemas}
 use Rattle.tables.specs.Laid.{LaidSchema}
 use Rattle.tables.proofs.Table.{listed-length}
 use Rattle.tables.proofs.Each.{schemas}

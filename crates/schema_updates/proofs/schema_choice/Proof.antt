@@ -13,7 +13,7 @@ use Rattle.rules.specs.Register.Update.{SetCurrentSchema}
 use Rattle.rules.specs.SchemaUpdates.{chosen, choiceLogged, holdsSchema, setCurrentSchemaChecks, setCurrentSchema}
 use Rattle.rules.specs.Layout.{given, readSchemas, laidFields}
 use Rattle.rules.specs.Kinds.{laidUpdate}
-use Rattle.rules.proofs.Reread.{reread-schemas}
+use Rattle.rules.proofs.Slots.Reread.{reread-schemas}
 use Rattle.tables.proofs.Keyed.{lent-in, lent-within, lent-slice}
 use Rattle.tables.proofs.Each.{tidy-schemas}
 use Rattle.builder.specs.declared.builder.TableMetadataBuilder.{TableMetadataBuilder}

@@ -8,7 +8,7 @@ use Rattle.rules.specs.Register.{Snapshot}
 use Rattle.rules.specs.SnapshotUpdates.{heldSnapshots}
 use Rattle.rules.specs.Layout.{readSnapshots, laidSnapshotIds, readSnapshotIds}
 use Rattle.rules.specs.Kinds.{laidUpdate, withSnapshotsPart, withSnapshotIds}
-use Rattle.rules.proofs.Reread.{reread-snapshots}
+use Rattle.rules.proofs.Slots.Reread.{reread-snapshots}
 use Rattle.builder.proofs.Steps.{some-counted}
 use Rattle.builder.proofs.Entries.{of-kind}
 use Rattle.snapshot_updates.proofs.remove_snapshots.Statement.{statement}

@@ -6,7 +6,7 @@ use borrow.Author.Needs.{needs}
 use lib.ListN.{length}
 use lib.Seq.{length-take-le}
 use Rattle.rules.specs.Layout.{laidText}
-use Rattle.rules.proofs.Relaid.{counted-take}
+use Rattle.rules.proofs.Slots.Relaid.{counted-take}
 use Rattle.builder.proofs.text.clean.Statement.{statement}
 use Rattle.builder.proofs.text.clean.Tie as tie
 

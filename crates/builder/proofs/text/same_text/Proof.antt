@@ -5,7 +5,7 @@ use native.Mathlib.Omega.{arith}
 use borrow.Author.Needs.{needs}
 use lib.ListN.{length}
 use lib.Seq.{length-take-le}
-use Rattle.rules.proofs.Relaid.{counted-take}
+use Rattle.rules.proofs.Slots.Relaid.{counted-take}
 use Rattle.builder.proofs.text.same_text.Statement.{statement}
 use Rattle.builder.proofs.text.same_text.Tie as tie
 

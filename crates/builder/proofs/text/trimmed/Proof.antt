@@ -7,7 +7,7 @@ use lib.ListN.{length}
 use lib.Seq.{length-take-le}
 use Rattle.rules.specs.Layout.{readText, laidText}
 use Rattle.rules.specs.Names.{trimmed}
-use Rattle.rules.proofs.Relaid.{counted-take}
+use Rattle.rules.proofs.Slots.Relaid.{counted-take}
 use Rattle.builder.proofs.Texts.{trimmed-fits}
 use Rattle.builder.proofs.text.trimmed.Statement.{statement}
 use Rattle.builder.proofs.text.trimmed.Tie as tie

@@ -15,7 +15,7 @@ use Rattle.records.specs.declared.run.RunTerms.{RunTerms}
 use Rattle.records.specs.declared.text.Text.{Text}
 use Rattle.rules.specs.Register.{FileEntry}
 use Rattle.rules.specs.Layout.{readText, laidText, readMetadataLogEntry, laidMetadataLogEntry, readMetadataLog, laidMetadataLog}
-use Rattle.rules.proofs.Reread.{reread-text}
+use Rattle.rules.proofs.Slots.Reread.{reread-text}
 use Rattle.tables.proofs.Table.{read-length}
 use Rattle.tables.proofs.Push.{pushed}
 use Rattle.tables.proofs.Each.{tidy-metadata-log, made-metadata-log}

@@ -1,6 +1,6 @@
 -- The tests in order; as many bytes are read of a location as its length says.
 use borrow.Author.Needs.{needs}
-use Rattle.rules.proofs.Relaid.{length-counted}
+use Rattle.rules.proofs.Slots.Relaid.{length-counted}
 use Rattle.faults.specs.Faults.{fieldFaults}
 use Rattle.faults.proofs.part.fields_fault.Statement.{statement}
 use Rattle.faults.proofs.part.fields_fault.Tie as tie

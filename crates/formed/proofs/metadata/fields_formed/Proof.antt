@@ -2,7 +2,7 @@
 use borrow.Author.Needs.{needs}
 use Rattle.rules.specs.WellFormed.{fieldsFormed}
 use Rattle.rules.specs.Blanks.{isTidyFields}
-use Rattle.rules.proofs.Relaid.{length-counted}
+use Rattle.rules.proofs.Slots.Relaid.{length-counted}
 use Rattle.formed.proofs.metadata.fields_formed.Statement.{statement}
 use Rattle.formed.proofs.metadata.fields_formed.Tie as tie
 

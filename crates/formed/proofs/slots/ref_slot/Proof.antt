@@ -1,7 +1,7 @@
 -- Each arm asks what the rule asks there; as many bytes are read of a name as its length says.
 use borrow.Author.Needs.{needs}
 use Rattle.rules.specs.Blanks.{isTidyRef, isBlankRef}
-use Rattle.rules.proofs.Relaid.{length-counted}
+use Rattle.rules.proofs.Slots.Relaid.{length-counted}
 use Rattle.formed.proofs.slots.ref_slot.Statement.{statement}
 use Rattle.formed.proofs.slots.ref_slot.Tie as tie
 

@@ -4,7 +4,7 @@ use mathlib.Core.Path.{sym, _∙_}
 use borrow.Author.Needs.{needs}
 use borrow.Author.Tests.{ne-eqb}
 use Rattle.rules.specs.WellFormed.{updateFormed}
-use Rattle.rules.proofs.Relaid.{length-counted}
+use Rattle.rules.proofs.Slots.Relaid.{length-counted}
 use Rattle.formed.proofs.Used.{sets-statistics, removes-statistics}
 use Rattle.formed.proofs.update.used_formed.Statement.{statement}
 use Rattle.formed.proofs.update.used_formed.Tie as tie

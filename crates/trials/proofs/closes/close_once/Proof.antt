@@ -10,9 +10,9 @@ use Rattle.rules.specs.Layout.{readSnapshots}
 use Rattle.builder.specs.Pieces.{idsOf}
 use Rattle.builder.proofs.Positions.{ids-ascend}
 use Rattle.close.specs.Facts.{additions, Told}
-use Rattle.laws.specs.Standing.{Represents, termsOf}
-use Rattle.laws.proofs.Beginning.{read-fields, read-snapshots, read-log, snapshots-ascend, laid-refs, laid-log, laid-schemas, laid-orders, schema-held, order-held}
-use Rattle.laws.proofs.Closed.{handed, files-laid, files-fit, gone-fits, overfull-is, joins-fit, checks}
+use Rattle.refinement.specs.Standing.{Represents, termsOf}
+use Rattle.refinement.proofs.Beginning.{read-fields, read-snapshots, read-log, snapshots-ascend, laid-refs, laid-log, laid-schemas, laid-orders, schema-held, order-held}
+use Rattle.refinement.proofs.Closed.{handed, files-laid, files-fit, gone-fits, overfull-is, joins-fit, checks}
 use Rattle.trials.proofs.Before.{removal, asked, pieces, state, stands}
 use Rattle.trials.proofs.closes.close_once.Statement.{statement}
 use Rattle.trials.proofs.closes.close_once.Tie as tie

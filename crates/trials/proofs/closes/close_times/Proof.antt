@@ -7,8 +7,8 @@ use Rattle.rules.specs.Register as plain
 use Rattle.rules.specs.Layout.{pad, readSnapshots}
 use Rattle.tables.specs.Laid.{LaidSnapshots}
 use Rattle.builder.specs.Pieces.{idsOf}
-use Rattle.laws.proofs.Beginning.{start-snapshots}
-use Rattle.laws.proofs.Closed.{lent, lent-within, lent-slice}
+use Rattle.refinement.proofs.Beginning.{start-snapshots}
+use Rattle.refinement.proofs.Closed.{lent, lent-within, lent-slice}
 use Rattle.trials.proofs.Before.{asked}
 use Rattle.trials.proofs.closes.close_times.Statement.{statement}
 use Rattle.trials.proofs.closes.close_times.Tie as tie

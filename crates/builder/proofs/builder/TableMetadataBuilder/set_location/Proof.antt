@@ -11,7 +11,7 @@ use Rattle.rules.specs.Register.Update.{SetLocation}
 use Rattle.rules.specs.SingleUpdates.{setLocation}
 use Rattle.rules.specs.Layout.{readText, laidText, laidFields}
 use Rattle.rules.specs.Kinds.{laidUpdate}
-use Rattle.rules.proofs.Reread.{reread-text}
+use Rattle.rules.proofs.Slots.Reread.{reread-text}
 use Rattle.builder.specs.Pieces.{laidBuilder}
 use Rattle.builder.specs.declared.builder.TableMetadataBuilder.{TableMetadataBuilder}
 use Rattle.builder.proofs.Steps.{stepped-unless}
