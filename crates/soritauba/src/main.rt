@@ -139,25 +139,25 @@ fn answer_of(step: usize) -> Answer {
     ask(1, run)
 }
 
-// One step; whether there may be another.
-fn next(
+// What a step wants of the run.
+fn answer(
+    wanted: usize,
     turn: &mut Turn,
     input: &mut Input,
     place: &mut Place,
     output: &mut Output,
     end: &mut usize,
-) -> bool {
-    let wanted = advance(turn, input, place, output, end);
+) {
     match wanted {
         ASKED => run(turn, input, place, output, end),
         JUDGED => replay(turn, input, place, output, end),
         SHOWN => tell_example(turn, output, end, answer_of(step_of(turn))),
         _ => {}
     }
-    wanted != END
 }
 
-// The steps are counted since nothing says that an input ends; no run uses them up.
+// The steps are counted since nothing says that an input ends; no run uses them up. What a step reads and what is answered to it
+// stand beside each other, and not one below the other, so that less stack is needed.
 fn main() {
     let mut turn = begin();
     let mut input = empty_input();
@@ -165,7 +165,17 @@ fn main() {
     let mut output = empty_output();
     let mut end: usize = 0;
     let mut left = u64::MAX;
-    while left > 0 && next(&mut turn, &mut input, &mut place, &mut output, &mut end) {
+    let mut wanted = advance(&mut turn, &mut input, &mut place, &mut output, &mut end);
+    while left > 0 && wanted != END {
+        answer(
+            wanted,
+            &mut turn,
+            &mut input,
+            &mut place,
+            &mut output,
+            &mut end,
+        );
+        wanted = advance(&mut turn, &mut input, &mut place, &mut output, &mut end);
         left -= 1;
     }
     flush(&output, end);

@@ -51,15 +51,15 @@ module _ (m : TableMetadata) (terms : RunTerms) (text : List ℕ) where
   abbrev pub pieces : Pieces
   pieces =
       record {
-        held = record { builder = builder; snapshots = m .snapshots; ids = ids; refs = m .refs; log = m .«snapshot_log»; last = last; shelf = record { schemas = m .schemas; orders = m .«sort_orders»; statistics = m .statistics; partitionStatistics = m .«partition_statistics» } };
-        changes = record { entries = pad 64 noUpdate (map laidUpdate removal); count = 1; added = pad 64 (pos 0) []; adds = 0; mained = pad 64 (pos 0) []; mains = 0; removal = true };
+        held = record { builder = builder; snapshots = m .snapshots; ids = ids; refs = m .refs; log = m .«snapshot_log»; last = last; ownTables = record { schemas = m .schemas; orders = m .«sort_orders»; statistics = m .statistics; partitionStatistics = m .«partition_statistics» } };
+        changes = record { entries = pad 64 noUpdate (map laidUpdate removal); count = 1; added = pad 64 (pos 0) []; adds = 0; mainTargets = pad 64 (pos 0) []; mains = 0; removal = true };
       }
 
   abbrev pub start-pieces : Pieces
   start-pieces =
       record {
         held = pieces .held;
-        changes = record { entries = replicate 64 noUpdate; count = 0; added = replicate 64 (pos 0); adds = 0; mained = replicate 64 (pos 0); mains = 0; removal = false };
+        changes = record { entries = replicate 64 noUpdate; count = 0; added = replicate 64 (pos 0); adds = 0; mainTargets = replicate 64 (pos 0); mains = 0; removal = false };
       }
 
   module _ (z : startNumber m noUpdates terms ≡ 0) where
@@ -77,8 +77,8 @@ module _ (m : TableMetadata) (terms : RunTerms) (text : List ℕ) where
         let T = E .tables in
         record {
           sound = E .sound;
-          kept = record { files = E .kept .files; old = E .kept .old; back = E .kept .back; short = E .kept .short };
-          tables = record { builder = T .builder; snapshots = T .snapshots; ids = T .ids; refs = T .refs; log = T .log; last = T .last; shelf = T .shelf };
-          logs = record { entries = refl; count = refl; added = refl; adds = refl; mained = refl; mains = refl; removal = refl };
+          since = record { files = E .since .files; old = E .since .old; back = E .since .back; short = E .since .short };
+          tables = record { builder = T .builder; snapshots = T .snapshots; ids = T .ids; refs = T .refs; log = T .log; last = T .last; ownTables = T .ownTables };
+          logs = record { entries = refl; count = refl; added = refl; adds = refl; mainTargets = refl; mains = refl; removal = refl };
           room = omega arith;
         }
