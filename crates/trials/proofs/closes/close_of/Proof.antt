@@ -12,4 +12,4 @@ unfolding noUpdates readUpdates listSum
 close-times-requires c κs = let m = c .before .before .before .before .args .m in sym (c .before .start-number .ensures m noUpdates (c .before .before .is-formed .ensures) refl (λ h. refl)) ∙ c .if1 .left
 
 pub close-of-spec : {M : Type 1} → statement M
-close-of-spec = tie.close (tie.spec (λ c κs. search needs) (λ c κs. search needs) (λ c. search needs) close-times-requires (λ c. search needs))
+close-of-spec = tie.close (tie.spec (λ c κs. search needs) (λ c κs. search needs) (λ c κs. search needs) (λ c. search needs) close-times-requires (λ c. search needs))
