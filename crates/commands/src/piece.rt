@@ -2,6 +2,7 @@
 use crate::file::leave;
 use crate::turn::ASKED;
 use crate::turn::CASES;
+use crate::turn::CLOSED;
 use crate::turn::COMMAND;
 use crate::turn::CURRENT;
 use crate::turn::DATES;
@@ -29,6 +30,9 @@ use tokens::wanted::CASE;
 
 // What stands in front where no piece follows.
 const NONE: u64 = 0;
+
+// The kind that `repeat` has for the close by itself of a run's metadata, with what follows the kind of a run.
+const CLOSE: u64 = 0;
 
 fn is_run(kind: u64) -> bool {
     kind == RUN || kind == RUN_GIVEN_MORE
@@ -93,6 +97,9 @@ fn next_repeated(
     let kind = read_u64(input, place);
     if is_run(kind) {
         return want(turn, kind, times, ASKED);
+    }
+    if kind == CLOSE && is_good(place) {
+        return want(turn, RUN, times, CLOSED);
     }
     trials::repeat(kind, times, input, place, output, end);
     if is_good(place) {

@@ -38,7 +38,7 @@ pub const NAMES: usize = 3;
 
 pub const STEPS: usize = 4;
 
-// What is wanted after a step: nothing, the end, a run, a verdict, the run of an example.
+// What is wanted after a step: nothing, the end, a run, a verdict, the run of an example, a close by itself.
 pub const GO_ON: usize = 0;
 
 pub const END: usize = 1;
@@ -48,6 +48,8 @@ pub const ASKED: usize = 2;
 pub const JUDGED: usize = 3;
 
 pub const SHOWN: usize = 4;
+
+pub const CLOSED: usize = 5;
 
 // The commands, in the order of their names.
 pub const HELP: usize = 0;

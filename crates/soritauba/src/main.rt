@@ -10,6 +10,7 @@ use commands::tell::is_in_words;
 use commands::tell::put_answer_of;
 use commands::tell::tell_example;
 use commands::turn::ASKED;
+use commands::turn::CLOSED;
 use commands::turn::END;
 use commands::turn::JUDGED;
 use commands::turn::SHOWN;
@@ -139,6 +140,21 @@ fn answer_of(step: usize) -> Answer {
     ask(1, run)
 }
 
+fn close_of(times: u64, run: Run) -> Answer {
+    let text = run.limit;
+    let bytes = text.bytes;
+    let slots: &[u8] = &bytes;
+    let len = lent(slots, text.len);
+    close_alone::close(times, run.metadata, run.terms, &slots[..len])
+}
+
+fn close(turn: &Turn, input: &mut Input, place: &mut Place, output: &mut Output, end: &mut usize) {
+    let run = read_run(first_of(turn), input, place);
+    if is_good(place) {
+        put_answer_of(output, end, run.given, close_of(times_of(turn), run));
+    }
+}
+
 // What a step wants of the run.
 fn answer(
     wanted: usize,
@@ -152,6 +168,7 @@ fn answer(
         ASKED => run(turn, input, place, output, end),
         JUDGED => replay(turn, input, place, output, end),
         SHOWN => tell_example(turn, output, end, answer_of(step_of(turn))),
+        CLOSED => close(turn, input, place, output, end),
         _ => {}
     }
 }

@@ -1,5 +1,5 @@
-// The cases of the case format but the runs: walks, small functions, the snapshot at a time, rows apart; the close of a run and walks made again
-// and again, to time them; and the date of a time. Each is read, and its answer written in numbers.
+// The cases of the case format but the runs: walks, small functions, the snapshot at a time, rows apart; walks made again and again, to time
+// them; and the date of a time. Each is read, and its answer written in numbers.
 // Nothing is refused but what can not be read.
 // The page of the case format decides.
 use case_reader::run::RUN_GIVEN_MORE;
@@ -10,7 +10,6 @@ use tokens::output::Output;
 use tokens::wanted::CASE;
 use tokens::wanted::REPEATED;
 
-mod closes;
 pub mod dates;
 mod leaf;
 mod moments;
@@ -42,7 +41,7 @@ pub fn answer(
     }
 }
 
-// The same, so many times, of what is worth timing. Kind 0, with what follows the kind of a run, is the close by itself of that run's metadata.
+// The same, so many times, of what is worth timing and is no run.
 pub fn repeat(
     kind: u64,
     times: u64,
@@ -52,7 +51,6 @@ pub fn repeat(
     end: &mut usize,
 ) {
     match kind {
-        0 => closes::close(times, input, place, output, end),
         2 => walks::ids(times, input, place, output, end),
         3 => walks::records(times, input, place, output, end),
         _ => spoil(place, REPEATED, RUN_GIVEN_MORE),

@@ -4,8 +4,8 @@ use borrow.Author.Needs.{needs}
 use Rattle.records.specs.Blanks.{noUpdates}
 use Rattle.rules.specs.Run.{listSum}
 use Rattle.rules.specs.Kinds.{readUpdates}
-use Rattle.trials.proofs.closes.close_of.Statement.{statement}
-use Rattle.trials.proofs.closes.close_of.Tie as tie
+use Rattle.close_alone.proofs.close_of.Statement.{statement}
+use Rattle.close_alone.proofs.close_of.Tie as tie
 
 close-times-requires : tie.Need-close-times-requires
 unfolding noUpdates readUpdates listSum

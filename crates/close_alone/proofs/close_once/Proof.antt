@@ -13,9 +13,9 @@ use Rattle.close.specs.Facts.{additions, Told}
 use Rattle.refinement.specs.Standing.{Represents, termsOf}
 use Rattle.refinement.proofs.Beginning.{read-fields, read-snapshots, read-log, snapshots-ascend, laid-refs, laid-log, laid-schemas, laid-orders, schema-held, order-held}
 use Rattle.refinement.proofs.Closed.{handed, files-laid, files-fit, gone-fits, overfull-is, joins-fit, checks}
-use Rattle.trials.proofs.Before.{removal, asked, pieces, state, stands}
-use Rattle.trials.proofs.closes.close_once.Statement.{statement}
-use Rattle.trials.proofs.closes.close_once.Tie as tie
+use Rattle.close_alone.proofs.Before.{removal, asked, pieces, state, stands}
+use Rattle.close_alone.proofs.close_once.Statement.{statement}
+use Rattle.close_alone.proofs.close_once.Tie as tie
 
 module _ (c : tie.Start) where
   abbrev now-state : plain.State

@@ -9,9 +9,9 @@ use Rattle.tables.specs.Laid.{LaidSnapshots}
 use Rattle.builder.specs.Pieces.{idsOf}
 use Rattle.refinement.proofs.Beginning.{start-snapshots}
 use Rattle.refinement.proofs.Closed.{lent, lent-within, lent-slice}
-use Rattle.trials.proofs.Before.{asked}
-use Rattle.trials.proofs.closes.close_times.Statement.{statement}
-use Rattle.trials.proofs.closes.close_times.Tie as tie
+use Rattle.close_alone.proofs.Before.{asked}
+use Rattle.close_alone.proofs.close_times.Statement.{statement}
+use Rattle.close_alone.proofs.close_times.Tie as tie
 
 abbrev Inv-loop : tie.InvT-loop
 Inv-loop times m terms text held ids none closed₀ left₀ closed left = Unit {0}

@@ -1,4 +1,5 @@
-// The close of a run by itself, made again and again: of metadata as it is before the close, with nothing added and a removal logged.
+// The close of a run by itself, made again and again, to time it: of metadata as it is before the close, with nothing added and a removal logged.
+// A refusal gives the number that a run with an empty list would give.
 ghost use mathlib.Core.Path.{_≡_};
 ghost use mathlib.Core.List.{[]};
 ghost use Rattle.records.specs.Blanks.{noUpdates};
@@ -8,10 +9,6 @@ ghost use Rattle.start.specs.Start.{startNumber};
 use builder::builder::TableMetadataBuilder;
 use builder::builder::own_or;
 use builder::facts::ids_of;
-use case_reader::run::RUN;
-use case_reader::run::Run;
-use case_reader::run::read_run;
-use case_writer::run::put_answer;
 use close::close_number;
 use close::files::is_overfull;
 use close::files::part;
@@ -28,12 +25,7 @@ use records::run::Answer;
 use records::run::RunTerms;
 use records::snapshot::SnapshotLog;
 use records::update::UpdateList;
-use slot_bounds::lent;
 use start::start_number;
-use tokens::input::Input;
-use tokens::input::Place;
-use tokens::input::is_good;
-use tokens::output::Output;
 
 // What the close of a run answers, but for the change log.
 struct Closed {
@@ -146,23 +138,6 @@ fn close_of(times: u64, m: TableMetadata, terms: RunTerms, text: &[u8]) -> Close
     close_times(times, m, terms, text)
 }
 
-fn lend(times: u64, run: Run) -> Closed {
-    let text = run.limit;
-    let bytes = text.bytes;
-    let slots: &[u8] = &bytes;
-    let len = lent(slots, text.len);
-    close_of(times, run.metadata, run.terms, &slots[..len])
-}
-
-pub fn close(
-    times: u64,
-    input: &mut Input,
-    place: &mut Place,
-    output: &mut Output,
-    end: &mut usize,
-) {
-    let run = read_run(RUN, input, place);
-    if is_good(place) {
-        put_answer(output, end, answer_of(lend(times, run)));
-    }
+pub fn close(times: u64, m: TableMetadata, terms: RunTerms, text: &[u8]) -> Answer {
+    answer_of(close_of(times, m, terms, text))
 }
