@@ -1,122 +1,140 @@
--- A tidy update is a blank one of its kind with the records that its kind uses.
+-- A tidy update is a blank one of its kind with the records that its kind uses, and so is each of its parts.
 use Prim.Native.Nat.{ℕ}
 use mathlib.Core.Path.{_≡_, refl, sym, ap, _∙_}
-use mathlib.Core.Bool.{Bool, true, false, cond, _||_, false≢true}
+use mathlib.Core.Bool.{Bool, true, false, cond, _||_}
 use mathlib.Core.List.{List, [], _∷_}
 use lib.Dec.{eqb}
-use lib.ListN.{length, replicate}
-use borrow.Author.Tests.{eq-eqb, eqb-true}
-use Rattle.records.specs.Blanks.{noUpdate, noSnapshotId, noSnapshotIds, noSchemaId, noSchemaIds, noLocation}
+use Rattle.records.specs.Blanks.{noFieldsPart, noSnapshotsPart, noRef, noSchemasPart, noSortOrdersPart, noStatisticsPart}
+use Rattle.records.specs.declared.part.FieldsPart.{FieldsPart}
+use Rattle.records.specs.declared.part.SnapshotsPart.{SnapshotsPart}
+use Rattle.records.specs.declared.part.SchemasPart.{SchemasPart}
+use Rattle.records.specs.declared.part.SortOrdersPart.{SortOrdersPart}
+use Rattle.records.specs.declared.part.StatisticsPart.{StatisticsPart}
+use Rattle.records.specs.declared.reference.NamedRef.{NamedRef}
 use Rattle.records.specs.declared.update.TableUpdate.{TableUpdate}
-use Rattle.records.specs.declared.text.Location.{Location}
-use Rattle.records.specs.declared.snapshot.SnapshotIds.{SnapshotIds}
-use Rattle.records.specs.declared.schema.SchemaIds.{SchemaIds}
-use Rattle.rules.specs.Words.{any, all}
+use Rattle.rules.specs.Words.{any}
 use Rattle.rules.specs.WellFormed.{updateFormed}
-use Rattle.rules.specs.Capacities.{locationRoom, removalRoom}
-use Rattle.rules.specs.Blanks.{isZero, isZeroZ, isBlankLocation, isBlankSnapshot, isBlankSnapshotId, isBlankSnapshotIds, isBlankRefName, isBlankReference, isBlankSchema, isBlankSchemaId, isBlankSchemaIds, isBlankSortOrder, isBlankStatisticsFile}
-use Rattle.rules.specs.Kinds.{usedBy, isUnusedBlank, isUsedTidy, isTidyUpdate, readKind, readUpdate, assignUuidKind, upgradeFormatVersionKind, setLocationKind, addSnapshotKind, setBranchSnapshotKind, removeSnapshotsKind, setRefKind, removeRefKind, addSchemaKind, setCurrentSchemaKind, removeSchemasKind, addSortOrderKind, setDefaultSortOrderKind, setStatisticsKind, removeStatisticsKind, setPartitionStatisticsKind, removePartitionStatisticsKind}
-use Rattle.rules.proofs.Checks.{both, and-left, by-either, parts}
-use Rattle.rules.proofs.Relaid.{zero, zeroZ, unused, blank-ref-name, blank-snapshot, blank-reference, blank-schema, blank-sort-order, blank-statistics-file}
-
--- ---- blank records
-
-no-location : (t : Location) → isBlankLocation t ≡ true → t ≡ noLocation
-no-location t e = let k = unused 0 isZero zero locationRoom (t .len) (t .bytes) e in λ i. record { bytes = k .0 i; len = k .1 i }
-
-no-snapshot-ids : (t : SnapshotIds) → isBlankSnapshotIds t ≡ true → t ≡ noSnapshotIds
-unfolding isBlankSnapshotIds
-no-snapshot-ids t e =
-    let k = unused noSnapshotId isBlankSnapshotId (λ x z. λ i. record { 0 = zeroZ (x .0) z i }) removalRoom (t .count) (t .items) e in
-    λ i. record { items = k .0 i; count = k .1 i }
-
-no-schema-ids : (t : SchemaIds) → isBlankSchemaIds t ≡ true → t ≡ noSchemaIds
-unfolding isBlankSchemaIds
-no-schema-ids t e =
-    let k = unused noSchemaId isBlankSchemaId (λ x z. λ i. record { 0 = zeroZ (x .0) z i }) removalRoom (t .count) (t .items) e in
-    λ i. record { items = k .0 i; count = k .1 i }
-
-no-bytes : (l : List ℕ) (n : ℕ) → length l ≡ n → all isZero l ≡ true → l ≡ replicate n 0
-no-bytes l n h e = unused 0 isZero zero n 0 l (both refl (both (eq-eqb (length l) n h) e)) .0
+use Rattle.rules.specs.Blanks.{isZero, isZeroZ, isBlankUuid, isTidyText, isBlankText, isTidySnapshot, isBlankSnapshot, isTidySnapshotIds, isBlankSnapshotIds, isTidyRefName, isBlankRefName, isTidyReference, isBlankReference, isTidySchema, isBlankSchema, isTidySchemaIds, isBlankSchemaIds, isTidySortOrder, isBlankSortOrder, isTidyStatisticsFile, isBlankStatisticsFile}
+use Rattle.rules.specs.Kinds.{usedBy, fitsKinds, isTidyFieldsPart, isTidySnapshotsPart, isTidyRefsPart, isTidySchemasPart, isTidySortOrdersPart, isTidyStatisticsPart, isTidyUpdate, readKind, readUpdate, uuidKinds, versionKinds, locationKinds, snapshotKinds, snapshotIdsKinds, refNameKinds, referenceKinds, schemaKinds, schemaIdKinds, schemaIdsKinds, sortOrderKinds, sortOrderIdKinds, statisticsFileKinds, statisticsIdKinds}
+use Rattle.rules.proofs.Checks.{and-left, parts}
+use Rattle.rules.proofs.Slots.Relaid.{zero, zeroZ, blank-uuid, blank-text, blank-ref-name, blank-snapshot, blank-snapshot-ids, blank-reference, blank-schema, blank-schema-ids, blank-sort-order, blank-statistics-file}
+use Rattle.builder.proofs.Parts.{tidy-parts}
 
 -- ---- by the kind
 
--- a record that the kind uses, or its blank
 module _ {A : Type 0} (kinds : List ℕ) where
+  -- a record that the kind uses, or its blank
   abbrev used : ℕ → A → A → A
   used kind x blank = cond (any (eqb kind) kinds) x blank
 
-  used-is : (kind : ℕ) (isBlank : Bool) (x blank : A) → (isBlank ≡ true → x ≡ blank) → usedBy kinds kind isBlank ≡ true → x ≡ used kind x blank
-  used-is kind isBlank x blank f e = go (any (eqb kind) kinds) e
+  used-is : (kind : ℕ) (isBlank : Bool) {x blank : A} → (isBlank ≡ true → x ≡ blank) → usedBy kinds kind isBlank ≡ true → x ≡ used kind x blank
+  used-is kind isBlank {x} {blank} f e = go (any (eqb kind) kinds) e
     where
       go : (b : Bool) → (b || isBlank) ≡ true → x ≡ cond b x blank
       go true e = refl
       go false e = f e
 
--- the update's records by a kind: those that it uses, and the others blank
-abbrev pub byKind : ℕ → TableUpdate → TableUpdate
-byKind k u =
-    record {
-      kind = k;
-      uuid = used (assignUuidKind ∷ []) k (u .uuid) (noUpdate .uuid);
-      «format_version» = used (upgradeFormatVersionKind ∷ []) k (u .«format_version») (noUpdate .«format_version»);
-      location = used (setLocationKind ∷ []) k (u .location) (noUpdate .location);
-      snapshot = used (addSnapshotKind ∷ setBranchSnapshotKind ∷ []) k (u .snapshot) (noUpdate .snapshot);
-      «snapshot_ids» = used (removeSnapshotsKind ∷ []) k (u .«snapshot_ids») (noUpdate .«snapshot_ids»);
-      «ref_name» = used (setBranchSnapshotKind ∷ setRefKind ∷ removeRefKind ∷ []) k (u .«ref_name») (noUpdate .«ref_name»);
-      reference = used (setRefKind ∷ []) k (u .reference) (noUpdate .reference);
-      schema = used (addSchemaKind ∷ []) k (u .schema) (noUpdate .schema);
-      «schema_id» = used (setCurrentSchemaKind ∷ []) k (u .«schema_id») (noUpdate .«schema_id»);
-      «schema_ids» = used (removeSchemasKind ∷ []) k (u .«schema_ids») (noUpdate .«schema_ids»);
-      «sort_order» = used (addSortOrderKind ∷ []) k (u .«sort_order») (noUpdate .«sort_order»);
-      «sort_order_id» = used (setDefaultSortOrderKind ∷ []) k (u .«sort_order_id») (noUpdate .«sort_order_id»);
-      statistics = used (setStatisticsKind ∷ setPartitionStatisticsKind ∷ []) k (u .statistics) (noUpdate .statistics);
-      «statistics_id» = used (removeStatisticsKind ∷ removePartitionStatisticsKind ∷ []) k (u .«statistics_id») (noUpdate .«statistics_id»);
+  fits-is : (kind : ℕ) (isBlank isTidy : Bool) {x blank : A} → (isBlank ≡ true → x ≡ blank) → fitsKinds kinds kind isBlank isTidy ≡ true → x ≡ used kind x blank
+  fits-is kind isBlank isTidy f e = used-is kind isBlank f (and-left (usedBy kinds kind isBlank) isTidy e)
+
+-- ---- the parts: the records that a kind uses, and the others blank
+
+abbrev fieldsBy : ℕ → FieldsPart → FieldsPart
+fieldsBy k p = record { uuid = used uuidKinds k (p .uuid) (noFieldsPart .uuid); «format_version» = used versionKinds k (p .«format_version») (noFieldsPart .«format_version»); location = used locationKinds k (p .location) (noFieldsPart .location) }
+
+own-fields : (k : ℕ) (p : FieldsPart) → isTidyFieldsPart k p ≡ true → p ≡ fieldsBy k p
+unfolding isTidyFieldsPart noFieldsPart
+own-fields k p e =
+    let h = parts (usedBy uuidKinds k (isBlankUuid (p .uuid))) (usedBy versionKinds k (isZero (p .«format_version»)) ∷ fitsKinds locationKinds k (isBlankText (p .location)) (isTidyText (p .location)) ∷ []) e in
+    λ i. record {
+      uuid = used-is uuidKinds k (isBlankUuid (p .uuid)) (blank-uuid (p .uuid)) (h .0) i;
+      «format_version» = used-is versionKinds k (isZero (p .«format_version»)) (zero (p .«format_version»)) (h .1 .0) i;
+      location = fits-is locationKinds k (isBlankText (p .location)) (isTidyText (p .location)) (blank-text (p .location)) (h .1 .1 .0) i;
     }
 
-own-kind : (u : TableUpdate) → length (u .uuid) ≡ 16 → isUnusedBlank u ≡ true → u ≡ byKind (u .kind) u
-unfolding isUnusedBlank noUpdate
-own-kind u n e =
-    let k = u .kind in
-    let h =
-    parts (usedBy (assignUuidKind ∷ []) k (all isZero (u .uuid)))
-    (usedBy (upgradeFormatVersionKind ∷ []) k (isZero (u .«format_version»))
-    ∷ usedBy (setLocationKind ∷ []) k (isBlankLocation (u .location))
-    ∷ usedBy (addSnapshotKind ∷ setBranchSnapshotKind ∷ []) k (isBlankSnapshot (u .snapshot))
-    ∷ usedBy (removeSnapshotsKind ∷ []) k (isBlankSnapshotIds (u .«snapshot_ids»))
-    ∷ usedBy (setBranchSnapshotKind ∷ setRefKind ∷ removeRefKind ∷ []) k (isBlankRefName (u .«ref_name»))
-    ∷ usedBy (setRefKind ∷ []) k (isBlankReference (u .reference))
-    ∷ usedBy (addSchemaKind ∷ []) k (isBlankSchema (u .schema))
-    ∷ usedBy (setCurrentSchemaKind ∷ []) k (isZeroZ (u .«schema_id» .0))
-    ∷ usedBy (removeSchemasKind ∷ []) k (isBlankSchemaIds (u .«schema_ids»))
-    ∷ usedBy (addSortOrderKind ∷ []) k (isBlankSortOrder (u .«sort_order»))
-    ∷ usedBy (setDefaultSortOrderKind ∷ []) k (isZeroZ (u .«sort_order_id» .0))
-    ∷ usedBy (setStatisticsKind ∷ setPartitionStatisticsKind ∷ []) k (isBlankStatisticsFile (u .statistics))
-    ∷ usedBy (removeStatisticsKind ∷ removePartitionStatisticsKind ∷ []) k (isZeroZ (u .«statistics_id» .0))
-    ∷ [])
-    e in
+abbrev snapshotsBy : ℕ → SnapshotsPart → SnapshotsPart
+snapshotsBy k p = record { added = used snapshotKinds k (p .added) (noSnapshotsPart .added); removed = used snapshotIdsKinds k (p .removed) (noSnapshotsPart .removed) }
+
+own-snapshots : (k : ℕ) (p : SnapshotsPart) → isTidySnapshotsPart k p ≡ true → p ≡ snapshotsBy k p
+unfolding isTidySnapshotsPart noSnapshotsPart
+own-snapshots k p e =
+    let h = parts (fitsKinds snapshotKinds k (isBlankSnapshot (p .added)) (isTidySnapshot (p .added))) (fitsKinds snapshotIdsKinds k (isBlankSnapshotIds (p .removed)) (isTidySnapshotIds (p .removed)) ∷ []) e in
     λ i. record {
-      kind = k;
-      uuid = used-is (assignUuidKind ∷ []) k _ (u .uuid) (noUpdate .uuid) (no-bytes (u .uuid) 16 n) (h .0) i;
-      «format_version» = used-is (upgradeFormatVersionKind ∷ []) k _ (u .«format_version») 0 (zero (u .«format_version»)) (h .1 .0) i;
-      location = used-is (setLocationKind ∷ []) k _ (u .location) (noUpdate .location) (no-location (u .location)) (h .1 .1 .0) i;
-      snapshot = used-is (addSnapshotKind ∷ setBranchSnapshotKind ∷ []) k _ (u .snapshot) (noUpdate .snapshot) (blank-snapshot (u .snapshot)) (h .1 .1 .1 .0) i;
-      «snapshot_ids» = used-is (removeSnapshotsKind ∷ []) k _ (u .«snapshot_ids») (noUpdate .«snapshot_ids») (no-snapshot-ids (u .«snapshot_ids»)) (h .1 .1 .1 .1 .0) i;
-      «ref_name» = used-is (setBranchSnapshotKind ∷ setRefKind ∷ removeRefKind ∷ []) k _ (u .«ref_name») (noUpdate .«ref_name») (blank-ref-name (u .«ref_name»)) (h .1 .1 .1 .1 .1 .0) i;
-      reference = used-is (setRefKind ∷ []) k _ (u .reference) (noUpdate .reference) (blank-reference (u .reference)) (h .1 .1 .1 .1 .1 .1 .0) i;
-      schema = used-is (addSchemaKind ∷ []) k _ (u .schema) (noUpdate .schema) (blank-schema (u .schema)) (h .1 .1 .1 .1 .1 .1 .1 .0) i;
-      «schema_id» = used-is (setCurrentSchemaKind ∷ []) k _ (u .«schema_id») (noUpdate .«schema_id») (λ z. λ j. record { 0 = zeroZ (u .«schema_id» .0) z j }) (h .1 .1 .1 .1 .1 .1 .1 .1 .0) i;
-      «schema_ids» = used-is (removeSchemasKind ∷ []) k _ (u .«schema_ids») (noUpdate .«schema_ids») (no-schema-ids (u .«schema_ids»)) (h .1 .1 .1 .1 .1 .1 .1 .1 .1 .0) i;
-      «sort_order» = used-is (addSortOrderKind ∷ []) k _ (u .«sort_order») (noUpdate .«sort_order») (blank-sort-order (u .«sort_order»)) (h .1 .1 .1 .1 .1 .1 .1 .1 .1 .1 .0) i;
-      «sort_order_id» = used-is (setDefaultSortOrderKind ∷ []) k _ (u .«sort_order_id») (noUpdate .«sort_order_id») (λ z. λ j. record { 0 = zeroZ (u .«sort_order_id» .0) z j }) (h .1 .1 .1 .1 .1 .1 .1 .1 .1 .1 .1 .0) i;
-      statistics = used-is (setStatisticsKind ∷ setPartitionStatisticsKind ∷ []) k _ (u .statistics) (noUpdate .statistics) (blank-statistics-file (u .statistics)) (h .1 .1 .1 .1 .1 .1 .1 .1 .1 .1 .1 .1 .0) i;
-      «statistics_id» = used-is (removeStatisticsKind ∷ removePartitionStatisticsKind ∷ []) k _ (u .«statistics_id») (noUpdate .«statistics_id») (λ z. λ j. record { 0 = zeroZ (u .«statistics_id» .0) z j }) (h .1 .1 .1 .1 .1 .1 .1 .1 .1 .1 .1 .1 .1 .0) i;
+      added = fits-is snapshotKinds k (isBlankSnapshot (p .added)) (isTidySnapshot (p .added)) (blank-snapshot (p .added)) (h .0) i;
+      removed = fits-is snapshotIdsKinds k (isBlankSnapshotIds (p .removed)) (isTidySnapshotIds (p .removed)) (blank-snapshot-ids (p .removed)) (h .1 .0) i;
+    }
+
+abbrev refsBy : ℕ → NamedRef → NamedRef
+refsBy k p = record { name = used refNameKinds k (p .name) (noRef .name); reference = used referenceKinds k (p .reference) (noRef .reference) }
+
+own-refs : (k : ℕ) (p : NamedRef) → isTidyRefsPart k p ≡ true → p ≡ refsBy k p
+unfolding isTidyRefsPart
+own-refs k p e =
+    let h = parts (fitsKinds refNameKinds k (isBlankRefName (p .name)) (isTidyRefName (p .name))) (fitsKinds referenceKinds k (isBlankReference (p .reference)) (isTidyReference (p .reference)) ∷ []) e in
+    λ i. record {
+      name = fits-is refNameKinds k (isBlankRefName (p .name)) (isTidyRefName (p .name)) (blank-ref-name (p .name)) (h .0) i;
+      reference = fits-is referenceKinds k (isBlankReference (p .reference)) (isTidyReference (p .reference)) (blank-reference (p .reference)) (h .1 .0) i;
+    }
+
+abbrev schemasBy : ℕ → SchemasPart → SchemasPart
+schemasBy k p = record { added = used schemaKinds k (p .added) (noSchemasPart .added); chosen = used schemaIdKinds k (p .chosen) (noSchemasPart .chosen); removed = used schemaIdsKinds k (p .removed) (noSchemasPart .removed) }
+
+own-schemas : (k : ℕ) (p : SchemasPart) → isTidySchemasPart k p ≡ true → p ≡ schemasBy k p
+unfolding isTidySchemasPart noSchemasPart
+own-schemas k p e =
+    let h = parts (fitsKinds schemaKinds k (isBlankSchema (p .added)) (isTidySchema (p .added))) (usedBy schemaIdKinds k (isZeroZ (p .chosen .0)) ∷ fitsKinds schemaIdsKinds k (isBlankSchemaIds (p .removed)) (isTidySchemaIds (p .removed)) ∷ []) e in
+    λ i. record {
+      added = fits-is schemaKinds k (isBlankSchema (p .added)) (isTidySchema (p .added)) (blank-schema (p .added)) (h .0) i;
+      chosen = used-is schemaIdKinds k (isZeroZ (p .chosen .0)) (λ z. λ j. record { 0 = zeroZ (p .chosen .0) z j }) (h .1 .0) i;
+      removed = fits-is schemaIdsKinds k (isBlankSchemaIds (p .removed)) (isTidySchemaIds (p .removed)) (blank-schema-ids (p .removed)) (h .1 .1 .0) i;
+    }
+
+abbrev ordersBy : ℕ → SortOrdersPart → SortOrdersPart
+ordersBy k p = record { added = used sortOrderKinds k (p .added) (noSortOrdersPart .added); chosen = used sortOrderIdKinds k (p .chosen) (noSortOrdersPart .chosen) }
+
+own-orders : (k : ℕ) (p : SortOrdersPart) → isTidySortOrdersPart k p ≡ true → p ≡ ordersBy k p
+unfolding isTidySortOrdersPart noSortOrdersPart
+own-orders k p e =
+    let h = parts (fitsKinds sortOrderKinds k (isBlankSortOrder (p .added)) (isTidySortOrder (p .added))) (usedBy sortOrderIdKinds k (isZeroZ (p .chosen .0)) ∷ []) e in
+    λ i. record {
+      added = fits-is sortOrderKinds k (isBlankSortOrder (p .added)) (isTidySortOrder (p .added)) (blank-sort-order (p .added)) (h .0) i;
+      chosen = used-is sortOrderIdKinds k (isZeroZ (p .chosen .0)) (λ z. λ j. record { 0 = zeroZ (p .chosen .0) z j }) (h .1 .0) i;
+    }
+
+abbrev statisticsBy : ℕ → StatisticsPart → StatisticsPart
+statisticsBy k p = record { file = used statisticsFileKinds k (p .file) (noStatisticsPart .file); removed = used statisticsIdKinds k (p .removed) (noStatisticsPart .removed) }
+
+own-statistics : (k : ℕ) (p : StatisticsPart) → isTidyStatisticsPart k p ≡ true → p ≡ statisticsBy k p
+unfolding isTidyStatisticsPart noStatisticsPart
+own-statistics k p e =
+    let h = parts (fitsKinds statisticsFileKinds k (isBlankStatisticsFile (p .file)) (isTidyStatisticsFile (p .file))) (usedBy statisticsIdKinds k (isZeroZ (p .removed .0)) ∷ []) e in
+    λ i. record {
+      file = fits-is statisticsFileKinds k (isBlankStatisticsFile (p .file)) (isTidyStatisticsFile (p .file)) (blank-statistics-file (p .file)) (h .0) i;
+      removed = used-is statisticsIdKinds k (isZeroZ (p .removed .0)) (λ z. λ j. record { 0 = zeroZ (p .removed .0) z j }) (h .1 .0) i;
+    }
+
+-- ---- the update
+
+abbrev pub byKind : ℕ → TableUpdate → TableUpdate
+byKind k u = record { kind = k; fields = fieldsBy k (u .fields); snapshots = snapshotsBy k (u .snapshots); refs = refsBy k (u .refs); schemas = schemasBy k (u .schemas); «sort_orders» = ordersBy k (u .«sort_orders»); statistics = statisticsBy k (u .statistics) }
+
+own-kind : (u : TableUpdate) → isTidyUpdate u ≡ true → u ≡ byKind (u .kind) u
+own-kind u e =
+    let h = tidy-parts u e in
+    λ i. record {
+      kind = u .kind;
+      fields = own-fields (u .kind) (u .fields) (h .fields) i;
+      snapshots = own-snapshots (u .kind) (u .snapshots) (h .snapshots) i;
+      refs = own-refs (u .kind) (u .refs) (h .refs) i;
+      schemas = own-schemas (u .kind) (u .schemas) (h .schemas) i;
+      «sort_orders» = own-orders (u .kind) (u .«sort_orders») (h .orders) i;
+      statistics = own-statistics (u .kind) (u .statistics) (h .statistics) i;
     }
 
 -- a tidy update of a kind
-module _ (u : TableUpdate) (n : length (u .uuid) ≡ 16) (e : isTidyUpdate u ≡ true) (k : ℕ) (q : u .kind ≡ k) where
+module _ (u : TableUpdate) (e : isTidyUpdate u ≡ true) (k : ℕ) (q : u .kind ≡ k) where
   pub of-kind : u ≡ byKind k u
-  of-kind = own-kind u n (and-left (isUnusedBlank u) (isUsedTidy u) e) ∙ ap (λ (x : ℕ). byKind x u) q
+  of-kind = own-kind u e ∙ ap (λ (x : ℕ). byKind x u) q
 
   pub read-kind : readUpdate u ≡ readKind (byKind k u)
   unfolding readUpdate
@@ -124,11 +142,3 @@ module _ (u : TableUpdate) (n : length (u .uuid) ≡ 16) (e : isTidyUpdate u ≡
 
   pub formed-kind : updateFormed (readKind u) ≡ true → updateFormed (readKind (byKind k u)) ≡ true
   formed-kind f = ap (λ (x : TableUpdate). updateFormed (readKind x)) (sym of-kind) ∙ f
-
--- ---- one of several kinds
-
-pub not-first : (k a : ℕ) (rest : List ℕ) → (k ≡ a → ⊥) → any (eqb k) (a ∷ rest) ≡ true → any (eqb k) rest ≡ true
-not-first k a rest n h = by-either (eqb k a) (any (eqb k) rest) (λ e. absurd (n (eqb-true k a e))) (λ e. e) h
-
-pub only-one : (k a : ℕ) → any (eqb k) (a ∷ []) ≡ true → k ≡ a
-only-one k a h = by-either (eqb k a) false (λ e. eqb-true k a e) (λ e. absurd (false≢true e)) h

@@ -1,39 +1,85 @@
--- A new id is the highest one's successor: it fits where the highest is not the type's largest, and none of the held ones has it.
-use Prim.Native.Nat.{zero, suc, _^_, _-_, _<_}
-use mathlib.Core.Path.{_≡_, refl, sym, ap, _∙_}
-use mathlib.Core.Bool.{true, false, true≢false}
+-- The id that an added one gets: it fits, and where it is new none of the held ones has it.
+use Prim.Native.Nat.{ℕ, zero, suc, _^_, _-_}
+use mathlib.Core.Path.{_≡_, refl, sym, ap, subst, _∙_}
+use mathlib.Core.Bool.{Bool, true, false, not, true≢false}
 use mathlib.Core.List.{List, [], _∷_, map}
+use mathlib.Core.Option.{Option, none, some}
 use native.Mathlib.Omega.{arith}
-use borrow.Author.Tests.{eqb-false, ltb-true, ltb-false, lt-ltb}
+use borrow.Author.Tests.{eq-eqb, ne-eqb, ltb-true, ltb-false, lt-ltb, not-false}
 use borrow.Table.Steps.{cases}
-use lib.Dec.{ltb}
-use lib.IntN.{ℤ, pos, negsuc, sucℤ, _+ℤ_, +ℤ-one}
+use lib.Dec.{ltb, leb·suc-suc}
+use lib.IntN.{ℤ, pos, negsuc, sucℤ}
+use lib.ListN.{length, getD}
 use lib.Signed.{ltZ}
 use lib.Pow.{pow-pos}
 use mir.Syntax.{Width}
-use mir.Val.{SFits, hbits, toZ, ofZ}
-use mir.Facts.{toZ-ofZ}
-use Rattle.rules.specs.Words.{eqZ, larger, any, highest}
+use mir.Val.{SFits, hbits}
+use Rattle.rules.specs.Words.{eqZ, larger, any, first, highest}
+use Rattle.rules.specs.Layout.{given}
+use Rattle.rules.proofs.Checks.{by-test}
 use Rattle.rules.proofs.Orders.{numbers-ordered, numbers-told}
+use Rattle.search.specs.Places.{indexOf}
+use Rattle.search.proofs.Successors.{next-fits}
+use Rattle.builder.specs.Added.{FromIds, Numbered}
 
 -- ---- it fits
 
-next-fits : (w : Width) (z : ℤ) → SFits w z → eqZ z (pos (2 ^ hbits w - 1)) ≡ false → SFits w (sucℤ z)
-next-fits w (pos n) f e =
-    let h : n < 2 ^ hbits w = f .sfits in
-    cases (ltb (suc n) (2 ^ hbits w))
-    (λ t. record { sfits = ltb-true (suc n) (2 ^ hbits w) t })
-    (λ g. absurd (eqb-false n (2 ^ hbits w - 1) e (omega (arith, ltb-false (suc n) (2 ^ hbits w) g))))
-next-fits w (negsuc zero) f e = record { sfits = pow-pos (hbits w) }
-next-fits w (negsuc (suc n)) f e = record { sfits = omega (arith, f .sfits) }
+module _ (w : Width) where
+  abbrev top : ℤ
+  top = pos (2 ^ hbits w - 1)
 
--- the sum as the code forms it, of the number read from its bits
-module _ (w : Width) (z : ℤ) (f : SFits w z) (e : eqZ z (pos (2 ^ hbits w - 1)) ≡ false) where
-  pub sum-fits : SFits w (toZ w (ofZ w z) +ℤ pos 1)
-  sum-fits = rw (toZ-ofZ f, +ℤ-one z) (next-fits w z f e)
+  top-fits : SFits w top
+  top-fits = record { sfits = omega (arith, pow-pos (hbits w)) }
 
-  pub sum-next : toZ w (ofZ w (toZ w (ofZ w z) +ℤ pos 1)) ≡ sucℤ z
-  sum-next = toZ-ofZ sum-fits ∙ rw (toZ-ofZ f) (+ℤ-one z)
+  -- what fits is not below the largest exactly if it is the largest
+  at-largest : (z : ℤ) → SFits w z → not (ltZ z top) ≡ eqZ z top
+  at-largest (pos n) f =
+      let m = 2 ^ hbits w - 1 in
+      cases (ltb n m)
+      (λ t. rw t (sym (ne-eqb n m (λ q. omega (arith, ltb-true n m t)))))
+      (λ e. rw e (sym (eq-eqb n m (omega (arith, ltb-false n m e, f .sfits)))))
+  at-largest (negsuc n) f = refl
+
+  pub larger-fits : (a b : ℤ) → SFits w a → SFits w b → SFits w (larger a b)
+  larger-fits a b f g = by-test (λ (z : ℤ). SFits w z) (ltZ a b) (λ t. g) (λ e. f)
+
+  pub highest-fits : (l : List ℤ) → ((k : ℕ) → SFits w (getD l k (pos 0))) → SFits w (highest l)
+  highest-fits [] f = record { sfits = pow-pos (hbits w) }
+  highest-fits (x ∷ l) f = larger-fits x (highest l) (f 0) (highest-fits l (λ k. f (suc k)))
+
+  module _ {ids : List ℤ} (fits : (k : ℕ) → SFits w (getD ids k (pos 0))) {place : ℕ} {last : Option ℤ} {found exhausted is-last : Bool} {id : ℤ} (g : FromIds ids place top last found exhausted is-last id) where
+    pub given-fits : SFits w id
+    given-fits =
+        let h = highest-fits ids fits in
+        subst (SFits w) (sym (g .gets))
+        (by-test (λ (z : ℤ). SFits w z) (ltb place (length ids)) (λ t. fits place)
+        (λ e. by-test (λ (z : ℤ). SFits w z) (ltZ (highest ids) top) (λ t. next-fits w (highest ids) top h top-fits t) (λ n. h)))
+
+    -- where an equal one is found, or none is, of the ids and the id by other names
+    pub numbered : {reused : Option ℤ} {ids′ : List ℤ} {last′ : Option ℤ} {id′ : ℤ} → ids ≡ ids′ → last ≡ last′ → id′ ≡ id → reused ≡ given (ltb place (length ids)) (getD ids place (pos 0))
+        → Numbered reused (eqZ (highest ids′) top) (sucℤ (highest ids′)) last′ found exhausted is-last id′
+    numbered e v q r =
+        let o = at-largest (highest ids) (highest-fits ids fits) in
+        rw (← e, ← v, q)
+        (record {
+          held = λ t. r ∙ rw (g .gets, sym (g .stands) ∙ t);
+          again = g .again;
+          new = λ f. r ∙ rw (sym (g .stands) ∙ f);
+          over = λ f. g .over f ∙ o;
+          gets = λ f n. let b : ltZ (highest ids) top ≡ true = not-false _ (o ∙ n) in g .gets ∙ rw (sym (g .stands) ∙ f, b);
+        })
+
+-- the id of the first that passes is that at its place among the ids
+pub reused-at : {A : Type 0} (p : A → Bool) (key : A → ℤ) (l : List A) {i : ℕ} → i ≡ indexOf p l → {ids : List ℤ} → ids ≡ map key l
+    → _≡_ {A = Option ℤ} (elim (first p l) [ none ↦ none | some x ↦ some (key x) ]) (given (ltb i (length ids)) (getD ids i (pos 0)))
+reused-at {A} p key l {i} q {ids} e = go l ∙ (λ j. given (ltb (sym q j) (length (sym e j))) (getD (sym e j) (sym q j) (pos 0)))
+  where
+    go : (l : List A) → _≡_ {A = Option ℤ} (elim (first p l) [ none ↦ none | some x ↦ some (key x) ]) (given (ltb (indexOf p l) (length (map key l))) (getD (map key l) (indexOf p l) (pos 0)))
+    go [] = refl
+    go (x ∷ l) =
+        cases (p x)
+        (λ t. rw (t, lt-ltb 0 (suc (length (map key l))) (omega arith)))
+        (λ f. rw (f, leb·suc-suc (suc (indexOf p l)) (length (map key l))) (go l))
 
 -- ---- none of the held ones has it
 

@@ -5,7 +5,6 @@ use mathlib.Core.Bool.{true}
 use mathlib.Core.List.{List, [], _∷_}
 use mathlib.Core.Option.{some}
 use native.Mathlib.Omega.{arith}
-use borrow.Table.Steps.{cases}
 use lib.Dec.{ltb}
 use lib.IntN.{ℤ}
 use lib.ListN.{length, getD}
@@ -16,6 +15,7 @@ use Rattle.rules.specs.WellFormed.{hasSnapshot, holdsSnapshot, snapshotBelow}
 use Rattle.rules.proofs.Tables.{pairs-read}
 use Rattle.search.specs.Places.{indexOf}
 use Rattle.search.proofs.Places.{index-below, eqZ-turned}
+use Rattle.tables.proofs.Keyed.{index-map}
 use Rattle.builder.specs.Pieces.{idsOf}
 
 -- ---- ids
@@ -23,8 +23,7 @@ use Rattle.builder.specs.Pieces.{idsOf}
 module _ (id : ℤ) where
   -- the place of an id among the ids of snapshots is that of the snapshot
   pub snapshot-place : (l : List Snapshot) → indexOf (λ x. eqZ x id) (idsOf l) ≡ indexOf (hasSnapshot id) l
-  snapshot-place [] = refl
-  snapshot-place (s ∷ l) = cases (eqZ (s .id) id) (λ t. rw t) (λ f. rw f (ap suc (snapshot-place l)))
+  snapshot-place l = index-map (λ x. eqZ x id) (λ (s : Snapshot). s .id) l
 
   -- which is held exactly if it has one
   pub snapshot-found : (l : List Snapshot) → ltb (indexOf (λ x. eqZ x id) (idsOf l)) (length l) ≡ holdsSnapshot l id

@@ -2,7 +2,7 @@
 use mathlib.Core.Path.{_≡_, ap, _∙_}
 use Rattle.rules.specs.Register.{State}
 use Rattle.rules.specs.Layout.{given, readFields}
-use Rattle.rules.proofs.Reread.{reread-fields}
+use Rattle.rules.proofs.Slots.Reread.{reread-fields}
 use Rattle.builder.specs.declared.builder.TableMetadataBuilder.{TableMetadataBuilder}
 use Rattle.builder.specs.Pieces.{laidBuilder}
 use Rattle.builder.proofs.Choices.{given-back}

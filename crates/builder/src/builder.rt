@@ -4,19 +4,19 @@ ghost use mathlib.Core.Bool.{cond};
 ghost use mathlib.Core.List.{[]};
 ghost use Prim.Native.Nat.{_≤_};
 ghost use lib.Dec.{eqb};
-ghost use lib.ListN.{length};
-ghost use Rattle.rules.specs.Words.{orElse, sameBytes};
-ghost use Rattle.rules.specs.Names.{trimmed as trimmedBytes};
+ghost use Rattle.records.specs.Blanks.{noFieldsPart};
+ghost use Rattle.rules.specs.Words.{orElse};
 ghost use Rattle.rules.specs.Capacities.{locationRoom};
 ghost use Rattle.rules.specs.Register.{State};
 ghost use Rattle.rules.specs.SingleUpdates.{assignUuid, upgradeFormatVersionChecks, upgradeFormatVersion, setLocation};
-ghost use Rattle.rules.specs.Layout.{given, readLocation, laidLocation};
-ghost use Rattle.rules.specs.Kinds.{ofKind, withUuid, withFormatVersion, withLocation, assignUuidKind, upgradeFormatVersionKind, setLocationKind};
+ghost use Rattle.rules.specs.Layout.{given, readText};
+ghost use Rattle.rules.specs.Kinds.{ofKind, withFieldsPart, withUuid, withFormatVersion, withLocation, assignUuidKind, upgradeFormatVersionKind, setLocationKind};
 ghost use Rattle.builder.specs.Pieces.{fresh, laidBuilder};
 ghost use Rattle.builder.specs.Answers.{Answers};
 use crate::checks::choose;
-use leaves::location::trim;
-use leaves::names::same_bytes;
+use crate::text::same_text;
+use crate::text::trimmed;
+use primitives::names::same_bytes;
 use records::counters::RowId;
 use records::counters::SchemaId;
 use records::counters::SortOrderId;
@@ -24,7 +24,7 @@ use records::counters::Time;
 use records::metadata::SingleFields;
 use records::replies::ACCEPTED;
 use records::replies::VERSION_LOWERED;
-use records::text::Location;
+use records::text::Text;
 
 pub struct TableMetadataBuilder {
     pub fields: SingleFields,
@@ -46,43 +46,8 @@ pub struct Changed {
 // The location is the trimmed one, as it is logged.
 pub struct LocationSet {
     pub logs: bool,
-    pub location: Location,
+    pub location: Text,
     pub builder: TableMetadataBuilder,
-}
-
-pub fn location_of(bytes: &[u8]) -> Location
-    requires { ⌜ length (now bytes) ≤ locationRoom ⌝ }
-    ensures { λ r. ⌜ r ≡ laidLocation (now (bytes .entry)) ⌝ }
-{
-    let mut r = Location::blank();
-    let mut i = 0;
-    while i < bytes.len() {
-        r.bytes[i] = bytes[i];
-        i += 1;
-    }
-    r.len = i;
-    r
-}
-
-fn trimmed(l: Location) -> Location
-    requires { ⌜ l .len ≤ locationRoom ⌝ }
-    ensures { λ r. ⌜ r ≡ laidLocation (trimmedBytes (readLocation l)) ⌝ }
-{
-    let n = l.len;
-    let b = l.bytes;
-    location_of(trim(&b[..n]))
-}
-
-fn same_location(a: Location, b: Location) -> bool
-    requires { ⌜ a .len ≤ locationRoom ⌝ }
-    requires { ⌜ b .len ≤ locationRoom ⌝ }
-    ensures { λ r. ⌜ r ≡ sameBytes (readLocation a) (readLocation b) ⌝ }
-{
-    let m = a.len;
-    let n = b.len;
-    let x = a.bytes;
-    let y = b.bytes;
-    same_bytes(&x[..m], &y[..n])
 }
 
 // Reaching version 3 sets the next row id to 0.
@@ -125,7 +90,7 @@ impl TableMetadataBuilder {
     }
 
     pub fn assign_uuid(self, uuid: [u8; 16]) -> Changed
-        ensures { λ r. ⌜ ((st : State) → self ≡ laidBuilder st → Answers [] st (assignUuid uuid st) (r .number) (r .logs) (r .builder) (withUuid uuid (ofKind assignUuidKind))) ⌝ }
+        ensures { λ r. ⌜ ((st : State) → self ≡ laidBuilder st → Answers [] st (assignUuid uuid st) (r .number) (r .logs) (r .builder) (withFieldsPart (withUuid uuid noFieldsPart) (ofKind assignUuidKind))) ⌝ }
     {
         let f = self.fields;
         let old = f.table_uuid;
@@ -142,7 +107,7 @@ impl TableMetadataBuilder {
     }
 
     pub fn upgrade_format_version(self, version: u8) -> Changed
-        ensures { λ r. ⌜ ((st : State) → self ≡ laidBuilder st → Answers (upgradeFormatVersionChecks version st) st (upgradeFormatVersion version st) (r .number) (r .logs) (r .builder) (withFormatVersion version (ofKind upgradeFormatVersionKind))) ⌝ }
+        ensures { λ r. ⌜ ((st : State) → self ≡ laidBuilder st → Answers (upgradeFormatVersionChecks version st) st (upgradeFormatVersion version st) (r .number) (r .logs) (r .builder) (withFieldsPart (withFormatVersion version noFieldsPart) (ofKind upgradeFormatVersionKind))) ⌝ }
     {
         let f = self.fields;
         let old = f.format_version;
@@ -163,15 +128,15 @@ impl TableMetadataBuilder {
         }
     }
 
-    pub fn set_location(self, location: Location) -> LocationSet
+    pub fn set_location(self, location: Text) -> LocationSet
         requires { ⌜ self .fields .location .len ≤ locationRoom ⌝ }
         requires { ⌜ location .len ≤ locationRoom ⌝ }
-        ensures { λ r. ⌜ ((st : State) → self ≡ laidBuilder st → Answers [] st (setLocation (readLocation location) st) 0 (r .logs) (r .builder) (withLocation (r .location) (ofKind setLocationKind))) ⌝ }
+        ensures { λ r. ⌜ ((st : State) → self ≡ laidBuilder st → Answers [] st (setLocation (readText location) st) 0 (r .logs) (r .builder) (withFieldsPart (withLocation (r .location) noFieldsPart) (ofKind setLocationKind))) ⌝ }
     {
         let f = self.fields;
         let old = f.location;
         let l = trimmed(location);
-        let same = same_location(l, old);
+        let same = same_text(l, old);
         let mut g = f;
         g.location = l;
         let mut b = self;

@@ -21,12 +21,3 @@ pub fn is_full(more: bool, count: usize, room: usize) -> bool
     }
     false
 }
-
-pub fn both(a: bool, b: bool) -> bool
-    ensures { λ r. ⌜ r ≡ (a && b) ⌝ }
-{
-    if a {
-        return b;
-    }
-    false
-}

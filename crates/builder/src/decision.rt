@@ -45,7 +45,7 @@ pub fn assign_uuid(b: TableMetadataBuilder, u: TableUpdate) -> Decision
     requires { ⌜ u .kind ≡ assignUuidKind ⌝ }
     ensures { λ r. ⌜ ((terms : Terms) (st : State) → b ≡ laidBuilder st → Decides terms u st r) ⌝ }
 {
-    let uuid = u.uuid;
+    let uuid = u.fields.uuid;
     let x = b.assign_uuid(uuid);
     let c = x.builder;
     decided(x.number, x.logs, c, u)
@@ -56,7 +56,7 @@ pub fn upgrade_format_version(b: TableMetadataBuilder, u: TableUpdate) -> Decisi
     requires { ⌜ u .kind ≡ upgradeFormatVersionKind ⌝ }
     ensures { λ r. ⌜ ((terms : Terms) (st : State) → b ≡ laidBuilder st → Decides terms u st r) ⌝ }
 {
-    let x = b.upgrade_format_version(u.format_version);
+    let x = b.upgrade_format_version(u.fields.format_version);
     let c = x.builder;
     decided(x.number, x.logs, c, u)
 }
@@ -69,11 +69,12 @@ pub fn set_location(b: TableMetadataBuilder, u: TableUpdate) -> Decision
     requires { ⌜ u .kind ≡ setLocationKind ⌝ }
     ensures { λ r. ⌜ ((terms : Terms) (st : State) → b ≡ laidBuilder st → Decides terms u st r) ⌝ }
 {
-    let location = u.location;
-    let x = b.set_location(location);
+    let mut fields = u.fields;
+    let x = b.set_location(fields.location);
     let c = x.builder;
     let trimmed = x.location;
+    fields.location = trimmed;
     let mut e = u;
-    e.location = trimmed;
+    e.fields = fields;
     decided(ACCEPTED, x.logs, c, e)
 }

@@ -3,5 +3,8 @@
 // Document 01, "Rules for each update", as the crate `rules` writes it in the files named for the updates.
 pub mod builder;
 pub mod checks;
+pub mod choice;
 pub mod decision;
 pub mod facts;
+pub mod single;
+pub mod text;

@@ -11,9 +11,9 @@ use crate::date::time_of;
 use crate::shift::ALL;
 use crate::shift::since_epoch;
 use crate::shift::since_year_one;
-use numbers::field::signed_of;
-use numbers::token::token_of;
 use records::counters::Time;
+use tokens::field::signed_of;
+use tokens::token::token_of;
 
 pub const DATE_TEXT: usize = 23;
 

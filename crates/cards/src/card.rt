@@ -1,8 +1,8 @@
 // A card: the single numbers of a record, of either sign and wide, its text and its list. What a record has not is blank.
-use fitting::with_slots;
-use records::capacities::FILE_NAME;
 use records::capacities::SCHEMA_FIELDS;
 use records::capacities::SORT_FIELDS;
+use records::capacities::TEXT;
+use slot_bounds::with_slots;
 
 pub const SIGNED: usize = 8;
 
@@ -10,7 +10,7 @@ pub const UNSIGNED: usize = 2;
 
 // A name, a location, a path or a uuid: its slots are the first so many of the bytes.
 pub struct Text {
-    pub bytes: [u8; FILE_NAME],
+    pub bytes: [u8; TEXT],
     pub slots: usize,
     pub len: usize,
 }
@@ -35,7 +35,7 @@ pub struct Card {
 impl Text {
     pub fn blank() -> Text {
         Text {
-            bytes: [0; FILE_NAME],
+            bytes: [0; TEXT],
             slots: 0,
             len: 0,
         }
@@ -92,8 +92,8 @@ pub fn wide(number: i32) -> i64 {
 
 // The bytes of a text of any of the types that hold one.
 pub fn text_of(slots: &[u8], len: usize) -> Text {
-    let mut bytes = [0u8; FILE_NAME];
-    let n = with_slots(slots.len(), FILE_NAME);
+    let mut bytes = [0u8; TEXT];
+    let n = with_slots(slots.len(), TEXT);
     let mut i = 0;
     while i < n {
         bytes[i] = slots[i];

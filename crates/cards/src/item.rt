@@ -3,9 +3,9 @@ use crate::card::Card;
 use crate::card::List;
 use crate::card::counted;
 use crate::card::number_at;
-use fitting::with_slots;
 use records::capacities::SCHEMA_FIELDS;
 use records::capacities::SORT_FIELDS;
+use slot_bounds::with_slots;
 
 // The kinds of items.
 const NONE: u8 = 0;

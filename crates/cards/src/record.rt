@@ -4,7 +4,6 @@ use crate::card::List;
 use crate::card::Text;
 use crate::card::text_of;
 use crate::card::wide;
-use fitting::with_slots;
 use records::capacities::REMOVALS;
 use records::capacities::SCHEMA_FIELDS;
 use records::capacities::SORT_FIELDS;
@@ -19,9 +18,8 @@ use records::snapshot::SnapshotIds;
 use records::snapshot::SnapshotLogEntry;
 use records::sort_order::SortOrder;
 use records::statistics::StatisticsFile;
-use records::text::FileName;
-use records::text::Location;
 use records::text::RefName;
+use slot_bounds::with_slots;
 
 // id, has_parent, parent, sequence, time, has_rows; first row, added rows
 pub fn snapshot(s: Snapshot) -> Card {
@@ -62,12 +60,12 @@ pub fn ref_name(name: RefName) -> Text {
     text_of(&bytes, name.len)
 }
 
-pub fn location(location: Location) -> Text {
+pub fn location(location: records::text::Text) -> Text {
     let bytes = location.bytes;
     text_of(&bytes, location.len)
 }
 
-fn file_name(name: FileName) -> Text {
+fn file_name(name: records::text::Text) -> Text {
     let bytes = name.bytes;
     text_of(&bytes, name.len)
 }

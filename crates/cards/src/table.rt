@@ -7,7 +7,6 @@ use crate::record::schema;
 use crate::record::snapshot;
 use crate::record::sort_order;
 use crate::record::statistics_file;
-use fitting::with_slots;
 use records::capacities::METADATA_LOG;
 use records::capacities::REFS;
 use records::capacities::SCHEMAS;
@@ -23,6 +22,7 @@ use records::snapshot::SnapshotLog;
 use records::snapshot::Snapshots;
 use records::sort_order::SortOrders;
 use records::statistics::StatisticsFiles;
+use slot_bounds::with_slots;
 
 pub const OF_SNAPSHOTS: usize = 0;
 

@@ -12,8 +12,8 @@ use crate::record::snapshot;
 use crate::record::snapshot_ids;
 use crate::record::sort_order;
 use crate::record::statistics_file;
-use fitting::with_slots;
 use records::capacities::UPDATES;
+use records::part::FieldsPart;
 use records::update::ADD_SCHEMA;
 use records::update::ADD_SNAPSHOT;
 use records::update::ADD_SORT_ORDER;
@@ -33,10 +33,11 @@ use records::update::SET_STATISTICS;
 use records::update::TableUpdate;
 use records::update::UPGRADE_FORMAT_VERSION;
 use records::update::UpdateList;
+use slot_bounds::with_slots;
 
 // uuid
-fn uuid(u: TableUpdate) -> Card {
-    let bytes = u.uuid;
+fn uuid(p: FieldsPart) -> Card {
+    let bytes = p.uuid;
     Card::of_number(0).with_text(text_of(&bytes, 16))
 }
 
@@ -44,12 +45,12 @@ fn uuid(u: TableUpdate) -> Card {
 fn early(u: TableUpdate) -> Card {
     let kind = u.kind;
     match kind {
-        ASSIGN_UUID => uuid(u),
-        UPGRADE_FORMAT_VERSION => Card::of_number(u.format_version as i64),
-        SET_LOCATION => Card::of_number(0).with_text(location(u.location)),
-        ADD_SNAPSHOT => snapshot(u.snapshot),
-        SET_BRANCH_SNAPSHOT => snapshot(u.snapshot).with_text(ref_name(u.ref_name)),
-        REMOVE_SNAPSHOTS => Card::of_number(0).with_list(snapshot_ids(u.snapshot_ids)),
+        ASSIGN_UUID => uuid(u.fields),
+        UPGRADE_FORMAT_VERSION => Card::of_number(u.fields.format_version as i64),
+        SET_LOCATION => Card::of_number(0).with_text(location(u.fields.location)),
+        ADD_SNAPSHOT => snapshot(u.snapshots.added),
+        SET_BRANCH_SNAPSHOT => snapshot(u.snapshots.added).with_text(ref_name(u.refs.name)),
+        REMOVE_SNAPSHOTS => Card::of_number(0).with_list(snapshot_ids(u.snapshots.removed)),
         _ => Card::of_number(kind as i64),
     }
 }
@@ -58,15 +59,15 @@ fn early(u: TableUpdate) -> Card {
 fn late(u: TableUpdate) -> Card {
     let kind = u.kind;
     match kind {
-        SET_REF => reference(u.reference).with_text(ref_name(u.ref_name)),
-        REMOVE_REF => Card::of_number(0).with_text(ref_name(u.ref_name)),
-        ADD_SCHEMA => schema(u.schema),
-        SET_CURRENT_SCHEMA => chosen(wide(u.schema_id.0)),
-        REMOVE_SCHEMAS => Card::of_number(0).with_list(schema_ids(u.schema_ids)),
-        ADD_SORT_ORDER => sort_order(u.sort_order),
-        SET_DEFAULT_SORT_ORDER => chosen(u.sort_order_id.0),
-        SET_STATISTICS | SET_PARTITION_STATISTICS => statistics_file(u.statistics),
-        REMOVE_STATISTICS | REMOVE_PARTITION_STATISTICS => Card::of_number(u.statistics_id.0),
+        SET_REF => reference(u.refs.reference).with_text(ref_name(u.refs.name)),
+        REMOVE_REF => Card::of_number(0).with_text(ref_name(u.refs.name)),
+        ADD_SCHEMA => schema(u.schemas.added),
+        SET_CURRENT_SCHEMA => chosen(wide(u.schemas.chosen.0)),
+        REMOVE_SCHEMAS => Card::of_number(0).with_list(schema_ids(u.schemas.removed)),
+        ADD_SORT_ORDER => sort_order(u.sort_orders.added),
+        SET_DEFAULT_SORT_ORDER => chosen(u.sort_orders.chosen.0),
+        SET_STATISTICS | SET_PARTITION_STATISTICS => statistics_file(u.statistics.file),
+        REMOVE_STATISTICS | REMOVE_PARTITION_STATISTICS => Card::of_number(u.statistics.removed.0),
         _ => Card::of_number(kind as i64),
     }
 }

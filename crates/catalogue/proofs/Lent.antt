@@ -31,8 +31,8 @@ module _ {M : Type 1} (𝓤 : URA M) (H : Heap 𝓤) (A : Atoms 𝓤) (W : Given
   array = tyArray (lone (R .mir)) n
 
   -- what the lender keeps: the way back, and the elements that were not lent
-  abbrev pub Kept : SProp 𝓤
-  Kept = sep 𝓤 (A .lent κ (partsF R (take k xs) b 0)) (sem 𝓤 H A (restF R k xs b))
+  abbrev pub StillLent : SProp 𝓤
+  StillLent = sep 𝓤 (A .lent κ (partsF R (take k xs) b 0)) (sem 𝓤 H A (restF R k xs b))
 
   abbrev pub Loan : Lifetime → GName → SProp 𝓤
   Loan ℓ γ = sep 𝓤 (LentShrs 𝓤 H A W R ℓ κ fullShare (take k xs) b 0 γ) (sem 𝓤 H A (restF R k xs b))
@@ -53,7 +53,7 @@ module _ {M : Type 1} (𝓤 : URA M) (H : Heap 𝓤) (A : Atoms 𝓤) (W : Given
       use1 W (later (some (λ (γ : GName). raw (LentShrs 𝓤 H A W R ℓ κ fullShare (take k xs) b 0 γ)))) (lends-shr-slice 𝓤 H A W R ℓ κ fullShare (take k xs) b 0 room) $
       await ! tt $ pick ! (λ γ. at-once ! $ show ! (Loan ℓ) γ $ done !)
 
-  pub front-back : length xs ≡ n → ent 𝓤 (sep 𝓤 (A .dead κ) Kept) (H .⇛ (H .room array b 0))
+  pub front-back : length xs ≡ n → ent 𝓤 (sep 𝓤 (A .dead κ) StillLent) (H .⇛ (H .room array b 0))
   front-back l =
       qed W (‵ (fdead κ) ∷ (‵ (flent κ (partsF R (take k xs) b 0)) ⊛ ‵ (restF R k xs b)) ∷ []) ∵ updating ! $
       move ! (1 ∷ []) $ split ! $ move ! (2 ∷ 0 ∷ []) $ lent-back ! tt $ fsplit ! $ drop ! $

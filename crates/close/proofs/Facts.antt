@@ -13,8 +13,8 @@ use Rattle.rules.specs.WellFormed.{hasSchema, hasOrder, fieldIds}
 use Rattle.rules.specs.ChangeLog.{addition, logsAddition, logsMain, logsRemoval}
 use Rattle.rules.specs.Layout.{readFields, readSnapshotLog, laidSnapshotLog}
 use Rattle.rules.specs.Close.{intermediates, isRebuilt, isMissing, isIntermediate, rebuilt, history, endsAt, endsElsewhere, isDefaultUnfit}
-use Rattle.rules.proofs.ReplayLists.{any-collect}
-use Rattle.rules.proofs.Reread.{reread-snapshot-log}
+use Rattle.rules.proofs.Replay.Lists.{any-collect}
+use Rattle.rules.proofs.Slots.Reread.{reread-snapshot-log}
 use Rattle.close.specs.Facts.{additions, intermediatesOf, isGone, isStaying, Told}
 use Rattle.close.specs.Answers.{HistoryOf, endsOff}
 use Rattle.close.specs.declared.history.History.{History}

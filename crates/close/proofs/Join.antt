@@ -11,7 +11,7 @@ use Rattle.records.specs.declared.counters.Time.{Time}
 use Rattle.records.specs.declared.metadata.MetadataLog.{MetadataLog}
 use Rattle.records.specs.declared.run.RunTerms.{RunTerms}
 use Rattle.rules.specs.Register.{Metadata, Terms}
-use Rattle.rules.specs.Layout.{given, readFileName, readMetadataLog}
+use Rattle.rules.specs.Layout.{given, readText, readMetadataLog}
 use Rattle.rules.specs.Limit.{limitGiven}
 use Rattle.rules.specs.Close.{joined, surplus, staying, expired}
 use Rattle.tables.specs.Laid.{LaidMetadataLog}
@@ -33,7 +33,7 @@ few false n k h = omega arith
 pub record Filed (t : Terms) (m : Metadata) (log : MetadataLog) (terms : RunTerms) (old : Time) (limit : ℕ) : Type 0 where
   pub laid : LaidMetadataLog log
   pub entries : readMetadataLog log ≡ m .metadataLog
-  pub name : given (terms .«has_file») (readFileName (terms .file)) ≡ t .file
+  pub name : given (terms .«has_file») (readText (terms .file)) ≡ t .file
   pub time : old .0 ≡ m .fields .lastUpdated
   pub most : limit ≡ limitGiven (t .limit)
   pub least : 1 ≤ limit
@@ -52,8 +52,8 @@ module _ {t : Terms} {m : Metadata} {log : MetadataLog} {terms : RunTerms} {old 
   withName : {o : Option (List ℕ)} → t .file ≡ o → joined t m ≡ elim o [ none ↦ m .metadataLog | some name ↦ m .metadataLog ++ (record { file = name; time = m .fields .lastUpdated } ∷ []) ]
   withName e = rw e
 
-  joined-as : (b : Bool) → given b (readFileName (terms .file)) ≡ t .file → joined t m ≡ readMetadataLog log ++ cond b (record { file = readFileName (terms .file); time = old .0 } ∷ []) []
-  joined-as true e = withName (sym e) ∙ (λ i. sym (q .entries) i ++ (record { file = readFileName (terms .file); time = sym (q .time) i } ∷ []))
+  joined-as : (b : Bool) → given b (readText (terms .file)) ≡ t .file → joined t m ≡ readMetadataLog log ++ cond b (record { file = readText (terms .file); time = old .0 } ∷ []) []
+  joined-as true e = withName (sym e) ∙ (λ i. sym (q .entries) i ++ (record { file = readText (terms .file); time = sym (q .time) i } ∷ []))
   joined-as false e = withName (sym e) ∙ sym (q .entries) ∙ sym (append-nil (readMetadataLog log))
 
   joined-is : joined t m ≡ readMetadataLog log ++ joining terms old

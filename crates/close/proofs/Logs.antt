@@ -11,7 +11,7 @@ use Rattle.rules.specs.Words.{keep}
 use Rattle.rules.specs.Register.{LogEntry}
 use Rattle.rules.specs.Layout.{readSnapshotLog, laidSnapshotLog, laidMetadataLog}
 use Rattle.rules.proofs.Tables.{keep-length}
-use Rattle.rules.proofs.Reread.{reread-snapshot-log}
+use Rattle.rules.proofs.Slots.Reread.{reread-snapshot-log}
 use Rattle.tables.specs.Laid.{LaidSnapshotLog}
 
 pub no-entries : noSnapshotLog ≡ laidSnapshotLog []

@@ -11,7 +11,7 @@ use lib.ListN.{length, getD, take, drop, drop-of-length-le, length-take, length-
 use lib.Seq.{drop-cons}
 use Rattle.rules.specs.Words.{any, keep, lastOf, afterLast, isEmpty}
 use Rattle.rules.proofs.Checks.{by-test, or-right, neither}
-use Rattle.rules.proofs.ReplayLists.{any-append}
+use Rattle.rules.proofs.Replay.Lists.{any-append}
 
 module _ {A : Type 0} (p : A → Bool) where
   module _ (l : List A) (i : ℕ) (d : A) where

@@ -12,7 +12,7 @@ use Rattle.records.specs.declared.«sort_order».SortOrders.{SortOrders}
 use Rattle.records.specs.declared.run.RunTerms.{RunTerms}
 use Rattle.rules.specs.Words.{ifSome}
 use Rattle.rules.specs.Register.{LogEntry, FileEntry, Metadata, Update}
-use Rattle.rules.specs.Layout.{readFields, readRefs, readSchemas, readSortOrders, laidSnapshotLog, readFileName}
+use Rattle.rules.specs.Layout.{readFields, readRefs, readSchemas, readSortOrders, laidSnapshotLog, readText}
 use Rattle.rules.specs.Close.{isRebuilt, history, endsAt}
 use Rattle.close.specs.declared.history.History.{History}
 
@@ -34,4 +34,4 @@ pub record Handed (p : Metadata) (f : SingleFields) (refs : Refs) (schemas : Sch
 
 -- the entry that joins the metadata log, if one does
 abbrev pub joining : RunTerms → Time → List FileEntry
-joining terms old = cond (terms .«has_file») (record { file = readFileName (terms .file); time = old .0 } ∷ []) []
+joining terms old = cond (terms .«has_file») (record { file = readText (terms .file); time = old .0 } ∷ []) []

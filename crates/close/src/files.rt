@@ -6,15 +6,15 @@ ghost use mathlib.Core.List.{_++_};
 ghost use lib.Dec.{ltb};
 ghost use lib.ListN.{take, drop};
 ghost use Rattle.rules.specs.Capacities.{metadataLogRoom};
-ghost use Rattle.rules.specs.Layout.{readFileName, laidFileName, readMetadataLog, laidMetadataLog};
+ghost use Rattle.rules.specs.Layout.{readMetadataLog, laidMetadataLog};
 ghost use Rattle.tables.specs.Laid.{LaidMetadataLog};
 ghost use Rattle.close.specs.Answers.{joining};
+use builder::text::clean;
 use records::capacities::METADATA_LOG;
 use records::counters::Time;
 use records::metadata::MetadataLog;
 use records::metadata::MetadataLogEntry;
 use records::run::RunTerms;
-use records::text::FileName;
 
 // How many entries expire of so many and the one that joins them.
 pub fn surplus(n: usize, joins: bool, limit: u64) -> usize
@@ -54,23 +54,6 @@ pub fn part(log: MetadataLog, from: usize, until: usize) -> MetadataLog
         i += 1;
         r.items[k] = e;
         r.count = k + 1;
-    }
-    r
-}
-
-// A name as it is held: blank past its length.
-fn clean(name: FileName) -> FileName
-    requires { ⌜ name .len ≤ 96 ⌝ }
-    ensures { λ r. ⌜ r ≡ laidFileName (readFileName name) ⌝ }
-{
-    let n = name.len;
-    let mut r = FileName::blank();
-    let mut i = 0;
-    while i < n {
-        let x = name.bytes[i];
-        r.bytes[i] = x;
-        i += 1;
-        r.len = i;
     }
     r
 }

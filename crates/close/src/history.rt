@@ -12,13 +12,13 @@ ghost use Rattle.rules.specs.Layout.{readFields, readLogEntry, readSnapshotLog,
 ghost use Rattle.tables.specs.Laid.{LaidSnapshotLog};
 ghost use Rattle.close.specs.Facts.{isSuperseded, intermediatesOf, isGone, isStaying, Told};
 ghost use Rattle.close.specs.Answers.{HistoryOf};
+use equality::ids::same_snapshot;
 use records::counters::SnapshotId;
 use records::metadata::SingleFields;
 use records::snapshot::SnapshotLog;
 use records::snapshot::SnapshotLogEntry;
 use search::position;
 use tables::ids::is_held;
-use tables::ids::same_snapshot;
 
 // The history, and whether it was rebuilt.
 pub struct History {

@@ -1,4 +1,4 @@
-// The close of a run: what becomes of the snapshot log and of the metadata log, the checks 20 to 23, the last update.
+// The close of a run: what becomes of the snapshot log and of the metadata log, and the checks 20 to 23.
 // Document 01 decides, as the crate `rules` writes it in Close.
 ghost use mathlib.Core.Path.{_≡_};
 ghost use mathlib.Core.Bool.{true};
@@ -6,17 +6,15 @@ ghost use mathlib.Core.List.{List};
 ghost use lib.Dec.{ltb};
 ghost use lib.ListN.{length};
 ghost use Rattle.rules.specs.Capacities.{metadataLogRoom};
-ghost use Rattle.rules.specs.Words.{any, firstOf, orElse};
-ghost use Rattle.rules.specs.Register.{Metadata, Update, Terms, State};
+ghost use Rattle.rules.specs.Words.{any, firstOf};
+ghost use Rattle.rules.specs.Register.{Metadata, Update, Terms};
 ghost use Rattle.rules.specs.WellFormed.{hasSchema, hasOrder};
 ghost use Rattle.rules.specs.Layout.{readFields, readSnapshotLog, readSchemas, readSortOrders};
 ghost use Rattle.rules.specs.Close.{isDefaultUnfit, staying, closeChecks};
 ghost use Rattle.tables.specs.Laid.{LaidSnapshotLog, LaidRefs, LaidSchemas, LaidOrders};
-ghost use Rattle.builder.specs.Pieces.{laidBuilder};
 ghost use Rattle.close.specs.Answers.{HistoryOf, Handed, endsOff};
-use builder::builder::TableMetadataBuilder;
+use equality::ids::same_snapshot;
 use history::History;
-use records::counters::Time;
 use records::metadata::SingleFields;
 use records::reference::Refs;
 use records::replies::ACCEPTED;
@@ -26,7 +24,6 @@ use records::replies::MAIN_DISAGREES;
 use records::replies::TOO_MANY_FILES;
 use records::schema::Schemas;
 use records::sort_order::SortOrders;
-use tables::ids::same_snapshot;
 
 pub mod files;
 pub mod history;
@@ -39,12 +36,8 @@ fn is_default_unfit(f: SingleFields, schemas: Schemas, orders: SortOrders) -> bo
     requires { ⌜ any (hasOrder (f .«default_sort_order_id» .0)) (readSortOrders orders) ≡ true ⌝ }
     ensures { λ r. ⌜ ((p : Metadata) → readFields f ≡ p .fields → readSchemas schemas ≡ p .schemas → readSortOrders orders ≡ p .orders → r ≡ isDefaultUnfit p) ⌝ }
 {
-    let x = f.current_schema_id;
-    let y = f.default_sort_order_id;
-    let i = tables::schemas::find(schemas, x);
-    let j = tables::sort_orders::find(orders, y);
-    let s = schemas.items[i];
-    let o = orders.items[j];
+    let s = tables::schemas::get(schemas, f.current_schema_id);
+    let o = tables::sort_orders::get(orders, f.default_sort_order_id);
     tables::sort_orders::is_unfit(o, s)
 }
 
@@ -101,15 +94,4 @@ pub fn close_number(
         return TOO_MANY_FILES;
     }
     ACCEPTED
-}
-
-pub fn last_update(b: TableMetadataBuilder, clock: Time) -> Time
-    ensures { λ r. ⌜ ((st : State) → b ≡ laidBuilder st → r .0 ≡ orElse (st .own) (clock .0)) ⌝ }
-{
-    let h = b.has_own;
-    let o = b.own;
-    if h {
-        return o;
-    }
-    clock
 }

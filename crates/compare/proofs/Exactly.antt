@@ -3,16 +3,19 @@
 use Prim.Native.Nat.{ℕ, zero, suc, _+_}
 use native.Mathlib.Omega.{arith}
 use mathlib.Core.Path.{_≡_, refl, sym, ap}
+use mathlib.Core.Bool.{Bool·beq}
 use mathlib.Core.List.{List, [], _∷_}
 use mathlib.Core.Option.{Option}
 use lib.ListN.{take}
+use Rattle.rules.specs.Words.{eqZ}
 use Rattle.rules.proofs.Orders.{Tells, numbers-told, names-told}
+use Rattle.rules.proofs.Checks.{parts as tests, both}
+use Rattle.equality.proofs.Told.{counts-told, flags-told, texts-told, snapshots-told, refs-told, log-entries-told, file-entries-told, schemas-told, sort-orders-told, statistics-files-told}
 use Rattle.records.specs.declared.metadata.TableMetadata.{TableMetadata}
 use Rattle.compare.specs.declared.difference.Difference.{Difference}
 use Rattle.compare.specs.First.{Part, place, inPart, first}
-use Rattle.compare.specs.Parts.{parts, noDifference, firstDifference}
+use Rattle.compare.specs.Parts.{sameFlagged, parts, noDifference, firstDifference}
 use Rattle.compare.proofs.Places.{FirstPlace, Compared, compared}
-use Rattle.compare.proofs.Told.{counts-told, flagged-told, locations-told, snapshots-told, refs-told, log-entries-told, file-entries-told, schemas-told, sort-orders-told, statistics-files-told}
 
 -- ---- parts
 
@@ -65,12 +68,19 @@ infixr 67 _and_
 _and_ : {P Q : Type 0} → P → Q → P × Q
 p and q = (p, q)
 
+flagged-told : Tells sameFlagged
+flagged-told =
+    record {
+      equal = λ a b e. let k = tests (Bool·beq (a .0) (b .0)) (eqZ (a .1) (b .1) ∷ []) e in λ i. (flags-told .equal (a .0) (b .0) (k .0) i, numbers-told .equal (a .1) (b .1) (k .1 .0) i);
+      itself = λ a. both (flags-told .itself (a .0)) (numbers-told .itself (a .1));
+    }
+
 parts-told : (a b : TableMetadata) → AllTold (parts a b)
 unfolding parts
 parts-told a b =
     counts-told
     and names-told
-    and locations-told
+    and texts-told
     and numbers-told
     and numbers-told
     and counts-told

@@ -6,9 +6,9 @@ use lib.IntN.{ℤ}
 use Rattle.rules.specs.Words.{eqZ, sameBytes}
 use Rattle.records.specs.declared.metadata.SingleFields.{SingleFields}
 use Rattle.records.specs.declared.metadata.TableMetadata.{TableMetadata}
+use Rattle.equality.specs.Same.{sameText, sameSnapshot, sameRef, sameLogEntry, sameFileEntry, sameSchema, sameSortOrder, sameStatisticsFile}
 use Rattle.compare.specs.declared.difference.Difference.{Difference}
 use Rattle.compare.specs.First.{Part, field, table, first}
-use Rattle.compare.specs.Same.{sameLocation, sameSnapshot, sameRef, sameLogEntry, sameFileEntry, sameSchema, sameSortOrder, sameStatisticsFile}
 
 -- a flag, and the number behind it
 abbrev pub sameFlagged : Bool × ℤ → Bool × ℤ → Bool
@@ -19,7 +19,7 @@ abbrev pub fieldParts : SingleFields → SingleFields → List Part
 fieldParts a b =
     field eqb (a .«format_version») (b .«format_version»)
     ∷ field sameBytes (a .«table_uuid») (b .«table_uuid»)
-    ∷ field sameLocation (a .location) (b .location)
+    ∷ field sameText (a .location) (b .location)
     ∷ field eqZ (a .«last_updated_ms» .0) (b .«last_updated_ms» .0)
     ∷ field eqZ (a .«last_sequence_number» .0) (b .«last_sequence_number» .0)
     ∷ field eqb (a .«next_row_id» .0) (b .«next_row_id» .0)

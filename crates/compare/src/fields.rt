@@ -4,14 +4,14 @@ ghost use Rattle.compare.specs.First.{first};
 ghost use Rattle.compare.specs.Parts.{fieldParts};
 use crate::difference::Difference;
 use crate::difference::unless;
-use crate::number::same_sequence;
-use crate::number::same_time;
 use crate::part;
-use crate::text::same_location;
-use crate::text::same_uuid;
+use equality::ids::same_field;
+use equality::ids::same_snapshot;
+use equality::number::same_sequence;
+use equality::number::same_time;
+use equality::text::same_text;
+use equality::text::same_uuid;
 use records::metadata::SingleFields;
-use tables::ids::same_field;
-use tables::ids::same_snapshot;
 
 pub fn compare_fields(a: SingleFields, b: SingleFields, later: Difference) -> Difference
     ensures { λ r. ⌜ r ≡ first 1 (fieldParts a b) later ⌝ }
@@ -22,7 +22,7 @@ pub fn compare_fields(a: SingleFields, b: SingleFields, later: Difference) -> Di
     let q = b.next_row_id;
     let version = a.format_version == b.format_version;
     let uuid = same_uuid(x, y);
-    let location = same_location(a.location, b.location);
+    let location = same_text(a.location, b.location);
     let updated = same_time(a.last_updated_ms, b.last_updated_ms);
     let sequence = same_sequence(a.last_sequence_number, b.last_sequence_number);
     let next_row = p.0 == q.0;

@@ -13,17 +13,14 @@ use crate::table::compare_snapshot_log;
 use crate::table::compare_snapshots;
 use crate::table::compare_sort_orders;
 use crate::table::compare_statistics;
+use equality::ids::same_order;
+use equality::ids::same_schema;
 use records::metadata::TableMetadata;
-use tables::ids::same_order;
-use tables::ids::same_schema;
 
 pub mod difference;
 mod fields;
-mod number;
 pub mod part;
-mod record;
 mod table;
-mod text;
 
 // From the last part to the first: each comparison is given what the later ones found.
 pub fn first_difference(a: TableMetadata, b: TableMetadata) -> Difference

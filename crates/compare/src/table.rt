@@ -1,17 +1,17 @@
 // Tables compared, slot by slot and then by their counts.
 ghost use mathlib.Core.Path.{_≡_};
-ghost use Rattle.compare.specs.Same.{sameSnapshot, sameRef, sameLogEntry, sameFileEntry, sameSchema, sameSortOrder, sameStatisticsFile};
+ghost use Rattle.equality.specs.Same.{sameSnapshot, sameRef, sameLogEntry, sameFileEntry, sameSchema, sameSortOrder, sameStatisticsFile};
 ghost use Rattle.compare.specs.First.{unlike, inPart};
 use crate::difference::Difference;
 use crate::difference::unless;
 use crate::part;
-use crate::record::same_file_entry;
-use crate::record::same_log_entry;
-use crate::record::same_ref;
-use crate::record::same_schema;
-use crate::record::same_snapshot;
-use crate::record::same_sort_order;
-use crate::record::same_statistics_file;
+use equality::whole::same_file_entry;
+use equality::whole::same_log_entry;
+use equality::whole::same_ref;
+use equality::whole::same_schema;
+use equality::whole::same_snapshot;
+use equality::whole::same_sort_order;
+use equality::whole::same_statistics_file;
 use records::capacities;
 use records::metadata::MetadataLog;
 use records::reference::Refs;

@@ -1,35 +1,36 @@
 // What there is to say of a moment.
-use crate::kept::Kept;
-use crate::kept::earliest;
-use crate::kept::held_as;
+use crate::log_and_snapshots::LogAndSnapshots;
+use crate::log_and_snapshots::earliest;
+use crate::log_and_snapshots::held_as;
 use moment::Moment;
 use records::counters::SnapshotId;
 use records::counters::Time;
 use records::snapshot::SnapshotLogEntry;
 use records::snapshot::Snapshots;
 
-const NOT_HELD: usize = 0;
+// The kinds of answers, in the order of their words.
+const NOT_HELD: u8 = 0;
 
-const HELD: usize = 1;
+const HELD: u8 = 1;
 
-pub const MADE_LATER: usize = 2;
+const MADE_LATER: u8 = 2;
 
-pub const BEFORE_ALL: usize = 3;
+const BEFORE_ALL: u8 = 3;
 
-const NO_ENTRIES: usize = 4;
+const NO_ENTRIES: u8 = 4;
 
-const TOO_MANY: usize = 5;
+const TOO_MANY: u8 = 5;
 
 // The snapshot, since when, and when the held one of its id was made, if there is one; 0 and the earliest time that has an answer if not.
 pub struct Answer {
-    pub kind: usize,
+    pub kind: u8,
     pub id: SnapshotId,
     pub since: Time,
     pub made: Time,
 }
 
 // Held is by id alone: a held snapshot that was made after the entry need not be the one that was current.
-fn kind_of_found(is_held: bool, made: Time, since: Time) -> usize {
+fn kind_of_found(is_held: bool, made: Time, since: Time) -> u8 {
     if !is_held {
         return NOT_HELD;
     }
@@ -39,7 +40,7 @@ fn kind_of_found(is_held: bool, made: Time, since: Time) -> usize {
     HELD
 }
 
-fn kind_of_none(number: u8, count: usize) -> usize {
+fn kind_of_none(number: u8, count: usize) -> u8 {
     if number != 0 {
         return TOO_MANY;
     }
@@ -63,7 +64,7 @@ pub fn of_entry(snapshots: Snapshots, entry: SnapshotLogEntry) -> Answer {
     }
 }
 
-pub fn of_moment(kept: Kept, found: Moment) -> Answer {
+pub fn of_moment(kept: LogAndSnapshots, found: Moment) -> Answer {
     if found.found {
         return of_entry(kept.snapshots, found.entry);
     }

@@ -2,11 +2,11 @@
 use calendar::date::Date;
 use calendar::date::day_of;
 use calendar::text::text_of;
-use numbers::output::Output;
-use numbers::token::token_of;
 use plaintext::name::say_escaped;
 use plaintext::text::say;
 use plaintext::text::say_line;
+use tokens::output::Output;
+use tokens::token::token_of;
 
 const NONE: usize = 0;
 
@@ -61,6 +61,13 @@ pub fn doubt_of(text: &[u8]) -> Doubt {
     Doubt { kind, date }
 }
 
+// As `2025-03-12`.
+fn say_day(output: &mut Output, end: &mut usize, date: Date) {
+    let day = text_of(date);
+    let bytes = day.bytes;
+    say_escaped(output, end, &bytes, 10);
+}
+
 pub fn say_doubt(output: &mut Output, end: &mut usize, text: &[u8], doubt: Doubt) {
     let hints = b"\n\
         a year is no moment, write a day of it, as 2025-03-12\n\
@@ -74,9 +81,7 @@ pub fn say_doubt(output: &mut Output, end: &mut usize, text: &[u8], doubt: Doubt
     say(output, end, b" was read as milliseconds since 1970; ");
     say_line(output, end, hints, doubt.kind);
     if doubt.kind == DAY {
-        let day = text_of(doubt.date);
-        let bytes = day.bytes;
-        say_escaped(output, end, &bytes, 10);
+        say_day(output, end, doubt.date);
     }
     if doubt.kind == SECONDS {
         say_escaped(output, end, text, text.len());

@@ -1,70 +1,43 @@
 // A line for each moment, and for each snapshot of a day.
 use crate::answer::Answer;
-use crate::answer::BEFORE_ALL;
-use crate::answer::MADE_LATER;
-use numbers::output::Output;
+use cards::card::Card;
 use plaintext::name::say_name;
-use plaintext::number::say_count;
-use plaintext::number::say_i64;
+use plaintext::template::say_part;
 use plaintext::text::say;
 use plaintext::text::say_line;
-use plaintext::time::say_date;
 use records::counters::Time;
+use tokens::output::Output;
 
 // As `2025-03-12 10:00:00 UTC (1741773600000)`.
 pub fn say_moment(output: &mut Output, end: &mut usize, time: Time) {
-    say_date(output, end, time);
-    say(output, end, b" (");
-    say_i64(output, end, time.0);
-    say(output, end, b")");
+    say_part(output, end, b"@0 (#0)", 0, 0, Card::of_number(time.0));
 }
 
-// The end of a line.
-fn say_held(output: &mut Output, end: &mut usize, answer: Answer) {
-    let ends = b", no longer held\n, still held\n, a snapshot \n";
-    say_line(output, end, ends, answer.kind);
-    if answer.kind == MADE_LATER {
-        say_i64(output, end, answer.id.0);
-        say(output, end, b" made at ");
-        say_moment(output, end, answer.made);
-        say(output, end, b" is held");
-    }
-    say(output, end, b"\n");
+// kind, snapshot id, since, made
+fn card_of(answer: Answer) -> Card {
+    let kind = answer.kind as i64;
+    Card::of_numbers(
+        [kind, answer.id.0, answer.since.0, answer.made.0, 0, 0, 0, 0],
+        [0, 0],
+    )
 }
 
+// An alternative stands for each kind of answer.
 pub fn say_answer(output: &mut Output, end: &mut usize, answer: Answer) {
-    let starts = b": snapshot \n\
-        : snapshot \n\
-        : snapshot \n\
-        : no snapshot is known, since the earliest entry that is kept is of \n\
-        : no snapshot is known, since no entries are kept\n\
-        : no answer, since the snapshot log counts more than 128 entries\n";
-    say_line(output, end, starts, answer.kind);
-    if answer.kind <= MADE_LATER {
-        say_i64(output, end, answer.id.0);
-        say(output, end, b", current since ");
-    }
-    if answer.kind <= BEFORE_ALL {
-        say_moment(output, end, answer.since);
-    }
-    say_held(output, end, answer);
+    let template = b"?0{: snapshot #1, current since @2 (#2), no longer held\
+        |: snapshot #1, current since @2 (#2), still held\
+        |: snapshot #1, current since @2 (#2), a snapshot #1 made at @3 (#3) is held\
+        |: no snapshot is known, since the earliest entry that is kept is of @2 (#2)\
+        |: no snapshot is known, since no entries are kept\
+        |: no answer, since the snapshot log counts more than 128 entries}\n";
+    say_part(output, end, template, 0, 0, card_of(answer));
 }
 
 // A later snapshot of a day.
 pub fn say_then(output: &mut Output, end: &mut usize, answer: Answer) {
-    say(output, end, b"  then snapshot ");
-    say_i64(output, end, answer.id.0);
-    say(output, end, b" from ");
-    say_moment(output, end, answer.since);
-    say_held(output, end, answer);
-}
-
-fn say_wanted(output: &mut Output, end: &mut usize) {
-    say(
-        output,
-        end,
-        b"give a UTC day, as 2025-03-12, a moment, as 2025-03-12T10:00:00Z or 2025-03-12T12:00+02:00, or milliseconds since 1970\n",
-    );
+    let template = b"  then snapshot #1 from @2 (#2), \
+        ?0{no longer held|still held|a snapshot #1 made at @3 (#3) is held}\n";
+    say_part(output, end, template, 0, 0, card_of(answer));
 }
 
 // By the fault that `calendar` finds in it.
@@ -75,16 +48,9 @@ pub fn say_unread(output: &mut Output, end: &mut usize, text: &[u8], fault: usiz
     say_name(output, end, text, text.len());
     say(output, end, b" is no moment");
     say_line(output, end, faults, fault);
-    say_wanted(output, end);
-}
-
-pub fn say_too_long(output: &mut Output, end: &mut usize, at: usize) {
-    say(output, end, b"argument ");
-    say_count(output, end, at);
     say(
         output,
         end,
-        b" is no moment, since it has more than 4096 bytes: ",
+        b"give a UTC day, as 2025-03-12, a moment, as 2025-03-12T10:00:00Z or 2025-03-12T12:00+02:00, or milliseconds since 1970\n",
     );
-    say_wanted(output, end);
 }

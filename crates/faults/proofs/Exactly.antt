@@ -12,12 +12,12 @@ use Rattle.rules.specs.Replies.{startNotFormed}
 use Rattle.rules.specs.Words.{ifSome}
 use Rattle.rules.specs.WellFormed.{fileNameFormed, snapshotsFormed, refsFormed, snapshotLogFormed, metadataLogFormed, schemasFormed, ordersFormed, statisticsFormed, fieldsFormed, refsHeld, mainAgrees, currentSchemaHeld, defaultOrderHeld, metadataFormed}
 use Rattle.rules.specs.Blanks.{isTidySnapshots, isTidyRefs, isTidySnapshotLog, isTidyMetadataLog, isTidySchemas, isTidySortOrders, isTidyStatistics, isTidyFields, isTidyMetadata}
-use Rattle.rules.specs.Layout.{given, readFileName, readMetadata}
+use Rattle.rules.specs.Layout.{given, readText, readMetadata}
 use Rattle.rules.specs.Register as plain
 use Rattle.rules.specs.Answer.{answer}
 use Rattle.rules.proofs.Checks.{both, and-left, and-right, parts, whole, Passed, passed, passed-before, passed-after, first-after}
-use Rattle.rules.proofs.AnswerLaws.{Formed}
-use Rattle.rules.proofs.AnswerStart.{not-formed-one, formed-not-one}
+use Rattle.rules.proofs.Answer.Laws.{Formed}
+use Rattle.rules.proofs.Answer.Start.{not-formed-one, formed-not-one}
 use Rattle.faults.specs.Faults.{partFaults, agreementFaults, metadataFaults, metadataFault, fileFaults, startFault}
 use Rattle.faults.proofs.Parts.{FineParts, fine-parts, faultless-parts, parts-numbered, all-numbered}
 
@@ -103,7 +103,7 @@ module _ (m : TableMetadata) where
 -- the metadata is well formed, and the current file's name, if one is given, is not too long
 pub record FormedStart (m : TableMetadata) (terms : RunTerms) : Type 0 where
   pub metadata : Formed m
-  pub file : ifSome fileNameFormed (given (terms .«has_file») (readFileName (terms .file))) ≡ true
+  pub file : ifSome fileNameFormed (given (terms .«has_file») (readText (terms .file))) ≡ true
 
 module _ (m : TableMetadata) (terms : RunTerms) where
   pub faultless-start : startFault m terms ≡ 0 → FormedStart m terms
@@ -111,7 +111,7 @@ module _ (m : TableMetadata) (terms : RunTerms) where
   faultless-start e =
       record {
         metadata = faultless-formed m (passed-before (metadataFaults m) (fileFaults terms) e);
-        file = not-false (ifSome fileNameFormed (given (terms .«has_file») (readFileName (terms .file)))) (passed (fileFaults terms) refl (passed-after (metadataFaults m) (fileFaults terms) (all-numbered m) e) .0);
+        file = not-false (ifSome fileNameFormed (given (terms .«has_file») (readText (terms .file)))) (passed (fileFaults terms) refl (passed-after (metadataFaults m) (fileFaults terms) (all-numbered m) e) .0);
       }
 
   pub start-faultless : FormedStart m terms → startFault m terms ≡ 0
@@ -131,7 +131,7 @@ module _ (m : TableMetadata) (us : UpdateList) (terms : RunTerms) (limit : List 
   fault-one n =
       let tidy : Bool = isTidyMetadata m in
       let formed : Bool = metadataFormed (readMetadata m) in
-      let fits : Bool = ifSome fileNameFormed (given (terms .«has_file») (readFileName (terms .file))) in
+      let fits : Bool = ifSome fileNameFormed (given (terms .«has_file») (readText (terms .file))) in
       cases (tidy && (formed && fits))
       (λ t. let k : (formed && fits) ≡ true = and-right tidy (formed && fits) t in
       absurd (n (start-faultless m terms (record { metadata = record { tidy = and-left tidy (formed && fits) t; formed = and-left formed fits k }; file = and-right formed fits k }))))

@@ -9,8 +9,8 @@ use Rattle.rules.specs.Words.{firstOf, Check}
 use Rattle.rules.specs.Capacities.{snapshotRoom, refRoom, snapshotLogRoom, metadataLogRoom, schemaRoom, sortOrderRoom, statisticsRoom}
 use Rattle.rules.specs.Register as plain
 use Rattle.rules.specs.WellFormed.{versionFormed, locationFormed, fileNameFormed, snapshotFormed, refFormed, schemaFormed, orderFormed, statisticsFileFormed, snapshotBelow, refBelow, schemaBelow, orderBelow, statisticsBelow, snapshotsFormed, refsFormed, snapshotLogFormed, metadataLogFormed, schemasFormed, ordersFormed, statisticsFormed, fieldsFormed}
-use Rattle.rules.specs.Blanks.{isZeroZ, isTidyLocation, isTidySnapshots, isTidyRefs, isTidySnapshotLog, isTidyMetadataLog, isTidySchemas, isTidySortOrders, isTidyStatistics, isTidyFields}
-use Rattle.rules.specs.Layout.{readLocation, readSnapshots, readRefs, readSnapshotLog, readMetadataLog, readSchemas, readSortOrders, readStatistics, readFields}
+use Rattle.rules.specs.Blanks.{isZeroZ, isTidyText, isTidySnapshots, isTidyRefs, isTidySnapshotLog, isTidyMetadataLog, isTidySchemas, isTidySortOrders, isTidyStatistics, isTidyFields}
+use Rattle.rules.specs.Layout.{readText, readSnapshots, readRefs, readSnapshotLog, readMetadataLog, readSchemas, readSortOrders, readStatistics, readFields}
 use Rattle.rules.proofs.Checks.{both, and-left, and-right, parts, numbered, Passed, passed, passed-before, passed-after, first-after}
 use Rattle.tables.specs.Laid.{LaidSnapshots, LaidRefs, LaidSchemas, LaidOrders}
 use Rattle.formed.proofs.Laid.{laid-snapshots, laid-formed-refs, laid-schemas, laid-orders}
@@ -39,17 +39,17 @@ fields-fine : (m : TableMetadata) → Passed (fieldFaults (m .fields)) → Fine 
 unfolding fieldFaults isTidyFields fieldsFormed
 fields-fine m k =
     let f = m .fields in
-    let l : (isTidyLocation (f .location) && locationFormed (readLocation (f .location))) ≡ true = not-false _ (k .1 .0) in (
-      both (and-left (isTidyLocation (f .location)) _ l) (not-false (f .«has_current» || isZeroZ (f .«current_snapshot_id» .0)) (k .1 .1 .1 .0)),
-      both (both (not-false (versionFormed (f .«format_version»)) (k .0)) (and-right (isTidyLocation (f .location)) _ l)) (not-false (nonNeg (f .«last_sequence_number» .0)) (k .1 .1 .0)),
+    let l : (isTidyText (f .location) && locationFormed (readText (f .location))) ≡ true = not-false _ (k .1 .0) in (
+      both (and-left (isTidyText (f .location)) _ l) (not-false (f .«has_current» || isZeroZ (f .«current_snapshot_id» .0)) (k .1 .1 .1 .0)),
+      both (both (not-false (versionFormed (f .«format_version»)) (k .0)) (and-right (isTidyText (f .location)) _ l)) (not-false (nonNeg (f .«last_sequence_number» .0)) (k .1 .1 .0)),
     )
 
 fields-faultless : (m : TableMetadata) → Fine (isTidyFields (m .fields)) (fieldsFormed (readFields (m .fields))) → firstOf (fieldFaults (m .fields)) ≡ 0
 unfolding fieldFaults isTidyFields fieldsFormed
 fields-faultless m k =
     let f = m .fields in
-    let p = parts (versionFormed (f .«format_version»)) (locationFormed (readLocation (f .location)) ∷ nonNeg (f .«last_sequence_number» .0) ∷ []) (k .1) in
-    rw (p .0, and-left (isTidyLocation (f .location)) (f .«has_current» || isZeroZ (f .«current_snapshot_id» .0)) (k .0), p .1 .0, p .1 .1 .0, and-right (isTidyLocation (f .location)) (f .«has_current» || isZeroZ (f .«current_snapshot_id» .0)) (k .0))
+    let p = parts (versionFormed (f .«format_version»)) (locationFormed (readText (f .location)) ∷ nonNeg (f .«last_sequence_number» .0) ∷ []) (k .1) in
+    rw (p .0, and-left (isTidyText (f .location)) (f .«has_current» || isZeroZ (f .«current_snapshot_id» .0)) (k .0), p .1 .0, p .1 .1 .0, and-right (isTidyText (f .location)) (f .«has_current» || isZeroZ (f .«current_snapshot_id» .0)) (k .0))
 
 -- ---- all parts
 

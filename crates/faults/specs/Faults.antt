@@ -21,8 +21,8 @@ use Rattle.rules.specs.Words.{ifSome, all, ascending, firstOf, Check}
 use Rattle.rules.specs.Capacities.{snapshotRoom, refRoom, snapshotLogRoom, metadataLogRoom, schemaRoom, sortOrderRoom, statisticsRoom}
 use Rattle.rules.specs.Register as plain
 use Rattle.rules.specs.WellFormed.{versionFormed, locationFormed, fileNameFormed, snapshotFormed, refFormed, schemaFormed, orderFormed, statisticsFileFormed, snapshotBelow, refBelow, schemaBelow, orderBelow, statisticsBelow, refsHeld, mainAgrees, currentSchemaHeld, defaultOrderHeld}
-use Rattle.rules.specs.Blanks.{isZeroZ, isTidyLocation, isTidySnapshots, isTidySnapshotLog, isTidyRefs, isTidySchemas, isTidySortOrders, isTidyStatistics, isTidyMetadataLog}
-use Rattle.rules.specs.Layout.{readLocation, readSnapshots, readSnapshotLog, readRefs, readSchemas, readSortOrders, readStatistics, readMetadataLog, readMetadata}
+use Rattle.rules.specs.Blanks.{isZeroZ, isTidyText, isTidySnapshots, isTidySnapshotLog, isTidyRefs, isTidySchemas, isTidySortOrders, isTidyStatistics, isTidyMetadataLog}
+use Rattle.rules.specs.Layout.{readText, readSnapshots, readSnapshotLog, readRefs, readSchemas, readSortOrders, readStatistics, readMetadataLog, readMetadata}
 use Rattle.rules.specs.Answer.{readTerms}
 
 -- ---- a part by itself
@@ -38,7 +38,7 @@ tableFaults n room tidy formed below l = (not (leb (length l) room), n) ∷ (not
 unfoldable pub fieldFaults : SingleFields → List Check
 fieldFaults f =
     (not (versionFormed (f .«format_version»)), 1)
-    ∷ (not (isTidyLocation (f .location) && locationFormed (readLocation (f .location))), 2)
+    ∷ (not (isTidyText (f .location) && locationFormed (readText (f .location))), 2)
     ∷ (not (nonNeg (f .«last_sequence_number» .0)), 3)
     ∷ (not (f .«has_current» || isZeroZ (f .«current_snapshot_id» .0)), 4)
     ∷ []

@@ -17,7 +17,7 @@ use crate::pick::or_later;
 use crate::pick::unless;
 use formed::metadata::main_agrees;
 use formed::metadata::refs_held;
-use records::capacities::FILE_NAME;
+use records::capacities::TEXT;
 use records::metadata::TableMetadata;
 use records::run::RunTerms;
 
@@ -73,7 +73,7 @@ pub fn start_fault(m: TableMetadata, terms: RunTerms) -> u8
     let has_file = terms.has_file;
     let file = terms.file;
     let length = file.len;
-    let fits = !has_file | (length <= FILE_NAME);
+    let fits = !has_file | (length <= TEXT);
     let from_file = unless(fits, fault::CURRENT_FILE_NAME, fault::NONE);
     or_later(metadata_fault(m), from_file)
 }

@@ -7,9 +7,9 @@ ghost use Rattle.rules.specs.Words.{firstOf};
 ghost use Rattle.faults.specs.Faults.{fieldFaults, snapshotFaults, refFaults, snapshotLogFaults, metadataLogFaults, schemaFaults, orderFaults, statisticsFaults};
 use crate::fault;
 use crate::pick::unless;
-use formed::blanks::location_tidy;
+use equality::ids::same_snapshot;
+use formed::blanks::text_fits;
 use formed::bounds::sequence_formed;
-use formed::bounds::snapshot_id_zero;
 use formed::metadata::orders_formed;
 use formed::metadata::refs_formed;
 use formed::metadata::schemas_formed;
@@ -23,6 +23,7 @@ use formed::slots::snapshot_log_formed;
 use formed::slots::snapshots_filled;
 use formed::slots::statistics_filled;
 use records::capacities;
+use records::counters::SnapshotId;
 use records::metadata::MetadataLog;
 use records::metadata::SingleFields;
 use records::reference::Refs;
@@ -42,7 +43,7 @@ pub fn fields_fault(f: SingleFields) -> u8
     let h = f.has_current;
     let c = f.current_snapshot_id;
     let from_current = unless(
-        h | snapshot_id_zero(c),
+        h | same_snapshot(c, SnapshotId(0)),
         fault::CURRENT_SNAPSHOT,
         fault::NONE,
     );
@@ -52,7 +53,7 @@ pub fn fields_fault(f: SingleFields) -> u8
         from_current,
     );
     let from_location = unless(
-        location_tidy(l) & (n <= capacities::LOCATION),
+        text_fits(true, l) & (n <= capacities::TEXT),
         fault::LOCATION,
         from_sequence,
     );

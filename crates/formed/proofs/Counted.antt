@@ -11,7 +11,7 @@ use lib.Seq.{length-take-le, getD-take}
 use Rattle.rules.specs.Words.{all, isEmpty}
 use Rattle.rules.specs.Layout.{counted}
 use Rattle.rules.proofs.Checks.{and-left, and-right}
-use Rattle.rules.proofs.Relaid.{length-counted, counted-take}
+use Rattle.rules.proofs.Slots.Relaid.{length-counted, counted-take}
 use Rattle.rules.proofs.Tables.{all-read}
 use Rattle.formed.proofs.Scans.{Scanned, scan-start, each, each-on, each-end}
 

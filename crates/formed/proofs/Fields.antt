@@ -13,7 +13,7 @@ use Rattle.rules.specs.Words.{eqZ, all, isIn, unequal}
 use Rattle.rules.specs.WellFormed.{atLeastOne}
 use Rattle.rules.specs.Layout.{counted, readSchemaField}
 use Rattle.rules.specs.Register as plain
-use Rattle.rules.proofs.Relaid.{counted-take}
+use Rattle.rules.proofs.Slots.Relaid.{counted-take}
 use Rattle.formed.proofs.Scans.{Scanned, scan-start, scan-on, scan-end}
 use Rattle.formed.proofs.Bools.{interchange}
 

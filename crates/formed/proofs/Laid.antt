@@ -23,7 +23,7 @@ use Rattle.rules.specs.Blanks.{isTidySnapshots, isBlankRef, isTidyRef, isTidyRe
 use Rattle.rules.specs.Layout.{pad, readRefName, readSnapshots, readRef, laidRef, readRefs, laidRefs, readSchemas, readSortOrders}
 use Rattle.rules.proofs.Checks.{both, and-left, and-right, parts}
 use Rattle.rules.proofs.Tables.{all-then, all-at, logFormed, log-fits, log-all}
-use Rattle.rules.proofs.Relaid.{table-back, blank-ref, back-snapshots, back-ref, back-schemas, back-sort-orders}
+use Rattle.rules.proofs.Slots.Relaid.{table-back, blank-ref, back-snapshots, back-ref, back-schemas, back-sort-orders}
 use Rattle.tables.specs.Laid.{LaidName, LaidSnapshots, LaidRefs, LaidSchemas, LaidOrders}
 use Rattle.formed.proofs.Counted.{read-length, read-at}
 

@@ -6,6 +6,7 @@ pub mod Counted
 mod Filled
 mod Ascends
 mod Fields
+mod Unused
 mod Used
 pub mod Laid
 mod Main

@@ -1,10 +1,10 @@
 -- What an update's kind uses is tidy, and what it does not use is blank: a blank record is tidy.
 use Prim.Native.Nat.{ℕ}
 use mathlib.Core.Path.{_≡_, refl, sym, _∙_}
-use mathlib.Core.Bool.{Bool, true, false, cond, _&&_, _||_, and-true, or-false}
+use mathlib.Core.Bool.{Bool, true, false, cond, _&&_, _||_, or-false}
 use mathlib.Core.List.{List, [], _∷_}
 use mathlib.Core.Logic.{_⊎_, inl, inr}
-use borrow.Author.Tests.{eqb-true, eq-eqb, ne-eqb}
+use borrow.Author.Tests.{eqb-true}
 use lib.Dec.{eqb}
 use lib.Signed.{nonNeg}
 use Rattle.records.specs.declared.snapshot.Snapshot.{Snapshot}
@@ -15,37 +15,30 @@ use Rattle.records.specs.declared.schema.SchemaIds.{SchemaIds}
 use Rattle.records.specs.declared.«sort_order».SortOrder.{SortOrder}
 use Rattle.records.specs.declared.statistics.StatisticsFile.{StatisticsFile}
 use Rattle.records.specs.declared.update.TableUpdate.{TableUpdate}
-use Rattle.rules.specs.Words.{all, any}
+use Rattle.rules.specs.Words.{any}
 use Rattle.rules.specs.Register.{Update}
 use Rattle.rules.specs.Register.Update.{NotFormed}
 use Rattle.rules.specs.WellFormed.{statisticsFileFormed, updateFormed}
-use Rattle.rules.specs.Kinds.{assignUuidKind, upgradeFormatVersionKind, setLocationKind, addSnapshotKind, setBranchSnapshotKind, removeSnapshotsKind, setRefKind, removeRefKind, addSchemaKind, setCurrentSchemaKind, removeSchemasKind, addSortOrderKind, setDefaultSortOrderKind, setStatisticsKind, removeStatisticsKind, setPartitionStatisticsKind, removePartitionStatisticsKind, usedBy, isUnusedBlank, isUsedTidy, isTidyUpdate, readKind}
-use Rattle.rules.specs.Blanks.{isZero, isZeroZ, restBlank, noneUsed, isTidyLocation, isBlankLocation, isTidyRefName, isBlankRefName, isBlankSnapshotId, isBlankSchemaField, isBlankSchemaId, isBlankSortField, isTidySnapshot, isBlankSnapshot, isTidySnapshotIds, isBlankSnapshotIds, isTidyReference, isBlankReference, isTidySchema, isBlankSchema, isTidySchemaIds, isBlankSchemaIds, isTidySortOrder, isBlankSortOrder, isTidyStatisticsFile, isBlankStatisticsFile}
+use Rattle.rules.specs.Kinds.{setStatisticsKind, removeStatisticsKind, setPartitionStatisticsKind, removePartitionStatisticsKind, fitsKinds, readKind}
+use Rattle.rules.specs.Blanks.{isZero, isZeroZ, restBlank, noneUsed, isBlankSnapshotId, isBlankSchemaField, isBlankSchemaId, isBlankSortField, isTidySnapshot, isBlankSnapshot, isTidySnapshotIds, isBlankSnapshotIds, isTidyReference, isBlankReference, isTidySchema, isBlankSchema, isTidySchemaIds, isBlankSchemaIds, isTidySortOrder, isBlankSortOrder, isTidyStatisticsFile, isBlankStatisticsFile}
 use Rattle.rules.specs.Layout.{readStatisticsFile}
 use Rattle.rules.specs.Capacities.{removalRoom, schemaFieldRoom, sortFieldRoom}
 use Rattle.rules.proofs.Checks.{and-left, and-right}
-use Rattle.rules.proofs.Relaid.{blank-snapshot, blank-reference, blank-statistics-file}
-use Rattle.formed.proofs.Bools.{apart}
+use Rattle.rules.proofs.Slots.Relaid.{blank-snapshot, blank-reference, blank-statistics-file}
 
 -- ---- used or not
 
--- a kind that uses the record asks that it is tidy
-pub fits-used : (kinds : List ℕ) (k : ℕ) (blank : Bool) {tidy r : Bool} → any (eqb k) kinds ≡ true → r ≡ tidy → r ≡ (usedBy kinds k blank && tidy)
-fits-used kinds k blank e h = h ∙ rw e
-
--- any other kind, that it is blank
-pub fits-unused : (kinds : List ℕ) (k : ℕ) {blank tidy r : Bool} → any (eqb k) kinds ≡ false → (blank ≡ true → tidy ≡ true) → r ≡ blank → r ≡ (usedBy kinds k blank && tidy)
-fits-unused kinds k {blank} {tidy} e t h = h ∙ rw e (go blank t)
+-- a kind that uses the record asks that it is tidy, and any other that it is blank, from which it is tidy
+pub fits : (kinds : List ℕ) (k : ℕ) {used blank tidy r : Bool} → any (eqb k) kinds ≡ used → (blank ≡ true → tidy ≡ true) → r ≡ cond used tidy blank → r ≡ fitsKinds kinds k blank tidy
+fits kinds k {used} {blank} {tidy} e t h = h ∙ rw e (go used blank t)
   where
-    go : (b : Bool) → (b ≡ true → tidy ≡ true) → b ≡ (b && tidy)
-    go true t = sym (t refl)
-    go false t = refl
+    go : (u b : Bool) → (b ≡ true → tidy ≡ true) → cond u tidy b ≡ ((u || b) && tidy)
+    go true b t = refl
+    go false true t = sym (t refl)
+    go false false t = refl
 
-pub is-kind : (k a : ℕ) → k ≡ a → any (eqb k) (a ∷ []) ≡ true
-is-kind k a e = or-false (eqb k a) ∙ eq-eqb k a e
-
-pub is-no-kind : (k a : ℕ) → (k ≡ a → ⊥) → any (eqb k) (a ∷ []) ≡ false
-is-no-kind k a e = or-false (eqb k a) ∙ ne-eqb k a e
+pub one-kind : (k a : ℕ) → any (eqb k) (a ∷ []) ≡ eqb k a
+one-kind k a = or-false (eqb k a)
 
 pub two-kinds : (k a b : ℕ) → any (eqb k) (a ∷ b ∷ []) ≡ (eqb k a || eqb k b)
 two-kinds k a b = rw (or-false (eqb k b))
@@ -86,60 +79,7 @@ pub blank-statistics-file-tidy : (f : StatisticsFile) → isBlankStatisticsFile 
 unfolding isTidyStatisticsFile
 blank-statistics-file-tidy f e = rw (blank-statistics-file f e)
 
--- ---- the records of an update
-
--- fourteen tests for blanks, and nine for what is tidy beside them
-records-apart : (a b c d e f g h i j k l m n c′ d′ e′ f′ g′ h′ j′ k′ m′ : Bool)
-    → (a && b && (c && c′) && (d && d′) && (e && e′) && (f && f′) && (g && g′) && (h && h′) && i && (j && j′) && (k && k′) && l && (m && m′) && n)
-    ≡ (a && b && c && d && e && f && g && h && i && j && k && l && m && n && (c′ && d′ && e′ && f′ && g′ && h′ && j′ && k′ && m′))
-records-apart a b c d e f g h i j k l m n c′ d′ e′ f′ g′ h′ j′ k′ m′ =
-    let t : Bool = c′ && d′ && e′ && f′ && g′ && h′ in
-    rw (and-true a, and-true b, and-true i, and-true l, and-true n, and-true t, and-true (t && j′ && k′), and-true (t && j′ && k′ && m′)) at
-    (apart a true ((b, true) ∷ (c, c′) ∷ (d, d′) ∷ (e, e′) ∷ (f, f′) ∷ (g, g′) ∷ (h, h′) ∷ (i, true) ∷ (j, j′) ∷ (k, k′) ∷ (l, true) ∷ (m, m′) ∷ (n, true) ∷ []))
-
--- what is found of each record
-pub update-tidy : (u : TableUpdate) {a c d e f g h i j k l m n : Bool}
-    → a ≡ all isZero (u .uuid)
-    → c ≡ (usedBy (setLocationKind ∷ []) (u .kind) (isBlankLocation (u .location)) && isTidyLocation (u .location))
-    → d ≡ (usedBy (addSnapshotKind ∷ setBranchSnapshotKind ∷ []) (u .kind) (isBlankSnapshot (u .snapshot)) && isTidySnapshot (u .snapshot))
-    → e ≡ (usedBy (removeSnapshotsKind ∷ []) (u .kind) (isBlankSnapshotIds (u .«snapshot_ids»)) && isTidySnapshotIds (u .«snapshot_ids»))
-    → f ≡ (usedBy (setBranchSnapshotKind ∷ setRefKind ∷ removeRefKind ∷ []) (u .kind) (isBlankRefName (u .«ref_name»)) && isTidyRefName (u .«ref_name»))
-    → g ≡ (usedBy (setRefKind ∷ []) (u .kind) (isBlankReference (u .reference)) && isTidyReference (u .reference))
-    → h ≡ (usedBy (addSchemaKind ∷ []) (u .kind) (isBlankSchema (u .schema)) && isTidySchema (u .schema))
-    → i ≡ isZeroZ (u .«schema_id» .0)
-    → j ≡ (usedBy (removeSchemasKind ∷ []) (u .kind) (isBlankSchemaIds (u .«schema_ids»)) && isTidySchemaIds (u .«schema_ids»))
-    → k ≡ (usedBy (addSortOrderKind ∷ []) (u .kind) (isBlankSortOrder (u .«sort_order»)) && isTidySortOrder (u .«sort_order»))
-    → l ≡ isZeroZ (u .«sort_order_id» .0)
-    → m ≡ (usedBy (setStatisticsKind ∷ setPartitionStatisticsKind ∷ []) (u .kind) (isBlankStatisticsFile (u .statistics)) && isTidyStatisticsFile (u .statistics))
-    → n ≡ isZeroZ (u .«statistics_id» .0)
-    → ((eqb (u .kind) assignUuidKind || a) && (eqb (u .kind) upgradeFormatVersionKind || isZero (u .«format_version»)) && c && d && e && f && g && h && (eqb (u .kind) setCurrentSchemaKind || i) && j && k && (eqb (u .kind) setDefaultSortOrderKind || l) && m && (eqb (u .kind) removeStatisticsKind || eqb (u .kind) removePartitionStatisticsKind || n)) ≡ isTidyUpdate u
-unfolding isUnusedBlank isUsedTidy
-update-tidy u pa pc pd pe pf pg ph pi pj pk pl pm pn =
-    (λ x. (sym (or-false (eqb (u .kind) assignUuidKind)) x || pa x) && (sym (or-false (eqb (u .kind) upgradeFormatVersionKind)) x || isZero (u .«format_version»)) && pc x && pd x && pe x && pf x && pg x && ph x && (sym (or-false (eqb (u .kind) setCurrentSchemaKind)) x || pi x) && pj x && pk x && (sym (or-false (eqb (u .kind) setDefaultSortOrderKind)) x || pl x) && pm x && (sym (two-kinds (u .kind) removeStatisticsKind removePartitionStatisticsKind) x || pn x))
-    ∙ records-apart
-    (usedBy (assignUuidKind ∷ []) (u .kind) (all isZero (u .uuid)))
-    (usedBy (upgradeFormatVersionKind ∷ []) (u .kind) (isZero (u .«format_version»)))
-    (usedBy (setLocationKind ∷ []) (u .kind) (isBlankLocation (u .location)))
-    (usedBy (addSnapshotKind ∷ setBranchSnapshotKind ∷ []) (u .kind) (isBlankSnapshot (u .snapshot)))
-    (usedBy (removeSnapshotsKind ∷ []) (u .kind) (isBlankSnapshotIds (u .«snapshot_ids»)))
-    (usedBy (setBranchSnapshotKind ∷ setRefKind ∷ removeRefKind ∷ []) (u .kind) (isBlankRefName (u .«ref_name»)))
-    (usedBy (setRefKind ∷ []) (u .kind) (isBlankReference (u .reference)))
-    (usedBy (addSchemaKind ∷ []) (u .kind) (isBlankSchema (u .schema)))
-    (usedBy (setCurrentSchemaKind ∷ []) (u .kind) (isZeroZ (u .«schema_id» .0)))
-    (usedBy (removeSchemasKind ∷ []) (u .kind) (isBlankSchemaIds (u .«schema_ids»)))
-    (usedBy (addSortOrderKind ∷ []) (u .kind) (isBlankSortOrder (u .«sort_order»)))
-    (usedBy (setDefaultSortOrderKind ∷ []) (u .kind) (isZeroZ (u .«sort_order_id» .0)))
-    (usedBy (setStatisticsKind ∷ setPartitionStatisticsKind ∷ []) (u .kind) (isBlankStatisticsFile (u .statistics)))
-    (usedBy (removeStatisticsKind ∷ removePartitionStatisticsKind ∷ []) (u .kind) (isZeroZ (u .«statistics_id» .0)))
-    (isTidyLocation (u .location))
-    (isTidySnapshot (u .snapshot))
-    (isTidySnapshotIds (u .«snapshot_ids»))
-    (isTidyRefName (u .«ref_name»))
-    (isTidyReference (u .reference))
-    (isTidySchema (u .schema))
-    (isTidySchemaIds (u .«schema_ids»))
-    (isTidySortOrder (u .«sort_order»))
-    (isTidyStatisticsFile (u .statistics))
+-- ---- the update
 
 -- an update is read by its kind where it is tidy
 pub tidy-first : (b : Bool) (u : Update) (n : ℕ) → (b && updateFormed u) ≡ updateFormed (cond b u (NotFormed n))
@@ -149,12 +89,12 @@ tidy-first false u n = refl
 
 -- what is asked of the kinds that set a statistics file, and of those that remove one
 
-pub sets-statistics : (u : TableUpdate) → (u .kind ≡ setStatisticsKind) ⊎ (u .kind ≡ setPartitionStatisticsKind) → updateFormed (readKind u) ≡ statisticsFileFormed (readStatisticsFile (u .statistics))
+pub sets-statistics : (u : TableUpdate) → (u .kind ≡ setStatisticsKind) ⊎ (u .kind ≡ setPartitionStatisticsKind) → updateFormed (readKind u) ≡ statisticsFileFormed (readStatisticsFile (u .statistics .file))
 unfolding updateFormed
 sets-statistics u (inl e) = rw e
 sets-statistics u (inr e) = rw e
 
-pub removes-statistics : (u : TableUpdate) → (u .kind ≡ removeStatisticsKind) ⊎ (u .kind ≡ removePartitionStatisticsKind) → updateFormed (readKind u) ≡ nonNeg (u .«statistics_id» .0)
+pub removes-statistics : (u : TableUpdate) → (u .kind ≡ removeStatisticsKind) ⊎ (u .kind ≡ removePartitionStatisticsKind) → updateFormed (readKind u) ≡ nonNeg (u .statistics .removed .0)
 unfolding updateFormed
 removes-statistics u (inl e) = rw e
 removes-statistics u (inr e) = rw e

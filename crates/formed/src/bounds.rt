@@ -1,9 +1,8 @@
-// Numbers within their bounds, and numbers that are 0.
+// Numbers within their bounds.
 ghost use mathlib.Core.Path.{_≡_};
 ghost use lib.Signed.{nonNeg};
 ghost use Rattle.rules.specs.Words.{ifSome};
 ghost use Rattle.rules.specs.WellFormed.{atLeastOne, choiceFormed};
-ghost use Rattle.rules.specs.Blanks.{isZeroZ};
 ghost use Rattle.rules.specs.Layout.{given};
 use records::counters::Age;
 use records::counters::FieldId;
@@ -13,7 +12,6 @@ use records::counters::SchemaId;
 use records::counters::SequenceNumber;
 use records::counters::SnapshotId;
 use records::counters::SortOrderId;
-use records::counters::Time;
 
 pub fn snapshot_id_formed(x: SnapshotId) -> bool
     ensures { λ r. ⌜ r ≡ nonNeg (x .0) ⌝ }
@@ -85,67 +83,4 @@ pub fn min_formed(has: bool, x: MinSnapshots) -> bool
 {
     let v = x.0;
     !has | (v >= 1)
-}
-
-pub fn snapshot_id_zero(x: SnapshotId) -> bool
-    ensures { λ r. ⌜ r ≡ isZeroZ (x .0) ⌝ }
-{
-    let v = x.0;
-    v == 0
-}
-
-pub fn schema_id_zero(x: SchemaId) -> bool
-    ensures { λ r. ⌜ r ≡ isZeroZ (x .0) ⌝ }
-{
-    let v = x.0;
-    v == 0
-}
-
-pub fn order_id_zero(x: SortOrderId) -> bool
-    ensures { λ r. ⌜ r ≡ isZeroZ (x .0) ⌝ }
-{
-    let v = x.0;
-    v == 0
-}
-
-pub fn field_id_zero(x: FieldId) -> bool
-    ensures { λ r. ⌜ r ≡ isZeroZ (x .0) ⌝ }
-{
-    let v = x.0;
-    v == 0
-}
-
-pub fn sequence_zero(x: SequenceNumber) -> bool
-    ensures { λ r. ⌜ r ≡ isZeroZ (x .0) ⌝ }
-{
-    let v = x.0;
-    v == 0
-}
-
-pub fn file_size_zero(x: FileSize) -> bool
-    ensures { λ r. ⌜ r ≡ isZeroZ (x .0) ⌝ }
-{
-    let v = x.0;
-    v == 0
-}
-
-pub fn time_zero(x: Time) -> bool
-    ensures { λ r. ⌜ r ≡ isZeroZ (x .0) ⌝ }
-{
-    let v = x.0;
-    v == 0
-}
-
-pub fn age_zero(x: Age) -> bool
-    ensures { λ r. ⌜ r ≡ isZeroZ (x .0) ⌝ }
-{
-    let v = x.0;
-    v == 0
-}
-
-pub fn min_zero(x: MinSnapshots) -> bool
-    ensures { λ r. ⌜ r ≡ isZeroZ (x .0) ⌝ }
-{
-    let v = x.0;
-    v == 0
 }

@@ -6,9 +6,8 @@ ghost use Rattle.rules.specs.WellFormed.{snapshotsFormed, refsFormed, schemasFo
 ghost use Rattle.rules.specs.Blanks.{isTidySnapshots, isTidyRefs, isTidySchemas, isTidySortOrders, isTidyStatistics, isTidyFields, isTidyMetadata};
 ghost use Rattle.rules.specs.Layout.{readSnapshots, readRefs, readSchemas, readSortOrders, readStatistics, readFields, readMetadata};
 ghost use Rattle.tables.specs.Laid.{LaidSnapshots, LaidRefs};
-use crate::blanks::location_tidy;
+use crate::blanks::text_fits;
 use crate::bounds::sequence_formed;
-use crate::bounds::snapshot_id_zero;
 use crate::order::orders_ascend;
 use crate::order::refs_ascend;
 use crate::order::schemas_ascend;
@@ -21,7 +20,9 @@ use crate::slots::schemas_filled;
 use crate::slots::snapshot_log_formed;
 use crate::slots::snapshots_filled;
 use crate::slots::statistics_filled;
-use records::capacities::LOCATION;
+use equality::ids::same_snapshot;
+use records::capacities::TEXT;
+use records::counters::SnapshotId;
 use records::metadata::SingleFields;
 use records::metadata::TableMetadata;
 use records::reference::Refs;
@@ -29,9 +30,10 @@ use records::schema::Schemas;
 use records::snapshot::Snapshots;
 use records::sort_order::SortOrders;
 use records::statistics::StatisticsFiles;
-use tables::ids::same_snapshot;
+use search::is_in;
+use tables::keys::snapshot_key;
 use tables::names::is_main_name;
-use tables::snapshots::holds;
+use tables::snapshots::ids_of;
 
 pub fn snapshots_formed(t: Snapshots) -> bool
     ensures { λ r. ⌜ r ≡ (isTidySnapshots t && snapshotsFormed (readSnapshots t)) ⌝ }
@@ -87,8 +89,8 @@ fn fields_formed(f: SingleFields) -> bool
     let s = f.last_sequence_number;
     let h = f.has_current;
     let c = f.current_snapshot_id;
-    (location_tidy(l) & (h | snapshot_id_zero(c)))
-        & ((1 <= v) & (v <= 3) & (n <= LOCATION) & sequence_formed(s))
+    (text_fits(true, l) & (h | same_snapshot(c, SnapshotId(0))))
+        & ((1 <= v) & (v <= 3) & (n <= TEXT) & sequence_formed(s))
 }
 
 pub fn refs_held(r: Refs, t: Snapshots) -> bool
@@ -97,13 +99,15 @@ pub fn refs_held(r: Refs, t: Snapshots) -> bool
     ensures { λ b. ⌜ b ≡ all (pointsIn (readSnapshots t)) (readRefs r) ⌝ }
 {
     let n = r.count;
+    let held = t.count;
+    let ids = ids_of(t);
     let mut ok = true;
     let mut i = 0;
     while i < n {
         let x = r.items[i];
         let f = x.reference;
-        let id = f.snapshot_id;
-        ok = ok & holds(t, id);
+        let k = snapshot_key(f.snapshot_id);
+        ok = ok & is_in(&ids[..held], k);
         i += 1;
     }
     ok

@@ -5,24 +5,24 @@ ghost use mathlib.Core.Bool.{not, _&&_};
 ghost use lib.ListN.{drop, take};
 ghost use Rattle.rules.specs.Words.{eqZ, all, unequal};
 ghost use Rattle.rules.specs.Capacities.{schemaFieldRoom};
-ghost use Rattle.rules.specs.WellFormed.{atLeastOne, snapshotFormed, referenceFormed, refFormed, fieldIds, schemaFormed, sortFieldFormed, offeredOrderFormed, orderFormed, statisticsFileFormed, removalFormed};
-ghost use Rattle.rules.specs.Layout.{readSnapshot, readSnapshotIds, readReference, readRef, readSchema, readSchemaIds, readSortField, readSortOrder, readStatisticsFile};
+ghost use Rattle.rules.specs.WellFormed.{atLeastOne, snapshotFormed, referenceFormed, fieldIds, schemaFormed, sortFieldFormed, offeredOrderFormed, orderFormed, statisticsFileFormed, removalFormed};
+ghost use Rattle.rules.specs.Layout.{readSnapshot, readSnapshotIds, readReference, readSchema, readSchemaIds, readSortField, readSortOrder, readStatisticsFile};
 use crate::bounds::age_formed;
 use crate::bounds::field_id_formed;
 use crate::bounds::file_size_formed;
 use crate::bounds::min_formed;
 use crate::bounds::order_id_formed;
-use crate::bounds::order_id_zero;
 use crate::bounds::schema_id_formed;
 use crate::bounds::sequence_formed;
 use crate::bounds::snapshot_id_formed;
-use records::capacities::FILE_NAME;
-use records::capacities::REF_NAME;
+use equality::ids::same_field;
+use equality::ids::same_order;
 use records::capacities::REMOVALS;
 use records::capacities::SCHEMA_FIELDS;
 use records::capacities::SORT_FIELDS;
+use records::capacities::TEXT;
 use records::counters::FieldId;
-use records::reference::NamedRef;
+use records::counters::SortOrderId;
 use records::reference::SnapshotReference;
 use records::schema::Schema;
 use records::schema::SchemaIds;
@@ -31,7 +31,6 @@ use records::snapshot::SnapshotIds;
 use records::sort_order::SortField;
 use records::sort_order::SortOrder;
 use records::statistics::StatisticsFile;
-use tables::ids::same_field;
 
 pub fn snapshot_formed(s: Snapshot) -> bool
     ensures { λ r. ⌜ r ≡ snapshotFormed (readSnapshot s) ⌝ }
@@ -74,15 +73,6 @@ pub fn reference_formed(r: SnapshotReference) -> bool
     snapshot_id_formed(id)
         & ((k == 1) | ((k == 2) & !a & !b))
         & (min_formed(a, x) & age_formed(b, y) & age_formed(c, z))
-}
-
-pub fn ref_formed(r: NamedRef) -> bool
-    ensures { λ b. ⌜ b ≡ refFormed (readRef r) ⌝ }
-{
-    let n = r.name;
-    let l = n.len;
-    let f = r.reference;
-    (l <= REF_NAME) & reference_formed(f)
 }
 
 // No field from a place on has the id.
@@ -180,7 +170,7 @@ pub fn order_formed(o: SortOrder) -> bool
 {
     let id = o.order_id;
     let n = o.count;
-    let zero = order_id_zero(id);
+    let zero = same_order(id, SortOrderId(0));
     let none = n == 0;
     offered_order_formed(o) & (none == zero)
 }
@@ -192,5 +182,5 @@ pub fn statistics_file_formed(f: StatisticsFile) -> bool
     let p = f.statistics_path;
     let n = p.len;
     let s = f.file_size_in_bytes;
-    snapshot_id_formed(id) & (n <= FILE_NAME) & file_size_formed(s)
+    snapshot_id_formed(id) & (n <= TEXT) & file_size_formed(s)
 }

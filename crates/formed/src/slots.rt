@@ -8,34 +8,32 @@ ghost use Rattle.rules.specs.Words.{all};
 ghost use Rattle.rules.specs.Capacities.{snapshotRoom, refRoom, schemaRoom, sortOrderRoom, statisticsRoom};
 ghost use Rattle.rules.specs.WellFormed.{fileNameFormed, snapshotFormed, refFormed, schemaFormed, orderFormed, statisticsFileFormed, snapshotLogFormed, metadataLogFormed};
 ghost use Rattle.rules.specs.Blanks.{isTidySnapshot, isBlankSnapshot, isTidySnapshots, isBlankLogEntry, isTidySnapshotLog, isTidyRef, isBlankRef, isTidyRefs, isTidySchema, isBlankSchema, isTidySchemas, isTidySortOrder, isBlankSortOrder, isTidySortOrders, isTidyStatisticsFile, isBlankStatisticsFile, isTidyStatistics, isTidyMetadataLogEntry, isBlankMetadataLogEntry, isTidyMetadataLog};
-ghost use Rattle.rules.specs.Layout.{readFileName, readSnapshot, readSnapshots, readSnapshotLog, readRef, readRefs, readSchema, readSchemas, readSortOrder, readSortOrders, readStatisticsFile, readStatistics, readMetadataLog};
-use crate::blanks::file_entry_blank;
-use crate::blanks::file_entry_tidy;
-use crate::blanks::log_entry_blank;
-use crate::blanks::order_blank;
-use crate::blanks::order_tidy;
-use crate::blanks::ref_blank;
-use crate::blanks::ref_tidy;
-use crate::blanks::schema_blank;
-use crate::blanks::schema_tidy;
-use crate::blanks::snapshot_blank;
-use crate::blanks::snapshot_tidy;
-use crate::blanks::statistics_file_blank;
-use crate::blanks::statistics_file_tidy;
+ghost use Rattle.rules.specs.Layout.{readText, readSnapshot, readSnapshots, readSnapshotLog, readRef, readRefs, readSchema, readSchemas, readSortOrder, readSortOrders, readStatisticsFile, readStatistics, readMetadataLog};
+use crate::blanks::order_fits;
+use crate::blanks::ref_name_fits;
+use crate::blanks::reference_fits;
+use crate::blanks::schema_fits;
+use crate::blanks::snapshot_fits;
+use crate::blanks::statistics_file_fits;
+use crate::blanks::text_fits;
 use crate::bounds::snapshot_id_formed;
 use crate::record::order_formed;
-use crate::record::ref_formed;
+use crate::record::reference_formed;
 use crate::record::schema_formed;
 use crate::record::snapshot_formed;
 use crate::record::statistics_file_formed;
-use records::capacities::FILE_NAME;
+use equality::number::same_time;
+use equality::whole::same_log_entry;
 use records::capacities::METADATA_LOG;
+use records::capacities::REF_NAME;
 use records::capacities::REFS;
 use records::capacities::SCHEMAS;
 use records::capacities::SNAPSHOT_LOG;
 use records::capacities::SNAPSHOTS;
 use records::capacities::SORT_ORDERS;
 use records::capacities::STATISTICS;
+use records::capacities::TEXT;
+use records::counters::Time;
 use records::metadata::MetadataLog;
 use records::metadata::MetadataLogEntry;
 use records::reference::NamedRef;
@@ -55,9 +53,9 @@ fn snapshot_slot(used: bool, s: Snapshot) -> bool
     ensures { λ r. ⌜ r ≡ cond used (isTidySnapshot s && snapshotFormed (readSnapshot s)) (isBlankSnapshot s) ⌝ }
 {
     if used {
-        return snapshot_tidy(s) & snapshot_formed(s);
+        return snapshot_fits(true, s) & snapshot_formed(s);
     }
-    snapshot_blank(s)
+    snapshot_fits(false, s)
 }
 
 pub fn snapshots_filled(t: Snapshots) -> bool
@@ -77,10 +75,14 @@ pub fn snapshots_filled(t: Snapshots) -> bool
 fn ref_slot(used: bool, r: NamedRef) -> bool
     ensures { λ b. ⌜ b ≡ cond used (isTidyRef r && refFormed (readRef r)) (isBlankRef r) ⌝ }
 {
+    let n = r.name;
+    let l = n.len;
+    let f = r.reference;
     if used {
-        return ref_tidy(r) & ref_formed(r);
+        return (ref_name_fits(true, n) & reference_fits(true, f))
+            & ((l <= REF_NAME) & reference_formed(f));
     }
-    ref_blank(r)
+    ref_name_fits(false, n) & reference_fits(false, f)
 }
 
 pub fn refs_filled(t: Refs) -> bool
@@ -104,7 +106,7 @@ fn log_slot(used: bool, e: SnapshotLogEntry) -> bool
     if used {
         return snapshot_id_formed(id);
     }
-    log_entry_blank(e)
+    same_log_entry(e, SnapshotLogEntry::blank())
 }
 
 pub fn snapshot_log_formed(t: SnapshotLog) -> bool
@@ -122,14 +124,15 @@ pub fn snapshot_log_formed(t: SnapshotLog) -> bool
 }
 
 fn file_slot(used: bool, e: MetadataLogEntry) -> bool
-    ensures { λ r. ⌜ r ≡ cond used (isTidyMetadataLogEntry e && fileNameFormed (readFileName (e .«metadata_file»))) (isBlankMetadataLogEntry e) ⌝ }
+    ensures { λ r. ⌜ r ≡ cond used (isTidyMetadataLogEntry e && fileNameFormed (readText (e .«metadata_file»))) (isBlankMetadataLogEntry e) ⌝ }
 {
     let f = e.metadata_file;
     let n = f.len;
+    let t = e.timestamp_ms;
     if used {
-        return file_entry_tidy(e) & (n <= FILE_NAME);
+        return text_fits(true, f) & (n <= TEXT);
     }
-    file_entry_blank(e)
+    text_fits(false, f) & same_time(t, Time(0))
 }
 
 pub fn metadata_log_formed(t: MetadataLog) -> bool
@@ -150,9 +153,9 @@ fn schema_slot(used: bool, s: Schema) -> bool
     ensures { λ r. ⌜ r ≡ cond used (isTidySchema s && schemaFormed (readSchema s)) (isBlankSchema s) ⌝ }
 {
     if used {
-        return schema_tidy(s) & schema_formed(s);
+        return schema_fits(true, s) & schema_formed(s);
     }
-    schema_blank(s)
+    schema_fits(false, s)
 }
 
 pub fn schemas_filled(t: Schemas) -> bool
@@ -173,9 +176,9 @@ fn order_slot(used: bool, o: SortOrder) -> bool
     ensures { λ r. ⌜ r ≡ cond used (isTidySortOrder o && orderFormed (readSortOrder o)) (isBlankSortOrder o) ⌝ }
 {
     if used {
-        return order_tidy(o) & order_formed(o);
+        return order_fits(true, o) & order_formed(o);
     }
-    order_blank(o)
+    order_fits(false, o)
 }
 
 pub fn orders_filled(t: SortOrders) -> bool
@@ -196,9 +199,9 @@ fn statistics_slot(used: bool, f: StatisticsFile) -> bool
     ensures { λ r. ⌜ r ≡ cond used (isTidyStatisticsFile f && statisticsFileFormed (readStatisticsFile f)) (isBlankStatisticsFile f) ⌝ }
 {
     if used {
-        return statistics_file_tidy(f) & statistics_file_formed(f);
+        return statistics_file_fits(true, f) & statistics_file_formed(f);
     }
-    statistics_file_blank(f)
+    statistics_file_fits(false, f)
 }
 
 pub fn statistics_filled(t: StatisticsFiles) -> bool

@@ -1,35 +1,20 @@
-// Well-formed updates: each record is tidy where the kind uses it and blank where it does not, and what it uses keeps its bounds.
+// Well-formed updates: in each part a record is tidy where the kind uses it and blank where it does not, and what the kind uses keeps its bounds.
 ghost use mathlib.Core.Path.{_≡_};
-ghost use mathlib.Core.Bool.{_&&_};
-ghost use mathlib.Core.List.{[], _∷_};
 ghost use Rattle.rules.specs.WellFormed.{updateFormed};
-ghost use Rattle.rules.specs.Blanks.{isTidyLocation, isBlankLocation, isTidySnapshot, isBlankSnapshot, isTidySnapshotIds, isBlankSnapshotIds, isTidyRefName, isBlankRefName, isTidyReference, isBlankReference, isTidySchema, isBlankSchema, isTidySchemaIds, isBlankSchemaIds, isTidySortOrder, isBlankSortOrder, isTidyStatisticsFile, isBlankStatisticsFile};
-ghost use Rattle.rules.specs.Kinds.{setLocationKind, addSnapshotKind, setBranchSnapshotKind, removeSnapshotsKind, setRefKind, removeRefKind, addSchemaKind, removeSchemasKind, addSortOrderKind, setStatisticsKind, setPartitionStatisticsKind, usedBy, isTidyUpdate, readKind, readUpdate};
-use crate::blanks::location_blank;
-use crate::blanks::location_tidy;
-use crate::blanks::order_blank;
-use crate::blanks::order_tidy;
-use crate::blanks::ref_name_blank;
-use crate::blanks::ref_name_tidy;
-use crate::blanks::reference_blank;
-use crate::blanks::reference_tidy;
-use crate::blanks::schema_blank;
-use crate::blanks::schema_ids_blank;
-use crate::blanks::schema_ids_tidy;
-use crate::blanks::schema_tidy;
-use crate::blanks::snapshot_blank;
-use crate::blanks::snapshot_ids_blank;
-use crate::blanks::snapshot_ids_tidy;
-use crate::blanks::snapshot_tidy;
-use crate::blanks::statistics_file_blank;
-use crate::blanks::statistics_file_tidy;
+ghost use Rattle.rules.specs.Kinds.{isTidyFieldsPart, isTidySnapshotsPart, isTidyRefsPart, isTidySchemasPart, isTidySortOrdersPart, isTidyStatisticsPart, isTidyUpdate, readKind, readUpdate};
+use crate::blanks::order_fits;
+use crate::blanks::ref_name_fits;
+use crate::blanks::reference_fits;
+use crate::blanks::schema_fits;
+use crate::blanks::schema_ids_fit;
+use crate::blanks::snapshot_fits;
+use crate::blanks::snapshot_ids_fit;
+use crate::blanks::statistics_file_fits;
+use crate::blanks::text_fits;
 use crate::blanks::zeros_from;
 use crate::bounds::order_choice_formed;
-use crate::bounds::order_id_zero;
 use crate::bounds::schema_choice_formed;
-use crate::bounds::schema_id_zero;
 use crate::bounds::snapshot_id_formed;
-use crate::bounds::snapshot_id_zero;
 use crate::record::offered_order_formed;
 use crate::record::reference_formed;
 use crate::record::schema_formed;
@@ -37,17 +22,20 @@ use crate::record::schema_ids_formed;
 use crate::record::snapshot_formed;
 use crate::record::snapshot_ids_formed;
 use crate::record::statistics_file_formed;
-use records::capacities::LOCATION;
+use equality::ids::same_order;
+use equality::ids::same_schema;
+use equality::ids::same_snapshot;
 use records::capacities::REF_NAME;
-use records::reference::SnapshotReference;
-use records::schema::Schema;
-use records::schema::SchemaIds;
-use records::snapshot::Snapshot;
-use records::snapshot::SnapshotIds;
-use records::sort_order::SortOrder;
-use records::statistics::StatisticsFile;
-use records::text::Location;
-use records::text::RefName;
+use records::capacities::TEXT;
+use records::counters::SchemaId;
+use records::counters::SnapshotId;
+use records::counters::SortOrderId;
+use records::part::FieldsPart;
+use records::part::SchemasPart;
+use records::part::SnapshotsPart;
+use records::part::SortOrdersPart;
+use records::part::StatisticsPart;
+use records::reference::NamedRef;
 use records::update::ADD_SCHEMA;
 use records::update::ADD_SNAPSHOT;
 use records::update::ADD_SORT_ORDER;
@@ -67,121 +55,74 @@ use records::update::SET_STATISTICS;
 use records::update::TableUpdate;
 use records::update::UPGRADE_FORMAT_VERSION;
 
-fn location_fits(k: u8, x: Location) -> bool
-    ensures { λ r. ⌜ r ≡ (usedBy (setLocationKind ∷ []) k (isBlankLocation x) && isTidyLocation x) ⌝ }
+// ---- the parts
+
+fn fields_fit(k: u8, p: FieldsPart) -> bool
+    ensures { λ r. ⌜ r ≡ isTidyFieldsPart k p ⌝ }
 {
-    if k == SET_LOCATION {
-        return location_tidy(x);
-    }
-    location_blank(x)
+    let uuid = p.uuid;
+    let version = p.format_version;
+    ((k == ASSIGN_UUID) | zeros_from(&uuid, 0))
+        & ((k == UPGRADE_FORMAT_VERSION) | (version == 0))
+        & text_fits(k == SET_LOCATION, p.location)
 }
 
-fn snapshot_fits(k: u8, x: Snapshot) -> bool
-    ensures { λ r. ⌜ r ≡ (usedBy (addSnapshotKind ∷ setBranchSnapshotKind ∷ []) k (isBlankSnapshot x) && isTidySnapshot x) ⌝ }
+fn snapshots_fit(k: u8, p: SnapshotsPart) -> bool
+    ensures { λ r. ⌜ r ≡ isTidySnapshotsPart k p ⌝ }
 {
-    if (k == ADD_SNAPSHOT) | (k == SET_BRANCH_SNAPSHOT) {
-        return snapshot_tidy(x);
-    }
-    snapshot_blank(x)
+    snapshot_fits((k == ADD_SNAPSHOT) | (k == SET_BRANCH_SNAPSHOT), p.added)
+        & snapshot_ids_fit(k == REMOVE_SNAPSHOTS, p.removed)
 }
 
-fn snapshot_ids_fit(k: u8, x: SnapshotIds) -> bool
-    ensures { λ r. ⌜ r ≡ (usedBy (removeSnapshotsKind ∷ []) k (isBlankSnapshotIds x) && isTidySnapshotIds x) ⌝ }
+fn refs_fit(k: u8, p: NamedRef) -> bool
+    ensures { λ r. ⌜ r ≡ isTidyRefsPart k p ⌝ }
 {
-    if k == REMOVE_SNAPSHOTS {
-        return snapshot_ids_tidy(x);
-    }
-    snapshot_ids_blank(x)
+    ref_name_fits(
+        (k == SET_BRANCH_SNAPSHOT) | ((k == SET_REF) | (k == REMOVE_REF)),
+        p.name,
+    )
+        & reference_fits(k == SET_REF, p.reference)
 }
 
-fn ref_name_fits(k: u8, x: RefName) -> bool
-    ensures { λ r. ⌜ r ≡ (usedBy (setBranchSnapshotKind ∷ setRefKind ∷ removeRefKind ∷ []) k (isBlankRefName x) && isTidyRefName x) ⌝ }
+fn schemas_fit(k: u8, p: SchemasPart) -> bool
+    ensures { λ r. ⌜ r ≡ isTidySchemasPart k p ⌝ }
 {
-    if (k == SET_BRANCH_SNAPSHOT) | ((k == SET_REF) | (k == REMOVE_REF)) {
-        return ref_name_tidy(x);
-    }
-    ref_name_blank(x)
+    schema_fits(k == ADD_SCHEMA, p.added)
+        & ((k == SET_CURRENT_SCHEMA) | same_schema(p.chosen, SchemaId(0)))
+        & schema_ids_fit(k == REMOVE_SCHEMAS, p.removed)
 }
 
-fn reference_fits(k: u8, x: SnapshotReference) -> bool
-    ensures { λ r. ⌜ r ≡ (usedBy (setRefKind ∷ []) k (isBlankReference x) && isTidyReference x) ⌝ }
+fn sort_orders_fit(k: u8, p: SortOrdersPart) -> bool
+    ensures { λ r. ⌜ r ≡ isTidySortOrdersPart k p ⌝ }
 {
-    if k == SET_REF {
-        return reference_tidy(x);
-    }
-    reference_blank(x)
+    order_fits(k == ADD_SORT_ORDER, p.added)
+        & ((k == SET_DEFAULT_SORT_ORDER) | same_order(p.chosen, SortOrderId(0)))
 }
 
-fn schema_fits(k: u8, x: Schema) -> bool
-    ensures { λ r. ⌜ r ≡ (usedBy (addSchemaKind ∷ []) k (isBlankSchema x) && isTidySchema x) ⌝ }
+fn statistics_fit(k: u8, p: StatisticsPart) -> bool
+    ensures { λ r. ⌜ r ≡ isTidyStatisticsPart k p ⌝ }
 {
-    if k == ADD_SCHEMA {
-        return schema_tidy(x);
-    }
-    schema_blank(x)
+    statistics_file_fits(
+        (k == SET_STATISTICS) | (k == SET_PARTITION_STATISTICS),
+        p.file,
+    )
+        & ((k == REMOVE_STATISTICS)
+            | (k == REMOVE_PARTITION_STATISTICS)
+            | same_snapshot(p.removed, SnapshotId(0)))
 }
 
-fn schema_ids_fit(k: u8, x: SchemaIds) -> bool
-    ensures { λ r. ⌜ r ≡ (usedBy (removeSchemasKind ∷ []) k (isBlankSchemaIds x) && isTidySchemaIds x) ⌝ }
-{
-    if k == REMOVE_SCHEMAS {
-        return schema_ids_tidy(x);
-    }
-    schema_ids_blank(x)
-}
-
-fn order_fits(k: u8, x: SortOrder) -> bool
-    ensures { λ r. ⌜ r ≡ (usedBy (addSortOrderKind ∷ []) k (isBlankSortOrder x) && isTidySortOrder x) ⌝ }
-{
-    if k == ADD_SORT_ORDER {
-        return order_tidy(x);
-    }
-    order_blank(x)
-}
-
-fn statistics_file_fits(k: u8, x: StatisticsFile) -> bool
-    ensures { λ r. ⌜ r ≡ (usedBy (setStatisticsKind ∷ setPartitionStatisticsKind ∷ []) k (isBlankStatisticsFile x) && isTidyStatisticsFile x) ⌝ }
-{
-    if (k == SET_STATISTICS) | (k == SET_PARTITION_STATISTICS) {
-        return statistics_file_tidy(x);
-    }
-    statistics_file_blank(x)
-}
+// ---- the update
 
 pub fn is_tidy(u: TableUpdate) -> bool
     ensures { λ r. ⌜ r ≡ isTidyUpdate u ⌝ }
 {
     let k = u.kind;
-    let uuid = u.uuid;
-    let version = u.format_version;
-    let location = u.location;
-    let snapshot = u.snapshot;
-    let snapshot_ids = u.snapshot_ids;
-    let name = u.ref_name;
-    let reference = u.reference;
-    let schema = u.schema;
-    let schema_id = u.schema_id;
-    let schema_ids = u.schema_ids;
-    let order = u.sort_order;
-    let order_id = u.sort_order_id;
-    let statistics = u.statistics;
-    let statistics_id = u.statistics_id;
-    ((k == ASSIGN_UUID) | zeros_from(&uuid, 0))
-        & ((k == UPGRADE_FORMAT_VERSION) | (version == 0))
-        & location_fits(k, location)
-        & snapshot_fits(k, snapshot)
-        & snapshot_ids_fit(k, snapshot_ids)
-        & ref_name_fits(k, name)
-        & reference_fits(k, reference)
-        & schema_fits(k, schema)
-        & ((k == SET_CURRENT_SCHEMA) | schema_id_zero(schema_id))
-        & schema_ids_fit(k, schema_ids)
-        & order_fits(k, order)
-        & ((k == SET_DEFAULT_SORT_ORDER) | order_id_zero(order_id))
-        & statistics_file_fits(k, statistics)
-        & ((k == REMOVE_STATISTICS)
-            | (k == REMOVE_PARTITION_STATISTICS)
-            | snapshot_id_zero(statistics_id))
+    fields_fit(k, u.fields)
+        & snapshots_fit(k, u.snapshots)
+        & refs_fit(k, u.refs)
+        & schemas_fit(k, u.schemas)
+        & sort_orders_fit(k, u.sort_orders)
+        & statistics_fit(k, u.statistics)
 }
 
 // The numbers and lengths that the kind uses keep their bounds.
@@ -189,37 +130,27 @@ fn used_formed(u: TableUpdate) -> bool
     ensures { λ r. ⌜ r ≡ updateFormed (readKind u) ⌝ }
 {
     let k = u.kind;
-    let version = u.format_version;
-    let location = u.location;
-    let snapshot = u.snapshot;
-    let snapshot_ids = u.snapshot_ids;
-    let name = u.ref_name;
-    let reference = u.reference;
-    let schema = u.schema;
-    let schema_id = u.schema_id;
-    let schema_ids = u.schema_ids;
-    let order = u.sort_order;
-    let order_id = u.sort_order_id;
-    let statistics = u.statistics;
-    let statistics_id = u.statistics_id;
-    let a = location.len;
-    let b = name.len;
+    let version = u.fields.format_version;
+    let location = u.fields.location.len;
+    let name = u.refs.name.len;
     match k {
         ASSIGN_UUID => true,
         UPGRADE_FORMAT_VERSION => (1 <= version) & (version <= 3),
-        SET_LOCATION => a <= LOCATION,
-        ADD_SNAPSHOT => snapshot_formed(snapshot),
-        SET_BRANCH_SNAPSHOT => (b <= REF_NAME) & snapshot_formed(snapshot),
-        REMOVE_SNAPSHOTS => snapshot_ids_formed(snapshot_ids),
-        SET_REF => (b <= REF_NAME) & reference_formed(reference),
-        REMOVE_REF => b <= REF_NAME,
-        ADD_SCHEMA => schema_formed(schema),
-        SET_CURRENT_SCHEMA => schema_choice_formed(schema_id),
-        REMOVE_SCHEMAS => schema_ids_formed(schema_ids),
-        ADD_SORT_ORDER => offered_order_formed(order),
-        SET_DEFAULT_SORT_ORDER => order_choice_formed(order_id),
-        SET_STATISTICS | SET_PARTITION_STATISTICS => statistics_file_formed(statistics),
-        REMOVE_STATISTICS | REMOVE_PARTITION_STATISTICS => snapshot_id_formed(statistics_id),
+        SET_LOCATION => location <= TEXT,
+        ADD_SNAPSHOT => snapshot_formed(u.snapshots.added),
+        SET_BRANCH_SNAPSHOT => (name <= REF_NAME) & snapshot_formed(u.snapshots.added),
+        REMOVE_SNAPSHOTS => snapshot_ids_formed(u.snapshots.removed),
+        SET_REF => (name <= REF_NAME) & reference_formed(u.refs.reference),
+        REMOVE_REF => name <= REF_NAME,
+        ADD_SCHEMA => schema_formed(u.schemas.added),
+        SET_CURRENT_SCHEMA => schema_choice_formed(u.schemas.chosen),
+        REMOVE_SCHEMAS => schema_ids_formed(u.schemas.removed),
+        ADD_SORT_ORDER => offered_order_formed(u.sort_orders.added),
+        SET_DEFAULT_SORT_ORDER => order_choice_formed(u.sort_orders.chosen),
+        SET_STATISTICS | SET_PARTITION_STATISTICS => statistics_file_formed(u.statistics.file),
+        REMOVE_STATISTICS | REMOVE_PARTITION_STATISTICS => {
+            snapshot_id_formed(u.statistics.removed)
+        }
         _ => false,
     }
 }

@@ -16,8 +16,8 @@ use Rattle.rules.specs.Capacities.{listRoom}
 use Rattle.rules.specs.Register.{Update}
 use Rattle.rules.specs.Layout.{counted}
 use Rattle.rules.specs.Kinds.{readUpdate, readUpdates}
-use Rattle.rules.proofs.ReplayLists.{any-append}
-use Rattle.rules.proofs.Relaid.{counted-take}
+use Rattle.rules.proofs.Replay.Lists.{any-append}
+use Rattle.rules.proofs.Slots.Relaid.{counted-take}
 use Rattle.tables.proofs.Search.{any-map}
 use Rattle.formed.proofs.Counted.{Taken, taken-end}
 

@@ -14,6 +14,7 @@ ghost use Rattle.rules.specs.Blanks.{isTidyMetadata};
 ghost use Rattle.rules.specs.Layout.{readSnapshotIds, readSnapshotLog, readSnapshots, readMetadata};
 ghost use Rattle.rules.specs.Kinds.{readUpdate, readUpdates};
 ghost use Rattle.tables.specs.Laid.{LaidSnapshots};
+use equality::ids::same_snapshot;
 use formed::update::is_tidy;
 use records::capacities::REMOVALS;
 use records::capacities::UPDATES;
@@ -26,8 +27,9 @@ use records::update::ADD_SNAPSHOT;
 use records::update::REMOVE_SNAPSHOTS;
 use records::update::TableUpdate;
 use records::update::UpdateList;
-use tables::ids::same_snapshot;
-use tables::snapshots::holds;
+use search::is_in;
+use tables::keys::snapshot_key;
+use tables::snapshots::ids_of;
 
 // ---- metadata
 
@@ -37,12 +39,14 @@ fn names_held(log: SnapshotLog, t: Snapshots) -> bool
     ensures { λ r. ⌜ r ≡ all (λ e. holdsSnapshot (readSnapshots t) (e .snapshot)) (readSnapshotLog log) ⌝ }
 {
     let n = log.count;
+    let held = t.count;
+    let ids = ids_of(t);
     let mut ok = true;
     let mut i = 0;
     while i < n {
         let e = log.items[i];
-        let id = e.snapshot_id;
-        ok = ok & holds(t, id);
+        let k = snapshot_key(e.snapshot_id);
+        ok = ok & is_in(&ids[..held], k);
         i += 1;
     }
     ok
@@ -77,7 +81,7 @@ fn is_addition(u: TableUpdate, id: SnapshotId) -> bool
     ensures { λ r. ⌜ r ≡ isAddition (id .0) (readUpdate u) ⌝ }
 {
     let kind = u.kind;
-    let s = u.snapshot;
+    let s = u.snapshots.added;
     let x = s.snapshot_id;
     if kind == ADD_SNAPSHOT {
         return is_tidy(u) & same_snapshot(x, id);
@@ -121,7 +125,7 @@ fn removes_added(changes: UpdateList, u: TableUpdate) -> bool
     ensures { λ r. ⌜ r ≡ any (logsAddition (readUpdates changes)) (removedIds (readUpdate u)) ⌝ }
 {
     let kind = u.kind;
-    let ids = u.snapshot_ids;
+    let ids = u.snapshots.removed;
     if kind == REMOVE_SNAPSHOTS {
         return is_tidy(u) & any_is_added(changes, ids);
     }

@@ -12,7 +12,7 @@ use Rattle.rules.specs.Words.{any, keep, lastOf, afterLast}
 use Rattle.rules.specs.Register.{LogEntry}
 use Rattle.rules.specs.Moment.{isBy, currentAt, entriesRead}
 use Rattle.rules.proofs.Checks.{or-right}
-use Rattle.rules.proofs.ReplayLists.{keep-append, any-append}
+use Rattle.rules.proofs.Replay.Lists.{keep-append, any-append}
 use Rattle.moment.specs.Reading.{untilHit}
 
 -- ---- one element more at the end

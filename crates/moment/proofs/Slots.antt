@@ -8,7 +8,7 @@ use Rattle.records.specs.Blanks.{noLogEntry}
 use Rattle.records.specs.declared.snapshot.SnapshotLogEntry.{SnapshotLogEntry}
 use Rattle.records.specs.declared.snapshot.SnapshotLog.{SnapshotLog}
 use Rattle.rules.specs.Layout.{counted, readLogEntry, readSnapshotLog}
-use Rattle.rules.proofs.Relaid.{length-counted, counted-take}
+use Rattle.rules.proofs.Slots.Relaid.{length-counted, counted-take}
 use Rattle.moment.specs.Reading.{entryAt}
 
 -- how many slots an array has is known of what its elements are read from

@@ -21,8 +21,8 @@ use Rattle.rules.specs.Moment.{isBy}
 use Rattle.rules.specs.Register.{LogEntry}
 use Rattle.rules.specs.Words.{any}
 use Rattle.rules.proofs.Checks.{or-left, or-right}
-use Rattle.rules.proofs.During.{at-most-itself}
-use Rattle.rules.proofs.Relaid.{set-pad}
+use Rattle.rules.proofs.History.During.{at-most-itself}
+use Rattle.rules.proofs.Slots.Relaid.{set-pad}
 use Rattle.moment.specs.Answers.{momentOf, duringOf}
 use Rattle.moment.specs.Reading.{entryAt, Read}
 use Rattle.moment.proofs.Reading.{from}

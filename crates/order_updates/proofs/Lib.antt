@@ -1,2 +1,3 @@
 -- What is said of orders alone.
 mod NewOrders
+mod Tables

@@ -1,16 +1,17 @@
-// What is wrong with an input, and where, in one line, as `bad input: run 2, number 15, at byte 230: there should be a number from 0 to 255, but
-// the input ends`. Runs, numbers and bytes are counted from 1.
+// What is wrong with an input, and where, in one line, as `bad input: may.case, run 2, number 15, at byte 230: there should be a number from 0 to
+// 255, but the input ends`. Runs, numbers and bytes are counted from 1. Standard input has no name.
+use crate::name::say_escaped;
 use crate::number::say_count;
 use crate::text::say;
 use crate::text::say_line;
-use numbers::input::A_BYTE;
-use numbers::input::Fault;
-use numbers::input::Place;
-use numbers::input::fault_of;
-use numbers::output::Output;
-use numbers::wanted::REPEATED;
-use numbers::wanted::SIGNED;
-use numbers::wanted::UP_TO;
+use tokens::input::A_BYTE;
+use tokens::input::Fault;
+use tokens::input::Place;
+use tokens::input::fault_of;
+use tokens::output::Output;
+use tokens::wanted::REPEATED;
+use tokens::wanted::SIGNED;
+use tokens::wanted::UP_TO;
 
 // A word and a number, and what parts them from the next.
 fn say_counted(output: &mut Output, end: &mut usize, word: &[u8], number: usize, after: &[u8]) {
@@ -29,7 +30,7 @@ fn say_where(output: &mut Output, end: &mut usize, piece: &[u8], fault: Fault) {
     say_counted(output, end, b"at byte ", fault.byte, b": ");
 }
 
-// A line for each of `numbers::wanted`, the bound last.
+// A line for each of `tokens::wanted`, the bound last.
 fn say_wanted(output: &mut Output, end: &mut usize, wanted: usize, bound: usize) {
     let words = b"the input could not be read\n\
         there should be a number from 0 to \n\
@@ -58,9 +59,27 @@ fn say_found(output: &mut Output, end: &mut usize, found: usize, odd: usize) {
     say(output, end, b"\n");
 }
 
-pub fn say_fault(output: &mut Output, end: &mut usize, piece: &[u8], place: &Place) {
-    let fault = fault_of(place);
+// What every such line begins with.
+fn say_bad_input(output: &mut Output, end: &mut usize, name: &[u8], after: &[u8]) {
     say(output, end, b"bad input: ");
+    if name.len() > 0 {
+        say_escaped(output, end, name, name.len());
+        say(output, end, after);
+    }
+}
+
+pub fn say_unopened(output: &mut Output, end: &mut usize, name: &[u8]) {
+    say_bad_input(output, end, name, b": ");
+    say(
+        output,
+        end,
+        b"there is no such file, or it may not be read\n",
+    );
+}
+
+pub fn say_fault(output: &mut Output, end: &mut usize, name: &[u8], piece: &[u8], place: &Place) {
+    let fault = fault_of(place);
+    say_bad_input(output, end, name, b", ");
     say_where(output, end, piece, fault);
     say_wanted(output, end, fault.wanted, fault.bound);
     say_found(output, end, fault.found, fault.odd);

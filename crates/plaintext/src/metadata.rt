@@ -11,10 +11,10 @@ use cards::table::OF_SNAPSHOTS;
 use cards::table::TABLES;
 use cards::table::count_of;
 use cards::table::only_files;
-use numbers::output::Output;
 use records::metadata::MetadataLog;
 use records::metadata::SingleFields;
 use records::metadata::TableMetadata;
+use tokens::output::Output;
 
 pub fn say_files(output: &mut Output, end: &mut usize, heading: &[u8], log: MetadataLog) {
     say_heading(output, end, heading, log.count);

@@ -4,10 +4,9 @@ ghost use Prim.Native.Nat.{_<_};
 use crate::table::say_left_out;
 use crate::text::say;
 use cards::card::Text;
-use fitting::lent;
-use fitting::with_slots;
-use numbers::output::Output;
-use records::text::FileName;
+use slot_bounds::lent;
+use slot_bounds::with_slots;
+use tokens::output::Output;
 
 fn is_plain(byte: u8) -> bool {
     b' ' <= byte && byte <= b'~' && byte != b'"' && byte != b'\\'
@@ -83,7 +82,7 @@ pub fn say_name(output: &mut Output, end: &mut usize, slots: &[u8], len: usize) 
     say_left_out(output, end, len, slots.len());
 }
 
-pub fn say_file_name(output: &mut Output, end: &mut usize, name: FileName) {
+pub fn say_file_name(output: &mut Output, end: &mut usize, name: records::text::Text) {
     let bytes = name.bytes;
     say_name(output, end, &bytes, name.len);
 }

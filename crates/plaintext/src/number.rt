@@ -1,7 +1,7 @@
 // Numbers in a sentence: with nothing after them.
-use numbers::number::put_i64;
-use numbers::number::put_u64;
-use numbers::output::Output;
+use tokens::number::put_i64;
+use tokens::number::put_u64;
+use tokens::output::Output;
 
 // The space that follows every number of the case format is not kept.
 fn drop_space(end: &mut usize) {

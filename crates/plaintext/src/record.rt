@@ -4,7 +4,7 @@ use cards::card::Card;
 use cards::card::List;
 use cards::item::item_at;
 use cards::item::items;
-use numbers::output::Output;
+use tokens::output::Output;
 
 // A template for each kind of item: the word for no elements, an id, the source id, direction and nulls of a sort field, and how many more
 // are counted than there are slots for.

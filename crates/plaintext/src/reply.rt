@@ -3,11 +3,11 @@ use crate::number::say_count;
 use crate::number::say_u8;
 use crate::text::say;
 use crate::text::say_line;
-use numbers::output::Output;
 use records::replies::START_NOT_FORMED;
+use tokens::output::Output;
 
 // As `refused 21 at 1`.
-pub fn say_refused(output: &mut Output, end: &mut usize, number: u8, place: usize) {
+fn say_refused(output: &mut Output, end: &mut usize, number: u8, place: usize) {
     say(output, end, b"refused ");
     say_u8(output, end, number);
     say(output, end, b" at ");
@@ -83,8 +83,10 @@ fn say_number(output: &mut Output, end: &mut usize, number: u8) {
     say_line(output, end, reasons, number as usize);
 }
 
-// Of a start that is not well formed, its first fault too.
-pub fn say_reason(output: &mut Output, end: &mut usize, number: u8, fault: u8) {
+// As `refused 12 at 0: ref to a snapshot not held`; of a start that is not well formed, its first fault too.
+pub fn say_refusal(output: &mut Output, end: &mut usize, number: u8, place: usize, fault: u8) {
+    say_refused(output, end, number, place);
+    say(output, end, b": ");
     say_number(output, end, number);
     if number == START_NOT_FORMED {
         say(output, end, b": ");

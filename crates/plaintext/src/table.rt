@@ -7,9 +7,9 @@ use cards::card::counted;
 use cards::table::card_at;
 use cards::table::count_of;
 use cards::table::slots_of;
-use fitting::with_slots;
-use numbers::output::Output;
 use records::metadata::TableMetadata;
+use slot_bounds::with_slots;
+use tokens::output::Output;
 
 // What is counted beyond the slots was never held.
 pub fn say_left_out(output: &mut Output, end: &mut usize, count: usize, slots: usize) {

@@ -13,8 +13,8 @@ use crate::time::say_date;
 use cards::card::Card;
 use cards::card::signed_at;
 use cards::card::unsigned_at;
-use numbers::output::Output;
 use records::counters::Time;
+use tokens::output::Output;
 
 // Where the reader of templates is: in which template, in which part of it, behind which mark; which alternative is wanted and which is
 // read, and whether that is said. Outside of alternatives everything is.

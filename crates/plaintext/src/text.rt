@@ -1,6 +1,6 @@
 // Text of any length to standard output: where the buffer is full, it is written out first.
-use numbers::output::Output;
-use numbers::output::make_room;
+use tokens::output::Output;
+use tokens::output::make_room;
 
 pub fn say_byte(output: &mut Output, end: &mut usize, byte: u8) {
     let at = make_room(output, *end);
@@ -16,17 +16,22 @@ pub fn say(output: &mut Output, end: &mut usize, text: &[u8]) {
     }
 }
 
-// One of many lines, counted from 0, without its end. Where words depend on a number, this asks for less proof than a `match` that prints.
-pub fn say_line(output: &mut Output, end: &mut usize, lines: &[u8], line: usize) {
-    let mut at: usize = 0;
+// One of the parts of a text between marks, counted from 0. Where words depend on a number, this asks for less proof than a `match` that prints.
+pub fn say_between(output: &mut Output, end: &mut usize, text: &[u8], mark: u8, part: usize) {
+    let mut passed: usize = 0;
     let mut i = 0;
-    while i < lines.len() {
-        let byte = lines[i];
+    while i < text.len() {
+        let byte = text[i];
         i += 1;
-        if byte == b'\n' {
-            at += 1;
-        } else if at == line {
+        if byte == mark {
+            passed += 1;
+        } else if passed == part {
             say_byte(output, end, byte);
         }
     }
+}
+
+// One of many lines, without its end.
+pub fn say_line(output: &mut Output, end: &mut usize, lines: &[u8], line: usize) {
+    say_between(output, end, lines, b'\n', line);
 }

@@ -5,9 +5,9 @@ use crate::text::say_line;
 use calendar::date::date_of;
 use calendar::text::text_of;
 use cards::card::Card;
-use numbers::output::Output;
 use records::counters::Age;
 use records::counters::Time;
+use tokens::output::Output;
 
 // As `2025-03-12 10:00:00 UTC`, with `.123` after the seconds where milliseconds are not 0.
 pub fn say_date(output: &mut Output, end: &mut usize, time: Time) {

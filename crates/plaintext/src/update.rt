@@ -14,8 +14,6 @@ use cards::table::OF_SORT_ORDERS;
 use cards::table::OF_STATISTICS;
 use cards::update::update;
 use cards::update::update_at;
-use fitting::with_slots;
-use numbers::output::Output;
 use records::capacities::UPDATES;
 use records::update::ADD_SCHEMA;
 use records::update::ADD_SNAPSHOT;
@@ -29,6 +27,8 @@ use records::update::SET_REF;
 use records::update::SET_STATISTICS;
 use records::update::TableUpdate;
 use records::update::UpdateList;
+use slot_bounds::with_slots;
+use tokens::output::Output;
 
 // The record that is said of a kind, behind its words; none of those whose words say all.
 fn record_of(kind: u8) -> usize {

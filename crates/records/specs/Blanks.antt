@@ -5,8 +5,7 @@ use lib.ListN.{replicate}
 use Rattle.records.specs.declared.counters.SnapshotId.{SnapshotId}
 use Rattle.records.specs.declared.counters.SchemaId.{SchemaId}
 use Rattle.records.specs.declared.text.RefName.{RefName}
-use Rattle.records.specs.declared.text.Location.{Location}
-use Rattle.records.specs.declared.text.FileName.{FileName}
+use Rattle.records.specs.declared.text.Text.{Text}
 use Rattle.records.specs.declared.snapshot.Snapshot.{Snapshot}
 use Rattle.records.specs.declared.snapshot.Snapshots.{Snapshots}
 use Rattle.records.specs.declared.snapshot.SnapshotIds.{SnapshotIds}
@@ -28,6 +27,11 @@ use Rattle.records.specs.declared.metadata.MetadataLogEntry.{MetadataLog
 use Rattle.records.specs.declared.metadata.MetadataLog.{MetadataLog}
 use Rattle.records.specs.declared.metadata.SingleFields.{SingleFields}
 use Rattle.records.specs.declared.metadata.TableMetadata.{TableMetadata}
+use Rattle.records.specs.declared.part.FieldsPart.{FieldsPart}
+use Rattle.records.specs.declared.part.SnapshotsPart.{SnapshotsPart}
+use Rattle.records.specs.declared.part.SchemasPart.{SchemasPart}
+use Rattle.records.specs.declared.part.SortOrdersPart.{SortOrdersPart}
+use Rattle.records.specs.declared.part.StatisticsPart.{StatisticsPart}
 use Rattle.records.specs.declared.update.TableUpdate.{TableUpdate}
 use Rattle.records.specs.declared.update.UpdateList.{UpdateList}
 
@@ -36,11 +40,8 @@ use Rattle.records.specs.declared.update.UpdateList.{UpdateList}
 abbrev pub noRefName : RefName
 noRefName = record { bytes = replicate 32 0; len = 0 }
 
-abbrev pub noLocation : Location
-noLocation = record { bytes = replicate 96 0; len = 0 }
-
-abbrev pub noFileName : FileName
-noFileName = record { bytes = replicate 96 0; len = 0 }
+abbrev pub noText : Text
+noText = record { bytes = replicate 96 0; len = 0 }
 
 -- ---- snapshots
 
@@ -122,7 +123,7 @@ noSortOrders = record { items = replicate 16 noSortOrder; count = 0 }
 -- ---- statistics files
 
 abbrev pub noStatisticsFile : StatisticsFile
-noStatisticsFile = record { «snapshot_id» = noSnapshotId; «statistics_path» = noFileName; «file_size_in_bytes» = record { 0 = pos 0 } }
+noStatisticsFile = record { «snapshot_id» = noSnapshotId; «statistics_path» = noText; «file_size_in_bytes» = record { 0 = pos 0 } }
 
 unfoldable pub noStatisticsFiles : StatisticsFiles
 noStatisticsFiles = record { items = replicate 32 noStatisticsFile; count = 0 }
@@ -130,7 +131,7 @@ noStatisticsFiles = record { items = replicate 32 noStatisticsFile; count = 0 }
 -- ---- metadata
 
 abbrev pub noMetadataLogEntry : MetadataLogEntry
-noMetadataLogEntry = record { «metadata_file» = noFileName; «timestamp_ms» = record { 0 = pos 0 } }
+noMetadataLogEntry = record { «metadata_file» = noText; «timestamp_ms» = record { 0 = pos 0 } }
 
 -- 01, "Forms we want to see": the log starts as a blank entry repeated 128 times
 unfoldable pub noMetadataLog : MetadataLog
@@ -140,7 +141,7 @@ unfoldable pub noFields : SingleFields
 noFields = record {
   «format_version» = 0;
   «table_uuid» = replicate 16 0;
-  location = noLocation;
+  location = noText;
   «last_updated_ms» = record { 0 = pos 0 };
   «last_sequence_number» = record { 0 = pos 0 };
   «next_row_id» = record { 0 = 0 };
@@ -166,24 +167,23 @@ noMetadata = record {
 
 -- ---- updates
 
+unfoldable pub noFieldsPart : FieldsPart
+noFieldsPart = record { uuid = replicate 16 0; «format_version» = 0; location = noText }
+
+unfoldable pub noSnapshotsPart : SnapshotsPart
+noSnapshotsPart = record { added = noSnapshot; removed = noSnapshotIds }
+
+unfoldable pub noSchemasPart : SchemasPart
+noSchemasPart = record { added = noSchema; chosen = noSchemaId; removed = noSchemaIds }
+
+unfoldable pub noSortOrdersPart : SortOrdersPart
+noSortOrdersPart = record { added = noSortOrder; chosen = record { 0 = pos 0 } }
+
+unfoldable pub noStatisticsPart : StatisticsPart
+noStatisticsPart = record { file = noStatisticsFile; removed = noSnapshotId }
+
 unfoldable pub noUpdate : TableUpdate
-noUpdate = record {
-  kind = 0;
-  uuid = replicate 16 0;
-  «format_version» = 0;
-  location = noLocation;
-  snapshot = noSnapshot;
-  «snapshot_ids» = noSnapshotIds;
-  «ref_name» = noRefName;
-  reference = noReference;
-  schema = noSchema;
-  «schema_id» = record { 0 = pos 0 };
-  «schema_ids» = noSchemaIds;
-  «sort_order» = noSortOrder;
-  «sort_order_id» = record { 0 = pos 0 };
-  statistics = noStatisticsFile;
-  «statistics_id» = noSnapshotId;
-}
+noUpdate = record { kind = 0; fields = noFieldsPart; snapshots = noSnapshotsPart; refs = noRef; schemas = noSchemasPart; «sort_orders» = noSortOrdersPart; statistics = noStatisticsPart }
 
 unfoldable pub noUpdates : UpdateList
 noUpdates = record { items = replicate 64 noUpdate; count = 0 }

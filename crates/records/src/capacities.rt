@@ -21,8 +21,7 @@ pub const REMOVALS: usize = 16;
 
 pub const REF_NAME: usize = 32;
 
-pub const LOCATION: usize = 96;
-
-pub const FILE_NAME: usize = 96;
+// A location, a file name or a path.
+pub const TEXT: usize = 96;
 
 pub const UPDATES: usize = 64;

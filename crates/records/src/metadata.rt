@@ -15,11 +15,10 @@ use crate::snapshot::SnapshotLog;
 use crate::snapshot::Snapshots;
 use crate::sort_order::SortOrders;
 use crate::statistics::StatisticsFiles;
-use crate::text::FileName;
-use crate::text::Location;
+use crate::text::Text;
 
 pub struct MetadataLogEntry {
-    pub metadata_file: FileName,
+    pub metadata_file: Text,
     pub timestamp_ms: Time,
 }
 
@@ -33,7 +32,7 @@ pub struct MetadataLog {
 pub struct SingleFields {
     pub format_version: u8,
     pub table_uuid: [u8; 16],
-    pub location: Location,
+    pub location: Text,
     pub last_updated_ms: Time,
     pub last_sequence_number: SequenceNumber,
     pub next_row_id: RowId,
@@ -60,7 +59,7 @@ impl MetadataLogEntry {
     pub fn blank() -> MetadataLogEntry
         ensures { λ r. ⌜ r ≡ noMetadataLogEntry ⌝ }
     {
-        let metadata_file = FileName::blank();
+        let metadata_file = Text::blank();
         MetadataLogEntry {
             metadata_file,
             timestamp_ms: Time(0),
@@ -82,7 +81,7 @@ impl SingleFields {
     pub fn blank() -> SingleFields
         ensures { λ r. ⌜ r ≡ noFields ⌝ }
     {
-        let location = Location::blank();
+        let location = Text::blank();
         SingleFields {
             format_version: 0,
             table_uuid: [0; 16],

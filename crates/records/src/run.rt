@@ -3,7 +3,7 @@ use crate::counters::Age;
 use crate::counters::Time;
 use crate::metadata::MetadataLog;
 use crate::metadata::TableMetadata;
-use crate::text::FileName;
+use crate::text::Text;
 use crate::update::UpdateList;
 
 // The tolerance of a run for which none is chosen, and the longest: document 02, request (v). In milliseconds.
@@ -17,7 +17,7 @@ pub struct RunTerms {
     pub clock_ms: Time,
     pub tolerance_ms: Age,
     pub has_file: bool,
-    pub file: FileName,
+    pub file: Text,
 }
 
 // The number is 0 for an accepted run; a refused one gives the metadata that it was given, no changes and no expired entries.

@@ -4,11 +4,11 @@ ghost use Rattle.records.specs.Blanks.{noStatisticsFile, noStatisticsFil
 use crate::capacities::STATISTICS;
 use crate::counters::FileSize;
 use crate::counters::SnapshotId;
-use crate::text::FileName;
+use crate::text::Text;
 
 pub struct StatisticsFile {
     pub snapshot_id: SnapshotId,
-    pub statistics_path: FileName,
+    pub statistics_path: Text,
     pub file_size_in_bytes: FileSize,
 }
 
@@ -22,7 +22,7 @@ impl StatisticsFile {
     pub fn blank() -> StatisticsFile
         ensures { λ r. ⌜ r ≡ noStatisticsFile ⌝ }
     {
-        let statistics_path = FileName::blank();
+        let statistics_path = Text::blank();
         StatisticsFile {
             snapshot_id: SnapshotId(0),
             statistics_path,

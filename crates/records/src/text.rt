@@ -1,22 +1,17 @@
-// Names and locations: bytes and how many of them count. The rest are 0.
+// Names, locations and paths: bytes and how many of them count. The rest are 0.
 ghost use mathlib.Core.Path.{_≡_};
-ghost use Rattle.records.specs.Blanks.{noRefName, noLocation, noFileName};
-use crate::capacities::FILE_NAME;
-use crate::capacities::LOCATION;
+ghost use Rattle.records.specs.Blanks.{noRefName, noText};
 use crate::capacities::REF_NAME;
+use crate::capacities::TEXT;
 
 pub struct RefName {
     pub bytes: [u8; REF_NAME],
     pub len: usize,
 }
 
-pub struct Location {
-    pub bytes: [u8; LOCATION],
-    pub len: usize,
-}
-
-pub struct FileName {
-    pub bytes: [u8; FILE_NAME],
+// A location, the name of a metadata file, or the path of a statistics file.
+pub struct Text {
+    pub bytes: [u8; TEXT],
     pub len: usize,
 }
 
@@ -31,23 +26,12 @@ impl RefName {
     }
 }
 
-impl Location {
-    pub fn blank() -> Location
-        ensures { λ r. ⌜ r ≡ noLocation ⌝ }
+impl Text {
+    pub fn blank() -> Text
+        ensures { λ r. ⌜ r ≡ noText ⌝ }
     {
-        Location {
-            bytes: [0; LOCATION],
-            len: 0,
-        }
-    }
-}
-
-impl FileName {
-    pub fn blank() -> FileName
-        ensures { λ r. ⌜ r ≡ noFileName ⌝ }
-    {
-        FileName {
-            bytes: [0; FILE_NAME],
+        Text {
+            bytes: [0; TEXT],
             len: 0,
         }
     }

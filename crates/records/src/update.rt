@@ -1,19 +1,13 @@
-// An update: a kind, with the records of every kind beside it. Those that the kind does not use are blank.
+// An update: a kind, with the parts of every kind beside it. What of them the kind does not use is blank.
 ghost use mathlib.Core.Path.{_≡_};
 ghost use Rattle.records.specs.Blanks.{noUpdate, noUpdates};
 use crate::capacities::UPDATES;
-use crate::counters::SchemaId;
-use crate::counters::SnapshotId;
-use crate::counters::SortOrderId;
-use crate::reference::SnapshotReference;
-use crate::schema::Schema;
-use crate::schema::SchemaIds;
-use crate::snapshot::Snapshot;
-use crate::snapshot::SnapshotIds;
-use crate::sort_order::SortOrder;
-use crate::statistics::StatisticsFile;
-use crate::text::Location;
-use crate::text::RefName;
+use crate::part::FieldsPart;
+use crate::part::SchemasPart;
+use crate::part::SnapshotsPart;
+use crate::part::SortOrdersPart;
+use crate::part::StatisticsPart;
+use crate::reference::NamedRef;
 
 // The kinds, in the order of a table's life.
 pub const ASSIGN_UUID: u8 = 1;
@@ -52,20 +46,12 @@ pub const REMOVE_PARTITION_STATISTICS: u8 = 17;
 
 pub struct TableUpdate {
     pub kind: u8,
-    pub uuid: [u8; 16],
-    pub format_version: u8,
-    pub location: Location,
-    pub snapshot: Snapshot,
-    pub snapshot_ids: SnapshotIds,
-    pub ref_name: RefName,
-    pub reference: SnapshotReference,
-    pub schema: Schema,
-    pub schema_id: SchemaId,
-    pub schema_ids: SchemaIds,
-    pub sort_order: SortOrder,
-    pub sort_order_id: SortOrderId,
-    pub statistics: StatisticsFile,
-    pub statistics_id: SnapshotId,
+    pub fields: FieldsPart,
+    pub snapshots: SnapshotsPart,
+    pub refs: NamedRef,
+    pub schemas: SchemasPart,
+    pub sort_orders: SortOrdersPart,
+    pub statistics: StatisticsPart,
 }
 
 // A list of updates, and the log of those that took effect.
@@ -78,31 +64,20 @@ impl TableUpdate {
     pub fn blank() -> TableUpdate
         ensures { λ r. ⌜ r ≡ noUpdate ⌝ }
     {
-        let location = Location::blank();
-        let snapshot = Snapshot::blank();
-        let snapshot_ids = SnapshotIds::blank();
-        let ref_name = RefName::blank();
-        let reference = SnapshotReference::blank();
-        let schema = Schema::blank();
-        let schema_ids = SchemaIds::blank();
-        let sort_order = SortOrder::blank();
-        let statistics = StatisticsFile::blank();
+        let fields = FieldsPart::blank();
+        let snapshots = SnapshotsPart::blank();
+        let refs = NamedRef::blank();
+        let schemas = SchemasPart::blank();
+        let sort_orders = SortOrdersPart::blank();
+        let statistics = StatisticsPart::blank();
         TableUpdate {
             kind: 0,
-            uuid: [0; 16],
-            format_version: 0,
-            location,
-            snapshot,
-            snapshot_ids,
-            ref_name,
-            reference,
-            schema,
-            schema_id: SchemaId(0),
-            schema_ids,
-            sort_order,
-            sort_order_id: SortOrderId(0),
+            fields,
+            snapshots,
+            refs,
+            schemas,
+            sort_orders,
             statistics,
-            statistics_id: SnapshotId(0),
         }
     }
 }

@@ -19,21 +19,21 @@ use Rattle.ref_updates.specs.Refs.{pointed, wantedRef}
 module _ (u : TableUpdate) (held : Bool) (old : NamedRef) where
   -- where the old ref is the first of the name
   pub wanted-read : (name : List ℕ) (l : List plain.NamedRef) → refNamed name l ≡ given held (readRef old)
-      → readReference (wantedRef u held old) ≡ cond (eqb (u .kind) setRefKind) (readReference (u .reference)) (committed name (u .snapshot .«snapshot_id» .0) l)
+      → readReference (wantedRef u held old) ≡ cond (eqb (u .kind) setRefKind) (readReference (u .refs .reference)) (committed name (u .snapshots .added .«snapshot_id» .0) l)
   unfolding wantedRef
   wanted-read name l e =
       cases (eqb (u .kind) setRefKind)
       (λ t. rw t)
       (λ f. rw (f, e, committed) (cases held (λ t. rw t) (λ n. rw n)))
 
-  pub wanted-laid : laidReference (readReference (u .reference)) ≡ u .reference
+  pub wanted-laid : laidReference (readReference (u .refs .reference)) ≡ u .refs .reference
       → (held ≡ true → laidReference (readReference (old .reference)) ≡ old .reference)
       → laidReference (readReference (wantedRef u held old)) ≡ wantedRef u held old
   unfolding wantedRef laidReference
   wanted-laid own kept =
       cases (eqb (u .kind) setRefKind)
       (λ t. rw t own)
-      (λ f. rw f (cases held (λ t. rw t (ap (pointed (u .snapshot .«snapshot_id»)) (kept t))) (λ n. rw n)))
+      (λ f. rw f (cases held (λ t. rw t (ap (pointed (u .snapshots .added .«snapshot_id»)) (kept t))) (λ n. rw n)))
 
 -- a name and a ref that are laid out make a named ref that is
 pub laid-ref : (name : RefName) (r : SnapshotReference) → LaidName name → laidReference (readReference r) ≡ r → LaidRef (record { name = name; reference = r })

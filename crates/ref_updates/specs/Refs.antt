@@ -59,17 +59,17 @@ bareBranch =
 unfoldable pub wantedRef : TableUpdate → Bool → NamedRef → SnapshotReference
 wantedRef u held old =
     cond (eqb (u .kind) setRefKind)
-    (u .reference)
-    (pointed (u .snapshot .«snapshot_id») (cond held (old .reference) bareBranch))
+    (u .refs .reference)
+    (pointed (u .snapshots .added .«snapshot_id») (cond held (old .reference) bareBranch))
 
 -- the same, read: the update's own ref, or the rule's for a branch commit
 abbrev pub askedRef : TableUpdate → List plain.NamedRef → plain.Reference
-askedRef u l = cond (eqb (u .kind) setRefKind) (readReference (u .reference)) (committed (readRefName (u .«ref_name»)) (u .snapshot .«snapshot_id» .0) l)
+askedRef u l = cond (eqb (u .kind) setRefKind) (readReference (u .refs .reference)) (committed (readRefName (u .refs .name)) (u .snapshots .added .«snapshot_id» .0) l)
 
 -- what an update asks of the refs of a table
 pub record RefAsked (t : Refs) (u : TableUpdate) (r : AskedRef) : Type 0 where
-  pub same : r .same ≡ isHeldRef (readRefName (u .«ref_name»)) (askedRef u (readRefs t)) (readRefs t)
-  pub named : r .named ≡ isSome (refNamed (readRefName (u .«ref_name»)) (readRefs t))
+  pub same : r .same ≡ isHeldRef (readRefName (u .refs .name)) (askedRef u (readRefs t)) (readRefs t)
+  pub named : r .named ≡ isSome (refNamed (readRefName (u .refs .name)) (readRefs t))
   pub read : readReference (r .reference) ≡ askedRef u (readRefs t)
   pub laid : laidReference (readReference (r .reference)) ≡ r .reference
 
@@ -91,10 +91,10 @@ pub record RefSet (terms : Terms) (st : State) (name : List ℕ) (w : plain.Refe
   pub entry : d .entry ≡ laidUpdate (SetRef name w)
 
 -- a ref that can be put into a table: laid out, and with room for it if its name is new
-pub record NewRef (t : Refs) (e : TableUpdate) : Type 0 where
-  pub laid : LaidRef (record { name = e .«ref_name»; reference = e .reference })
-  pub room : any (hasName (readRefName (e .«ref_name»))) (readRefs t) ≡ false → t .count < refRoom
+pub record NewRef (t : Refs) (e : NamedRef) : Type 0 where
+  pub laid : LaidRef e
+  pub room : any (hasName (readRefName (e .name))) (readRefs t) ≡ false → t .count < refRoom
 
 pub record RefDecided (b : TableMetadataBuilder) (t : Refs) (held isAdded : Bool) (time : Time) (entries : ℕ) (clock : Time) (u : TableUpdate) (d : Decision) : Type 0 where
-  pub answers : (terms : Terms) (st : State) → Faced terms st (askedRef u (st .metadata .refs)) b t held isAdded time entries clock → RefSet terms st (readRefName (u .«ref_name»)) (askedRef u (st .metadata .refs)) d
-  pub new : d .grows ≡ true → NewRef t (d .entry)
+  pub answers : (terms : Terms) (st : State) → Faced terms st (askedRef u (st .metadata .refs)) b t held isAdded time entries clock → RefSet terms st (readRefName (u .refs .name)) (askedRef u (st .metadata .refs)) d
+  pub new : d .grows ≡ true → NewRef t (d .entry .refs)

@@ -8,14 +8,14 @@ ghost use lib.Dec.{eqb, leb};
 ghost use mathlib.Core.Option.{Option, none, some};
 ghost use lib.IntN.{ℤ};
 ghost use lib.ListN.{length};
-ghost use Rattle.rules.specs.Words.{eqZ, sameOption, ascending, put, firstOf};
+ghost use Rattle.rules.specs.Words.{ascending, put, firstOf};
 ghost use Rattle.rules.specs.Capacities.{refRoom, snapshotLogRoom, refNameRoom};
 ghost use Rattle.rules.specs.Replies.{snapshotNotHeld, tableFull};
 ghost use Rattle.rules.specs.Register as plain;
 ghost use Rattle.rules.specs.Register.{Terms, State, SetRef, withCurrent, withOwn, onFields};
 ghost use Rattle.rules.specs.WellFormed.{refBelow};
-ghost use Rattle.rules.specs.RefUpdates.{sameReference, isTag, asMain};
-ghost use Rattle.rules.specs.Layout.{given, readRefName, readReference, laidReference, readRefs, laidRefs};
+ghost use Rattle.rules.specs.RefUpdates.{isTag, asMain};
+ghost use Rattle.rules.specs.Layout.{readRefName, readReference, laidReference, readRef, readRefs, laidRefs};
 ghost use Rattle.rules.specs.Kinds.{setBranchSnapshotKind, setRefKind, removeRefKind, isTidyUpdate, laidUpdate};
 ghost use Rattle.tables.specs.Laid.{LaidName, LaidRefs};
 ghost use Rattle.builder.specs.Pieces.{laidBuilder};
@@ -23,111 +23,33 @@ ghost use Rattle.builder.specs.Answers.{Decides};
 ghost use Rattle.ref_updates.specs.Refs.{wantedRef, askedRef, RefAsked, RefDecided, NewRef};
 use builder::builder::TableMetadataBuilder;
 use builder::builder::own_or;
-use builder::checks::both;
 use builder::checks::choose;
 use builder::checks::is_full;
 use builder::decision::Decision;
 use builder::decision::decided;
+use equality::read::same_reference;
 use records::capacities::REFS;
 use records::capacities::SNAPSHOT_LOG;
-use records::counters::Age;
-use records::counters::MinSnapshots;
 use records::counters::SnapshotId;
 use records::counters::Time;
+use records::part::SnapshotsPart;
 use records::reference::NamedRef;
 use records::reference::Refs;
 use records::reference::SnapshotReference;
 use records::replies::ACCEPTED;
 use records::replies::SNAPSHOT_NOT_HELD;
 use records::replies::TABLE_FULL;
-use records::snapshot::Snapshot;
 use records::snapshot::SnapshotLogEntry;
 use records::text::RefName;
 use records::update::SET_BRANCH_SNAPSHOT;
 use records::update::SET_REF;
 use records::update::TableUpdate;
-use tables::ids::same_snapshot;
 use tables::names::is_main_name;
 
 // The kinds of a ref.
 const BRANCH: u8 = 1;
 
 const TAG: u8 = 2;
-
-fn is_age(a: Age, b: Age) -> bool
-    ensures { λ r. ⌜ r ≡ eqZ (a .0) (b .0) ⌝ }
-{
-    let x = a.0;
-    let y = b.0;
-    x == y
-}
-
-fn is_min(a: MinSnapshots, b: MinSnapshots) -> bool
-    ensures { λ r. ⌜ r ≡ eqZ (a .0) (b .0) ⌝ }
-{
-    let x = a.0;
-    let y = b.0;
-    x == y
-}
-
-fn same_age(h: bool, a: Age, g: bool, b: Age) -> bool
-    ensures { λ r. ⌜ r ≡ sameOption eqZ (given h (a .0)) (given g (b .0)) ⌝ }
-{
-    let same = is_age(a, b);
-    same_present(h, g, same)
-}
-
-fn same_min(h: bool, a: MinSnapshots, g: bool, b: MinSnapshots) -> bool
-    ensures { λ r. ⌜ r ≡ sameOption eqZ (given h (a .0)) (given g (b .0)) ⌝ }
-{
-    let same = is_min(a, b);
-    same_present(h, g, same)
-}
-
-// Both absent, or both there and the same.
-fn same_present(h: bool, g: bool, same: bool) -> bool
-    ensures { λ r. ⌜ r ≡ cond h (g && same) (not g) ⌝ }
-{
-    if !h {
-        return !g;
-    }
-    if !g {
-        return false;
-    }
-    same
-}
-
-fn same_reference(a: SnapshotReference, b: SnapshotReference) -> bool
-    ensures { λ r. ⌜ r ≡ sameReference (readReference a) (readReference b) ⌝ }
-{
-    let i = a.snapshot_id;
-    let j = b.snapshot_id;
-    let k = a.kind;
-    let l = b.kind;
-    let s = same_snapshot(i, j);
-    let m = same_min(
-        a.has_min,
-        a.min_snapshots_to_keep,
-        b.has_min,
-        b.min_snapshots_to_keep,
-    );
-    let n = same_age(
-        a.has_age,
-        a.max_snapshot_age_ms,
-        b.has_age,
-        b.max_snapshot_age_ms,
-    );
-    let o = same_age(
-        a.has_ref_age,
-        a.max_ref_age_ms,
-        b.has_ref_age,
-        b.max_ref_age_ms,
-    );
-    let x = both(s, k == l);
-    let y = both(x, m);
-    let z = both(y, n);
-    both(z, o)
-}
 
 // `main`: current snapshot set, and the clock is the last update if none.
 fn as_main(b: TableMetadataBuilder, clock: Time, id: SnapshotId) -> TableMetadataBuilder
@@ -166,10 +88,10 @@ fn wanted(u: TableUpdate, held: bool, old: NamedRef) -> SnapshotReference
     ensures { λ r. ⌜ r ≡ wantedRef u held old ⌝ }
 {
     let k = u.kind;
-    let s = u.snapshot;
+    let s = u.snapshots.added;
     let id = s.snapshot_id;
     if k == SET_REF {
-        return u.reference;
+        return u.refs.reference;
     }
     if held {
         let mut r = old.reference;
@@ -195,13 +117,15 @@ fn set_ref_number(held: bool, is_named: bool, named: usize, main: bool, entries:
 
 // The entry of a ref that is set, by itself or by a branch commit.
 fn setting(u: TableUpdate, r: SnapshotReference) -> TableUpdate
-    ensures { λ e. ⌜ ((eqb (u .kind) setBranchSnapshotKind || eqb (u .kind) setRefKind) ≡ true → isTidyUpdate u ≡ true → length (readRefName (u .«ref_name»)) ≤ refNameRoom → laidReference (readReference r) ≡ r → e ≡ laidUpdate (SetRef (readRefName (u .«ref_name»)) (readReference r))) ⌝ }
+    ensures { λ e. ⌜ ((eqb (u .kind) setBranchSnapshotKind || eqb (u .kind) setRefKind) ≡ true → isTidyUpdate u ≡ true → length (readRefName (u .refs .name)) ≤ refNameRoom → laidReference (readReference r) ≡ r → e ≡ laidUpdate (SetRef (readRefName (u .refs .name)) (readReference r))) ⌝ }
 {
     let mut e = u;
-    let none = Snapshot::blank();
+    let none = SnapshotsPart::blank();
+    let mut named = u.refs;
+    named.reference = r;
     e.kind = SET_REF;
-    e.snapshot = none;
-    e.reference = r;
+    e.snapshots = none;
+    e.refs = named;
     e
 }
 
@@ -214,11 +138,11 @@ pub struct AskedRef {
 
 fn asked_ref(t: Refs, u: TableUpdate) -> AskedRef
     requires { ⌜ LaidRefs t ⌝ }
-    requires { ⌜ LaidName (u .«ref_name») ⌝ }
-    requires { ⌜ laidReference (readReference (u .reference)) ≡ u .reference ⌝ }
+    requires { ⌜ LaidName (u .refs .name) ⌝ }
+    requires { ⌜ laidReference (readReference (u .refs .reference)) ≡ u .refs .reference ⌝ }
     ensures { λ r. ⌜ RefAsked t u r ⌝ }
 {
-    let name = u.ref_name;
+    let name = u.refs.name;
     let n = t.count;
     let at = tables::refs::find(t, name);
     let mut old = NamedRef::blank();
@@ -270,11 +194,11 @@ fn set_ref_builder(
 // A branch commit whose branch is a tag.
 pub fn commits_on_tag(t: Refs, u: TableUpdate) -> bool
     requires { ⌜ LaidRefs t ⌝ }
-    requires { ⌜ (u .kind ≡ setBranchSnapshotKind → LaidName (u .«ref_name»)) ⌝ }
-    ensures { λ r. ⌜ r ≡ (eqb (u .kind) setBranchSnapshotKind && isTag (readRefName (u .«ref_name»)) (readRefs t)) ⌝ }
+    requires { ⌜ (u .kind ≡ setBranchSnapshotKind → LaidName (u .refs .name)) ⌝ }
+    ensures { λ r. ⌜ r ≡ (eqb (u .kind) setBranchSnapshotKind && isTag (readRefName (u .refs .name)) (readRefs t)) ⌝ }
 {
     let k = u.kind;
-    let name = u.ref_name;
+    let name = u.refs.name;
     if k == SET_BRANCH_SNAPSHOT {
         return is_tag(t, name);
     }
@@ -286,8 +210,8 @@ pub fn ref_target(u: TableUpdate) -> SnapshotId
     ensures { λ r. ⌜ ((l : List plain.NamedRef) → r .0 ≡ askedRef u l .snapshot) ⌝ }
 {
     let k = u.kind;
-    let x = u.snapshot;
-    let y = u.reference;
+    let x = u.snapshots.added;
+    let y = u.refs.reference;
     if k == SET_REF {
         return y.snapshot_id;
     }
@@ -306,13 +230,13 @@ pub fn set_ref(
     u: TableUpdate,
 ) -> Decision
     requires { ⌜ LaidRefs t ⌝ }
-    requires { ⌜ LaidName (u .«ref_name») ⌝ }
-    requires { ⌜ laidReference (readReference (u .reference)) ≡ u .reference ⌝ }
+    requires { ⌜ LaidName (u .refs .name) ⌝ }
+    requires { ⌜ laidReference (readReference (u .refs .reference)) ≡ u .refs .reference ⌝ }
     requires { ⌜ isTidyUpdate u ≡ true ⌝ }
     requires { ⌜ (eqb (u .kind) setBranchSnapshotKind || eqb (u .kind) setRefKind) ≡ true ⌝ }
     ensures { λ r. ⌜ RefDecided b t held «is_added» time entries clock u r ⌝ }
 {
-    let name = u.ref_name;
+    let name = u.refs.name;
     let named = t.count;
     let asked = asked_ref(t, u);
     let reference = asked.reference;
@@ -336,27 +260,21 @@ pub fn set_ref(
 pub fn refs_after(t: Refs, d: Decision) -> Refs
     requires { ⌜ LaidRefs t ⌝ }
     requires { ⌜ ascending refBelow (readRefs t) ≡ true ⌝ }
-    requires { ⌜ (d .grows ≡ true → NewRef t (d .entry)) ⌝ }
-    ensures { λ r. ⌜ r ≡ cond (d .grows) (laidRefs (put refBelow (record { name = readRefName (d .entry .«ref_name»); reference = readReference (d .entry .reference) }) (readRefs t))) t ⌝ }
+    requires { ⌜ (d .grows ≡ true → NewRef t (d .entry .refs)) ⌝ }
+    ensures { λ r. ⌜ r ≡ cond (d .grows) (laidRefs (put refBelow (readRef (d .entry .refs)) (readRefs t))) t ⌝ }
 {
-    let e = d.entry;
-    let name = e.ref_name;
-    let reference = e.reference;
     if d.grows {
-        return tables::refs::put(t, NamedRef { name, reference });
+        return tables::refs::put(t, d.entry.refs);
     }
     t
 }
 
 // What the snapshot log gains where `main` is set.
 pub fn main_entry(d: Decision) -> SnapshotLogEntry
-    ensures { λ r. ⌜ r ≡ record { «snapshot_id» = d .entry .reference .«snapshot_id»; «timestamp_ms» = d .builder .own } ⌝ }
+    ensures { λ r. ⌜ r ≡ record { «snapshot_id» = d .entry .refs .reference .«snapshot_id»; «timestamp_ms» = d .builder .own } ⌝ }
 {
-    let e = d.entry;
-    let b = d.builder;
-    let reference = e.reference;
-    let snapshot_id = reference.snapshot_id;
-    let timestamp_ms = b.own;
+    let snapshot_id = d.entry.refs.reference.snapshot_id;
+    let timestamp_ms = d.builder.own;
     SnapshotLogEntry {
         snapshot_id,
         timestamp_ms,
@@ -366,12 +284,12 @@ pub fn main_entry(d: Decision) -> SnapshotLogEntry
 // `main` clears the current snapshot and is logged even if absent; another absent one: nothing.
 pub fn remove_ref(b: TableMetadataBuilder, t: Refs, u: TableUpdate) -> Decision
     requires { ⌜ LaidRefs t ⌝ }
-    requires { ⌜ LaidName (u .«ref_name») ⌝ }
+    requires { ⌜ LaidName (u .refs .name) ⌝ }
     requires { ⌜ isTidyUpdate u ≡ true ⌝ }
     requires { ⌜ u .kind ≡ removeRefKind ⌝ }
     ensures { λ r. ⌜ ((terms : Terms) (st : State) → b ≡ laidBuilder st → t ≡ laidRefs (st .metadata .refs) → Decides terms u st r) ⌝ }
 {
-    let name = u.ref_name;
+    let name = u.refs.name;
     let n = t.count;
     let main = is_main_name(name);
     let at = tables::refs::find(t, name);

@@ -3,49 +3,39 @@
 // Document 01 decides, as the crate `rules` writes it in Run and Answer.
 ghost use mathlib.Core.Path.{_≡_};
 ghost use mathlib.Core.Bool.{cond};
-ghost use Prim.Native.Nat.{_+_, _<_};
+ghost use Prim.Native.Nat.{_+_, _≤_, _<_};
 ghost use Rattle.rules.specs.Answer.{answer};
 use builder::builder::TableMetadataBuilder;
-use builder::decision::assign_uuid;
+use builder::builder::own_or;
 use builder::decision::decided;
-use builder::decision::set_location;
-use builder::decision::upgrade_format_version;
 use builder::facts::ids_of;
 use builder::facts::is_last;
 use builder::facts::last_time;
+use builder::single;
 use close::close_number;
 use close::files::is_overfull;
 use close::files::part;
 use close::files::staying;
 use close::files::surplus;
 use close::history::close_log;
-use close::last_update;
-use leaves::limit::limit;
-use order_updates::add_sort_order;
-use order_updates::orders_after;
-use order_updates::set_default_sort_order;
+use formed::metadata::is_formed;
+use order_updates::family as order_family;
+use primitives::limit::limit;
 use records::metadata::TableMetadata;
 use records::replies::ACCEPTED;
 use records::replies::UPDATE_NOT_FORMED;
 use records::run::Answer;
 use records::run::RunTerms;
-use records::update::ADD_SCHEMA;
 use records::update::ADD_SNAPSHOT;
-use records::update::ADD_SORT_ORDER;
-use records::update::ASSIGN_UUID;
 use records::update::REMOVE_REF;
 use records::update::REMOVE_SCHEMAS;
 use records::update::REMOVE_SNAPSHOTS;
 use records::update::REMOVE_STATISTICS;
 use records::update::SET_BRANCH_SNAPSHOT;
-use records::update::SET_CURRENT_SCHEMA;
 use records::update::SET_DEFAULT_SORT_ORDER;
 use records::update::SET_LOCATION;
-use records::update::SET_PARTITION_STATISTICS;
 use records::update::SET_REF;
-use records::update::SET_STATISTICS;
 use records::update::TableUpdate;
-use records::update::UPGRADE_FORMAT_VERSION;
 use records::update::UpdateList;
 use ref_updates::commits_on_tag;
 use ref_updates::main_entry;
@@ -53,10 +43,7 @@ use ref_updates::ref_target;
 use ref_updates::refs_after;
 use ref_updates::remove_ref;
 use ref_updates::set_ref;
-use schema_updates::add_schema;
-use schema_updates::remove_schemas;
-use schema_updates::schemas_after;
-use schema_updates::set_current_schema;
+use schema_updates::family as schema_family;
 use search::position;
 use search::position_ascending;
 use snapshot_updates::add_snapshot;
@@ -64,9 +51,7 @@ use snapshot_updates::remove_snapshots;
 use start::refused;
 use start::start_number;
 use start::weight;
-use statistics_updates::remove_statistics;
-use statistics_updates::set_statistics;
-use statistics_updates::statistics_after;
+use statistics_updates::family as statistics_family;
 use tables::names::is_main_name;
 
 // The place after a decision is stored: the same one, if a branch commit has its second half to come.
@@ -80,6 +65,17 @@ fn after(place: usize, half: bool) -> usize
     place + 1
 }
 
+// A place of a table of 64: the one that was found, and the first where none was.
+fn slot(spot: usize, held: usize) -> usize
+    requires { ⌜ held ≤ 64 ⌝ }
+    ensures { λ r. ⌜ (r < 64) × (spot < held → r ≡ spot) ⌝ }
+{
+    if spot < held {
+        return spot;
+    }
+    0
+}
+
 // The loop decides an update, or one half of a branch commit, and in its next turn stores the decision. Entries, snapshots, their ids and the
 // snapshot log are stored in place, since a table that is handed over is copied.
 pub fn run(metadata: TableMetadata, updates: UpdateList, terms: RunTerms, text: &[u8]) -> Answer
@@ -91,7 +87,7 @@ pub fn run(metadata: TableMetadata, updates: UpdateList, terms: RunTerms, text: 
     let listed = updates.count;
     // What the change log says of snapshots: the ids that it adds, those to which it sets `main`, whether it removes any.
     let mut added = [0i64; 64];
-    let mut mained = [0i64; 64];
+    let mut main_targets = [0i64; 64];
     let mut adds: usize = 0;
     let mut mains: usize = 0;
     let mut removal = false;
@@ -113,7 +109,8 @@ pub fn run(metadata: TableMetadata, updates: UpdateList, terms: RunTerms, text: 
     let mut partition_statistics = metadata.partition_statistics;
     let mut count: usize = 0;
     let mut place: usize = 0;
-    // A decision waits to be stored; a branch commit has added its snapshot; it had when this turn began.
+    // `waits`: a decision is to be stored. `half`: a branch commit has added its snapshot, and its ref is still to be set; `begun` says so
+    // of the turn before.
     let mut waits = false;
     let mut half = false;
     let mut begun = false;
@@ -121,7 +118,7 @@ pub fn run(metadata: TableMetadata, updates: UpdateList, terms: RunTerms, text: 
         sum += weight(updates.items[place].kind);
         place += 1;
     }
-    number = start_number(metadata, terms, listed, sum);
+    number = start_number(is_formed(metadata), terms, listed, sum);
     place = 0;
     while (number == ACCEPTED) & (waits | (place < listed)) {
         if waits {
@@ -149,16 +146,8 @@ pub fn run(metadata: TableMetadata, updates: UpdateList, terms: RunTerms, text: 
             decision = decided(UPDATE_NOT_FORMED, false, builder, update);
             continue;
         }
-        if kind == ASSIGN_UUID {
-            decision = assign_uuid(builder, update);
-            continue;
-        }
-        if kind == UPGRADE_FORMAT_VERSION {
-            decision = upgrade_format_version(builder, update);
-            continue;
-        }
-        if kind == SET_LOCATION {
-            decision = set_location(builder, update);
+        if kind <= SET_LOCATION {
+            decision = single::decide(builder, update);
             continue;
         }
         let held = snapshots.count;
@@ -178,43 +167,40 @@ pub fn run(metadata: TableMetadata, updates: UpdateList, terms: RunTerms, text: 
             if !decision.grows {
                 continue;
             }
-            let snapshot = update.snapshot;
+            let snapshot = update.snapshots.added;
             let id = snapshot.snapshot_id;
             let key = id.0;
+            added[adds] = key;
+            adds += 1;
             if is_last(&ids[..held], key) {
                 snapshots.items[held] = snapshot;
                 snapshots.count = held + 1;
                 ids[held] = key;
-            } else {
-                snapshots = tables::snapshots::put(snapshots, snapshot);
-                ids = ids_of(snapshots);
+                continue;
             }
-            added[adds] = key;
-            adds += 1;
+            snapshots = tables::snapshots::put(snapshots, snapshot);
+            ids = ids_of(snapshots);
             continue;
         }
         if (kind == SET_BRANCH_SNAPSHOT) | (kind == SET_REF) {
             let id = ref_target(update);
             let key = id.0;
             let spot = position_ascending(&ids[..held], key);
-            let mut time = clock;
-            if spot < held {
-                let snapshot = snapshots.items[spot];
-                time = snapshot.timestamp_ms;
-            }
+            let at = slot(spot, held);
+            let target = snapshots.items[at];
             let addition = position(&added[..adds], key);
             decision = set_ref(
                 builder,
                 refs,
                 spot < held,
                 addition < adds,
-                time,
+                target.timestamp_ms,
                 history,
                 clock,
                 update,
             );
             refs = refs_after(refs, decision);
-            let main = is_main_name(update.ref_name);
+            let main = is_main_name(update.refs.name);
             if !(decision.grows & main) {
                 continue;
             }
@@ -222,13 +208,13 @@ pub fn run(metadata: TableMetadata, updates: UpdateList, terms: RunTerms, text: 
             last = entry.timestamp_ms;
             log.items[history] = entry;
             log.count = history + 1;
-            mained[mains] = key;
+            main_targets[mains] = key;
             mains += 1;
             continue;
         }
         if kind == REMOVE_SNAPSHOTS {
             decision = remove_snapshots(builder, snapshots, update);
-            snapshots = tables::snapshots::without(snapshots, update.snapshot_ids);
+            snapshots = tables::snapshots::without(snapshots, update.snapshots.removed);
             ids = ids_of(snapshots);
             let left = snapshots.count;
             refs = tables::refs::pointing(refs, &ids[..left]);
@@ -237,52 +223,26 @@ pub fn run(metadata: TableMetadata, updates: UpdateList, terms: RunTerms, text: 
         }
         if kind == REMOVE_REF {
             decision = remove_ref(builder, refs, update);
-            refs = tables::refs::without(refs, update.ref_name);
+            refs = tables::refs::without(refs, update.refs.name);
             continue;
         }
-        if kind == ADD_SCHEMA {
-            decision = add_schema(builder, schemas, update);
-            schemas = schemas_after(schemas, decision);
+        if kind <= REMOVE_SCHEMAS {
+            decision = schema_family::decide(builder, schemas, update);
+            schemas = schema_family::after(schemas, update, decision);
             continue;
         }
-        if kind == SET_CURRENT_SCHEMA {
-            decision = set_current_schema(builder, schemas, update);
+        if kind <= SET_DEFAULT_SORT_ORDER {
+            decision = order_family::decide(builder, schemas, orders, update);
+            orders = order_family::after(orders, update, decision);
             continue;
         }
-        if kind == REMOVE_SCHEMAS {
-            decision = remove_schemas(builder, schemas, update);
-            schemas = tables::schemas::without(schemas, update.schema_ids);
+        if kind <= REMOVE_STATISTICS {
+            decision = statistics_family::decide(builder, statistics, update);
+            statistics = statistics_family::after(statistics, update, decision);
             continue;
         }
-        if kind == ADD_SORT_ORDER {
-            decision = add_sort_order(builder, schemas, orders, update);
-            orders = orders_after(orders, decision);
-            continue;
-        }
-        if kind == SET_DEFAULT_SORT_ORDER {
-            decision = set_default_sort_order(builder, orders, update);
-            continue;
-        }
-        if kind == SET_STATISTICS {
-            decision = set_statistics(builder, statistics, update);
-            statistics = statistics_after(statistics, decision);
-            continue;
-        }
-        if kind == REMOVE_STATISTICS {
-            decision = remove_statistics(builder, statistics, update);
-            statistics = tables::statistics::without(statistics, update.statistics_id);
-            continue;
-        }
-        if kind == SET_PARTITION_STATISTICS {
-            decision = set_statistics(builder, partition_statistics, update);
-            partition_statistics = statistics_after(partition_statistics, decision);
-            continue;
-        }
-        decision = remove_statistics(builder, partition_statistics, update);
-        partition_statistics = tables::statistics::without(
-            partition_statistics,
-            update.statistics_id,
-        );
+        decision = statistics_family::decide(builder, partition_statistics, update);
+        partition_statistics = statistics_family::after(partition_statistics, update, decision);
     }
     if number != ACCEPTED {
         return refused(metadata, number, place);
@@ -294,7 +254,7 @@ pub fn run(metadata: TableMetadata, updates: UpdateList, terms: RunTerms, text: 
         &ids[..held],
         fields,
         &added[..adds],
-        &mained[..mains],
+        &main_targets[..mains],
         removal,
     );
     let most = limit(text);
@@ -307,7 +267,7 @@ pub fn run(metadata: TableMetadata, updates: UpdateList, terms: RunTerms, text: 
     }
     let expired = part(metadata.metadata_log, 0, gone);
     let metadata_log = staying(metadata.metadata_log, gone, terms, first.last_updated_ms);
-    let updated = last_update(builder, clock);
+    let updated = own_or(builder, clock);
     let mut closed = fields;
     closed.last_updated_ms = updated;
     let snapshot_log = history.log;

@@ -14,12 +14,12 @@ use Rattle.rules.specs.Register.{Terms, Outcome}
 use Rattle.rules.specs.Register.Outcome.{Refused, Accepted}
 use Rattle.rules.specs.Run.{run}
 use Rattle.rules.specs.Blanks.{isTidyMetadata}
-use Rattle.rules.specs.Layout.{given, readFileName, readMetadata, laidMetadata, laidMetadataLog}
+use Rattle.rules.specs.Layout.{given, readText, readMetadata, laidMetadata, laidMetadataLog}
 use Rattle.rules.specs.Kinds.{readUpdates, laidUpdates}
 
 -- the limit text is lent beside the terms; an absent text and an empty one both give 100
 abbrev pub readTerms : RunTerms → List ℕ → Terms
-readTerms t limit = record { clock = t .«clock_ms» .0; tolerance = t .«tolerance_ms» .0; file = given (t .«has_file») (readFileName (t .file)); limit = some limit }
+readTerms t limit = record { clock = t .«clock_ms» .0; tolerance = t .«tolerance_ms» .0; file = given (t .«has_file») (readText (t .file)); limit = some limit }
 
 -- the place of an accepted run is 0
 unfoldable pub laidOutcome : TableMetadata → Outcome → Answer

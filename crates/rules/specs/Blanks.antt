@@ -9,8 +9,7 @@ use lib.ListN.{length, take, drop}
 use Rattle.records.specs.declared.counters.SnapshotId.{SnapshotId}
 use Rattle.records.specs.declared.counters.SchemaId.{SchemaId}
 use Rattle.records.specs.declared.text.RefName.{RefName}
-use Rattle.records.specs.declared.text.Location.{Location}
-use Rattle.records.specs.declared.text.FileName.{FileName}
+use Rattle.records.specs.declared.text.Text.{Text}
 use Rattle.records.specs.declared.snapshot.Snapshot.{Snapshot}
 use Rattle.records.specs.declared.snapshot.Snapshots.{Snapshots}
 use Rattle.records.specs.declared.snapshot.SnapshotIds.{SnapshotIds}
@@ -33,7 +32,7 @@ use Rattle.records.specs.declared.metadata.MetadataLog.{MetadataLog}
 use Rattle.records.specs.declared.metadata.SingleFields.{SingleFields}
 use Rattle.records.specs.declared.metadata.TableMetadata.{TableMetadata}
 use Rattle.rules.specs.Words.{eqZ, all}
-use Rattle.rules.specs.Capacities.{snapshotRoom, refRoom, snapshotLogRoom, metadataLogRoom, schemaRoom, schemaFieldRoom, sortOrderRoom, sortFieldRoom, statisticsRoom, removalRoom, refNameRoom, locationRoom, fileNameRoom}
+use Rattle.rules.specs.Capacities.{snapshotRoom, refRoom, snapshotLogRoom, metadataLogRoom, schemaRoom, schemaFieldRoom, sortOrderRoom, sortFieldRoom, statisticsRoom, removalRoom, refNameRoom, textRoom}
 
 -- ---- numbers and slots
 
@@ -57,23 +56,20 @@ noneUsed room isBlank items n = isZero n && restBlank room isBlank items 0
 
 -- ---- texts
 
+abbrev pub isBlankUuid : List ℕ → Bool
+isBlankUuid uuid = restBlank 16 isZero uuid 0
+
 abbrev pub isTidyRefName : RefName → Bool
 isTidyRefName t = restBlank refNameRoom isZero (t .bytes) (t .len)
 
 abbrev pub isBlankRefName : RefName → Bool
 isBlankRefName t = noneUsed refNameRoom isZero (t .bytes) (t .len)
 
-abbrev pub isTidyLocation : Location → Bool
-isTidyLocation t = restBlank locationRoom isZero (t .bytes) (t .len)
+abbrev pub isTidyText : Text → Bool
+isTidyText t = restBlank textRoom isZero (t .bytes) (t .len)
 
-abbrev pub isBlankLocation : Location → Bool
-isBlankLocation t = noneUsed locationRoom isZero (t .bytes) (t .len)
-
-abbrev pub isTidyFileName : FileName → Bool
-isTidyFileName t = restBlank fileNameRoom isZero (t .bytes) (t .len)
-
-abbrev pub isBlankFileName : FileName → Bool
-isBlankFileName t = noneUsed fileNameRoom isZero (t .bytes) (t .len)
+abbrev pub isBlankText : Text → Bool
+isBlankText t = noneUsed textRoom isZero (t .bytes) (t .len)
 
 -- ---- snapshots
 
@@ -179,10 +175,10 @@ isTidySortOrders t = tidySlots sortOrderRoom isTidySortOrder isBlankSortOrder (t
 -- ---- statistics files
 
 unfoldable pub isTidyStatisticsFile : StatisticsFile → Bool
-isTidyStatisticsFile f = isTidyFileName (f .«statistics_path»)
+isTidyStatisticsFile f = isTidyText (f .«statistics_path»)
 
 unfoldable pub isBlankStatisticsFile : StatisticsFile → Bool
-isBlankStatisticsFile f = isZeroZ (f .«snapshot_id» .0) && isBlankFileName (f .«statistics_path») && isZeroZ (f .«file_size_in_bytes» .0)
+isBlankStatisticsFile f = isZeroZ (f .«snapshot_id» .0) && isBlankText (f .«statistics_path») && isZeroZ (f .«file_size_in_bytes» .0)
 
 unfoldable pub isTidyStatistics : StatisticsFiles → Bool
 isTidyStatistics t = tidySlots statisticsRoom isTidyStatisticsFile isBlankStatisticsFile (t .items) (t .count)
@@ -190,17 +186,17 @@ isTidyStatistics t = tidySlots statisticsRoom isTidyStatisticsFile isBlankStatis
 -- ---- metadata
 
 unfoldable pub isTidyMetadataLogEntry : MetadataLogEntry → Bool
-isTidyMetadataLogEntry e = isTidyFileName (e .«metadata_file»)
+isTidyMetadataLogEntry e = isTidyText (e .«metadata_file»)
 
 unfoldable pub isBlankMetadataLogEntry : MetadataLogEntry → Bool
-isBlankMetadataLogEntry e = isBlankFileName (e .«metadata_file») && isZeroZ (e .«timestamp_ms» .0)
+isBlankMetadataLogEntry e = isBlankText (e .«metadata_file») && isZeroZ (e .«timestamp_ms» .0)
 
 -- "blank slots follow the counted ones"
 unfoldable pub isTidyMetadataLog : MetadataLog → Bool
 isTidyMetadataLog t = tidySlots metadataLogRoom isTidyMetadataLogEntry isBlankMetadataLogEntry (t .items) (t .count)
 
 unfoldable pub isTidyFields : SingleFields → Bool
-isTidyFields f = isTidyLocation (f .location) && (f .«has_current» || isZeroZ (f .«current_snapshot_id» .0))
+isTidyFields f = isTidyText (f .location) && (f .«has_current» || isZeroZ (f .«current_snapshot_id» .0))
 
 unfoldable pub isTidyMetadata : TableMetadata → Bool
 isTidyMetadata m =

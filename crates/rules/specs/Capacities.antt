@@ -36,6 +36,10 @@ removalRoom = 16
 abbrev pub refNameRoom : ℕ
 refNameRoom = 32
 
+-- the slots of a location, a file name or a path; which of them may be used is said next
+abbrev pub textRoom : ℕ
+textRoom = 96
+
 abbrev pub locationRoom : ℕ
 locationRoom = 96
 

@@ -1,32 +1,38 @@
--- Updates as records: the number of each kind, which records a kind uses, what is read of an update, and how one is laid out.
+-- Updates as records: the number of each kind, which records of its parts a kind uses, what is read of an update, and how one is laid out.
 -- Document 01, "`TableUpdate` with its strings becomes a kind with records beside it", and "An update is well formed if its kind, lengths, .. blanks ..".
 use Prim.Native.Nat.{ℕ}
 use mathlib.Core.Bool.{Bool, cond, _&&_, _||_}
 use mathlib.Core.List.{List, [], _∷_, map}
 use lib.Dec.{eqb}
 use lib.ListN.{length}
-use Rattle.records.specs.Blanks.{noUpdate}
+use Rattle.records.specs.Blanks.{noFieldsPart, noSnapshotsPart, noRef, noSchemasPart, noSortOrdersPart, noStatisticsPart, noUpdate}
 use Rattle.records.specs.declared.update.TableUpdate.{TableUpdate}
 use Rattle.records.specs.declared.update.UpdateList.{UpdateList}
+use Rattle.records.specs.declared.part.FieldsPart.{FieldsPart}
+use Rattle.records.specs.declared.part.SnapshotsPart.{SnapshotsPart}
+use Rattle.records.specs.declared.part.SchemasPart.{SchemasPart}
+use Rattle.records.specs.declared.part.SortOrdersPart.{SortOrdersPart}
+use Rattle.records.specs.declared.part.StatisticsPart.{StatisticsPart}
 use Rattle.records.specs.declared.counters.SchemaId.{SchemaId}
 use Rattle.records.specs.declared.counters.SnapshotId.{SnapshotId}
 use Rattle.records.specs.declared.counters.SortOrderId.{SortOrderId}
-use Rattle.records.specs.declared.text.Location.{Location}
+use Rattle.records.specs.declared.text.Text.{Text}
 use Rattle.records.specs.declared.text.RefName.{RefName}
 use Rattle.records.specs.declared.snapshot.Snapshot.{Snapshot}
 use Rattle.records.specs.declared.snapshot.SnapshotIds.{SnapshotIds}
 use Rattle.records.specs.declared.reference.SnapshotReference.{SnapshotReference}
+use Rattle.records.specs.declared.reference.NamedRef.{NamedRef}
 use Rattle.records.specs.declared.schema.Schema.{Schema}
 use Rattle.records.specs.declared.schema.SchemaIds.{SchemaIds}
 use Rattle.records.specs.declared.«sort_order».SortOrder.{SortOrder}
 use Rattle.records.specs.declared.statistics.StatisticsFile.{StatisticsFile}
-use Rattle.rules.specs.Words.{all, any}
+use Rattle.rules.specs.Words.{any}
 use Rattle.rules.specs.Capacities.{listRoom}
 use Rattle.rules.specs.Register.{StatisticsTable, Update}
 use Rattle.rules.specs.Register.StatisticsTable.{Statistics, PartitionStatistics}
 use Rattle.rules.specs.Register.Update.{AssignUuid, UpgradeFormatVersion, SetLocation, AddSnapshot, SetBranchSnapshot, RemoveSnapshots, SetRef, RemoveRef, AddSchema, SetCurrentSchema, RemoveSchemas, AddSortOrder, SetDefaultSortOrder, SetStatistics, RemoveStatistics, NotFormed}
-use Rattle.rules.specs.Blanks.{isZero, isZeroZ, isTidyLocation, isBlankLocation, isTidySnapshot, isBlankSnapshot, isTidySnapshotIds, isBlankSnapshotIds, isTidyRefName, isBlankRefName, isTidyReference, isBlankReference, isTidySchema, isBlankSchema, isTidySchemaIds, isBlankSchemaIds, isTidySortOrder, isBlankSortOrder, isTidyStatisticsFile, isBlankStatisticsFile}
-use Rattle.rules.specs.Layout.{counted, pad, readRefName, laidRefName, readLocation, laidLocation, readSnapshot, laidSnapshot, readSnapshotIds, laidSnapshotIds, readReference, laidReference, readSchema, laidSchema, readSchemaIds, laidSchemaIds, readSortOrder, laidSortOrder, readStatisticsFile, laidStatisticsFile}
+use Rattle.rules.specs.Blanks.{isZero, isZeroZ, isBlankUuid, isTidyText, isBlankText, isTidySnapshot, isBlankSnapshot, isTidySnapshotIds, isBlankSnapshotIds, isTidyRefName, isBlankRefName, isTidyReference, isBlankReference, isTidySchema, isBlankSchema, isTidySchemaIds, isBlankSchemaIds, isTidySortOrder, isBlankSortOrder, isTidyStatisticsFile, isBlankStatisticsFile}
+use Rattle.rules.specs.Layout.{counted, pad, readRefName, laidRefName, readText, laidText, readSnapshot, laidSnapshot, readSnapshotIds, laidSnapshotIds, readReference, laidReference, readSchema, laidSchema, readSchemaIds, laidSchemaIds, readSortOrder, laidSortOrder, readStatisticsFile, laidStatisticsFile}
 
 -- ---- the kinds, in the order of a table's life
 
@@ -87,39 +93,94 @@ removePartitionStatisticsKind = 17
 abbrev pub usedBy : List ℕ → ℕ → Bool → Bool
 usedBy kinds kind isBlank = any (eqb kind) kinds || isBlank
 
--- the records that its kind does not use are blank
-unfoldable pub isUnusedBlank : TableUpdate → Bool
-isUnusedBlank u =
-    usedBy (assignUuidKind ∷ []) (u .kind) (all isZero (u .uuid))
-    && usedBy (upgradeFormatVersionKind ∷ []) (u .kind) (isZero (u .«format_version»))
-    && usedBy (setLocationKind ∷ []) (u .kind) (isBlankLocation (u .location))
-    && usedBy (addSnapshotKind ∷ setBranchSnapshotKind ∷ []) (u .kind) (isBlankSnapshot (u .snapshot))
-    && usedBy (removeSnapshotsKind ∷ []) (u .kind) (isBlankSnapshotIds (u .«snapshot_ids»))
-    && usedBy (setBranchSnapshotKind ∷ setRefKind ∷ removeRefKind ∷ []) (u .kind) (isBlankRefName (u .«ref_name»))
-    && usedBy (setRefKind ∷ []) (u .kind) (isBlankReference (u .reference))
-    && usedBy (addSchemaKind ∷ []) (u .kind) (isBlankSchema (u .schema))
-    && usedBy (setCurrentSchemaKind ∷ []) (u .kind) (isZeroZ (u .«schema_id» .0))
-    && usedBy (removeSchemasKind ∷ []) (u .kind) (isBlankSchemaIds (u .«schema_ids»))
-    && usedBy (addSortOrderKind ∷ []) (u .kind) (isBlankSortOrder (u .«sort_order»))
-    && usedBy (setDefaultSortOrderKind ∷ []) (u .kind) (isZeroZ (u .«sort_order_id» .0))
-    && usedBy (setStatisticsKind ∷ setPartitionStatisticsKind ∷ []) (u .kind) (isBlankStatisticsFile (u .statistics))
-    && usedBy (removeStatisticsKind ∷ removePartitionStatisticsKind ∷ []) (u .kind) (isZeroZ (u .«statistics_id» .0))
+-- the same, and the record is tidy, as a blank one is
+abbrev pub fitsKinds : List ℕ → ℕ → Bool → Bool → Bool
+fitsKinds kinds kind isBlank isTidy = usedBy kinds kind isBlank && isTidy
 
--- what it does use is tidy (a blank record is)
-unfoldable pub isUsedTidy : TableUpdate → Bool
-isUsedTidy u =
-    isTidyLocation (u .location)
-    && isTidySnapshot (u .snapshot)
-    && isTidySnapshotIds (u .«snapshot_ids»)
-    && isTidyRefName (u .«ref_name»)
-    && isTidyReference (u .reference)
-    && isTidySchema (u .schema)
-    && isTidySchemaIds (u .«schema_ids»)
-    && isTidySortOrder (u .«sort_order»)
-    && isTidyStatisticsFile (u .statistics)
+-- part by part, the kinds that use each record, and what is asked of the part
+
+abbrev pub uuidKinds : List ℕ
+uuidKinds = assignUuidKind ∷ []
+
+abbrev pub versionKinds : List ℕ
+versionKinds = upgradeFormatVersionKind ∷ []
+
+abbrev pub locationKinds : List ℕ
+locationKinds = setLocationKind ∷ []
+
+unfoldable pub isTidyFieldsPart : ℕ → FieldsPart → Bool
+isTidyFieldsPart kind p =
+    usedBy uuidKinds kind (isBlankUuid (p .uuid))
+    && usedBy versionKinds kind (isZero (p .«format_version»))
+    && fitsKinds locationKinds kind (isBlankText (p .location)) (isTidyText (p .location))
+
+abbrev pub snapshotKinds : List ℕ
+snapshotKinds = addSnapshotKind ∷ setBranchSnapshotKind ∷ []
+
+abbrev pub snapshotIdsKinds : List ℕ
+snapshotIdsKinds = removeSnapshotsKind ∷ []
+
+unfoldable pub isTidySnapshotsPart : ℕ → SnapshotsPart → Bool
+isTidySnapshotsPart kind p =
+    fitsKinds snapshotKinds kind (isBlankSnapshot (p .added)) (isTidySnapshot (p .added))
+    && fitsKinds snapshotIdsKinds kind (isBlankSnapshotIds (p .removed)) (isTidySnapshotIds (p .removed))
+
+abbrev pub refNameKinds : List ℕ
+refNameKinds = setBranchSnapshotKind ∷ setRefKind ∷ removeRefKind ∷ []
+
+abbrev pub referenceKinds : List ℕ
+referenceKinds = setRefKind ∷ []
+
+unfoldable pub isTidyRefsPart : ℕ → NamedRef → Bool
+isTidyRefsPart kind p =
+    fitsKinds refNameKinds kind (isBlankRefName (p .name)) (isTidyRefName (p .name))
+    && fitsKinds referenceKinds kind (isBlankReference (p .reference)) (isTidyReference (p .reference))
+
+abbrev pub schemaKinds : List ℕ
+schemaKinds = addSchemaKind ∷ []
+
+abbrev pub schemaIdKinds : List ℕ
+schemaIdKinds = setCurrentSchemaKind ∷ []
+
+abbrev pub schemaIdsKinds : List ℕ
+schemaIdsKinds = removeSchemasKind ∷ []
+
+unfoldable pub isTidySchemasPart : ℕ → SchemasPart → Bool
+isTidySchemasPart kind p =
+    fitsKinds schemaKinds kind (isBlankSchema (p .added)) (isTidySchema (p .added))
+    && usedBy schemaIdKinds kind (isZeroZ (p .chosen .0))
+    && fitsKinds schemaIdsKinds kind (isBlankSchemaIds (p .removed)) (isTidySchemaIds (p .removed))
+
+abbrev pub sortOrderKinds : List ℕ
+sortOrderKinds = addSortOrderKind ∷ []
+
+abbrev pub sortOrderIdKinds : List ℕ
+sortOrderIdKinds = setDefaultSortOrderKind ∷ []
+
+unfoldable pub isTidySortOrdersPart : ℕ → SortOrdersPart → Bool
+isTidySortOrdersPart kind p =
+    fitsKinds sortOrderKinds kind (isBlankSortOrder (p .added)) (isTidySortOrder (p .added))
+    && usedBy sortOrderIdKinds kind (isZeroZ (p .chosen .0))
+
+abbrev pub statisticsFileKinds : List ℕ
+statisticsFileKinds = setStatisticsKind ∷ setPartitionStatisticsKind ∷ []
+
+abbrev pub statisticsIdKinds : List ℕ
+statisticsIdKinds = removeStatisticsKind ∷ removePartitionStatisticsKind ∷ []
+
+unfoldable pub isTidyStatisticsPart : ℕ → StatisticsPart → Bool
+isTidyStatisticsPart kind p =
+    fitsKinds statisticsFileKinds kind (isBlankStatisticsFile (p .file)) (isTidyStatisticsFile (p .file))
+    && usedBy statisticsIdKinds kind (isZeroZ (p .removed .0))
 
 abbrev pub isTidyUpdate : TableUpdate → Bool
-isTidyUpdate u = isUnusedBlank u && isUsedTidy u
+isTidyUpdate u =
+    isTidyFieldsPart (u .kind) (u .fields)
+    && isTidySnapshotsPart (u .kind) (u .snapshots)
+    && isTidyRefsPart (u .kind) (u .refs)
+    && isTidySchemasPart (u .kind) (u .schemas)
+    && isTidySortOrdersPart (u .kind) (u .«sort_orders»)
+    && isTidyStatisticsPart (u .kind) (u .statistics)
 
 -- ---- reading
 
@@ -135,23 +196,23 @@ atKind kind (x ∷ xs) = cond (eqb kind (x .0)) (x .1) (atKind kind xs)
 -- what each kind says
 abbrev pub readings : TableUpdate → List (ℕ × Update)
 readings u =
-    (assignUuidKind, AssignUuid (u .uuid))
-    ∷ (upgradeFormatVersionKind, UpgradeFormatVersion (u .«format_version»))
-    ∷ (setLocationKind, SetLocation (readLocation (u .location)))
-    ∷ (addSnapshotKind, AddSnapshot (readSnapshot (u .snapshot)))
-    ∷ (setBranchSnapshotKind, SetBranchSnapshot (readRefName (u .«ref_name»)) (readSnapshot (u .snapshot)))
-    ∷ (removeSnapshotsKind, RemoveSnapshots (readSnapshotIds (u .«snapshot_ids»)))
-    ∷ (setRefKind, SetRef (readRefName (u .«ref_name»)) (readReference (u .reference)))
-    ∷ (removeRefKind, RemoveRef (readRefName (u .«ref_name»)))
-    ∷ (addSchemaKind, AddSchema (readSchema (u .schema)))
-    ∷ (setCurrentSchemaKind, SetCurrentSchema (u .«schema_id» .0))
-    ∷ (removeSchemasKind, RemoveSchemas (readSchemaIds (u .«schema_ids»)))
-    ∷ (addSortOrderKind, AddSortOrder (readSortOrder (u .«sort_order»)))
-    ∷ (setDefaultSortOrderKind, SetDefaultSortOrder (u .«sort_order_id» .0))
-    ∷ (setStatisticsKind, SetStatistics Statistics (readStatisticsFile (u .statistics)))
-    ∷ (removeStatisticsKind, RemoveStatistics Statistics (u .«statistics_id» .0))
-    ∷ (setPartitionStatisticsKind, SetStatistics PartitionStatistics (readStatisticsFile (u .statistics)))
-    ∷ (removePartitionStatisticsKind, RemoveStatistics PartitionStatistics (u .«statistics_id» .0))
+    (assignUuidKind, AssignUuid (u .fields .uuid))
+    ∷ (upgradeFormatVersionKind, UpgradeFormatVersion (u .fields .«format_version»))
+    ∷ (setLocationKind, SetLocation (readText (u .fields .location)))
+    ∷ (addSnapshotKind, AddSnapshot (readSnapshot (u .snapshots .added)))
+    ∷ (setBranchSnapshotKind, SetBranchSnapshot (readRefName (u .refs .name)) (readSnapshot (u .snapshots .added)))
+    ∷ (removeSnapshotsKind, RemoveSnapshots (readSnapshotIds (u .snapshots .removed)))
+    ∷ (setRefKind, SetRef (readRefName (u .refs .name)) (readReference (u .refs .reference)))
+    ∷ (removeRefKind, RemoveRef (readRefName (u .refs .name)))
+    ∷ (addSchemaKind, AddSchema (readSchema (u .schemas .added)))
+    ∷ (setCurrentSchemaKind, SetCurrentSchema (u .schemas .chosen .0))
+    ∷ (removeSchemasKind, RemoveSchemas (readSchemaIds (u .schemas .removed)))
+    ∷ (addSortOrderKind, AddSortOrder (readSortOrder (u .«sort_orders» .added)))
+    ∷ (setDefaultSortOrderKind, SetDefaultSortOrder (u .«sort_orders» .chosen .0))
+    ∷ (setStatisticsKind, SetStatistics Statistics (readStatisticsFile (u .statistics .file)))
+    ∷ (removeStatisticsKind, RemoveStatistics Statistics (u .statistics .removed .0))
+    ∷ (setPartitionStatisticsKind, SetStatistics PartitionStatistics (readStatisticsFile (u .statistics .file)))
+    ∷ (removePartitionStatisticsKind, RemoveStatistics PartitionStatistics (u .statistics .removed .0))
     ∷ []
 
 abbrev pub readKind : TableUpdate → Update
@@ -167,49 +228,71 @@ readUpdates t = map readUpdate (counted noUpdate (t .items) (t .count))
 -- ---- laying out: a blank update of a kind, with the records that the kind uses
 
 abbrev pub ofKind : ℕ → TableUpdate
-ofKind kind = record { kind = kind; uuid = noUpdate .uuid; «format_version» = noUpdate .«format_version»; location = noUpdate .location; snapshot = noUpdate .snapshot; «snapshot_ids» = noUpdate .«snapshot_ids»; «ref_name» = noUpdate .«ref_name»; reference = noUpdate .reference; schema = noUpdate .schema; «schema_id» = noUpdate .«schema_id»; «schema_ids» = noUpdate .«schema_ids»; «sort_order» = noUpdate .«sort_order»; «sort_order_id» = noUpdate .«sort_order_id»; statistics = noUpdate .statistics; «statistics_id» = noUpdate .«statistics_id» }
+ofKind kind = record { kind = kind; fields = noFieldsPart; snapshots = noSnapshotsPart; refs = noRef; schemas = noSchemasPart; «sort_orders» = noSortOrdersPart; statistics = noStatisticsPart }
 
-abbrev pub withUuid : List ℕ → TableUpdate → TableUpdate
-withUuid x u = record { kind = u .kind; uuid = x; «format_version» = u .«format_version»; location = u .location; snapshot = u .snapshot; «snapshot_ids» = u .«snapshot_ids»; «ref_name» = u .«ref_name»; reference = u .reference; schema = u .schema; «schema_id» = u .«schema_id»; «schema_ids» = u .«schema_ids»; «sort_order» = u .«sort_order»; «sort_order_id» = u .«sort_order_id»; statistics = u .statistics; «statistics_id» = u .«statistics_id» }
+abbrev pub withFieldsPart : FieldsPart → TableUpdate → TableUpdate
+withFieldsPart x u = record { kind = u .kind; fields = x; snapshots = u .snapshots; refs = u .refs; schemas = u .schemas; «sort_orders» = u .«sort_orders»; statistics = u .statistics }
 
-abbrev pub withFormatVersion : ℕ → TableUpdate → TableUpdate
-withFormatVersion x u = record { kind = u .kind; uuid = u .uuid; «format_version» = x; location = u .location; snapshot = u .snapshot; «snapshot_ids» = u .«snapshot_ids»; «ref_name» = u .«ref_name»; reference = u .reference; schema = u .schema; «schema_id» = u .«schema_id»; «schema_ids» = u .«schema_ids»; «sort_order» = u .«sort_order»; «sort_order_id» = u .«sort_order_id»; statistics = u .statistics; «statistics_id» = u .«statistics_id» }
+abbrev pub withSnapshotsPart : SnapshotsPart → TableUpdate → TableUpdate
+withSnapshotsPart x u = record { kind = u .kind; fields = u .fields; snapshots = x; refs = u .refs; schemas = u .schemas; «sort_orders» = u .«sort_orders»; statistics = u .statistics }
 
-abbrev pub withLocation : Location → TableUpdate → TableUpdate
-withLocation x u = record { kind = u .kind; uuid = u .uuid; «format_version» = u .«format_version»; location = x; snapshot = u .snapshot; «snapshot_ids» = u .«snapshot_ids»; «ref_name» = u .«ref_name»; reference = u .reference; schema = u .schema; «schema_id» = u .«schema_id»; «schema_ids» = u .«schema_ids»; «sort_order» = u .«sort_order»; «sort_order_id» = u .«sort_order_id»; statistics = u .statistics; «statistics_id» = u .«statistics_id» }
+abbrev pub withRefsPart : NamedRef → TableUpdate → TableUpdate
+withRefsPart x u = record { kind = u .kind; fields = u .fields; snapshots = u .snapshots; refs = x; schemas = u .schemas; «sort_orders» = u .«sort_orders»; statistics = u .statistics }
 
-abbrev pub withSnapshot : Snapshot → TableUpdate → TableUpdate
-withSnapshot x u = record { kind = u .kind; uuid = u .uuid; «format_version» = u .«format_version»; location = u .location; snapshot = x; «snapshot_ids» = u .«snapshot_ids»; «ref_name» = u .«ref_name»; reference = u .reference; schema = u .schema; «schema_id» = u .«schema_id»; «schema_ids» = u .«schema_ids»; «sort_order» = u .«sort_order»; «sort_order_id» = u .«sort_order_id»; statistics = u .statistics; «statistics_id» = u .«statistics_id» }
+abbrev pub withSchemasPart : SchemasPart → TableUpdate → TableUpdate
+withSchemasPart x u = record { kind = u .kind; fields = u .fields; snapshots = u .snapshots; refs = u .refs; schemas = x; «sort_orders» = u .«sort_orders»; statistics = u .statistics }
 
-abbrev pub withSnapshotIds : SnapshotIds → TableUpdate → TableUpdate
-withSnapshotIds x u = record { kind = u .kind; uuid = u .uuid; «format_version» = u .«format_version»; location = u .location; snapshot = u .snapshot; «snapshot_ids» = x; «ref_name» = u .«ref_name»; reference = u .reference; schema = u .schema; «schema_id» = u .«schema_id»; «schema_ids» = u .«schema_ids»; «sort_order» = u .«sort_order»; «sort_order_id» = u .«sort_order_id»; statistics = u .statistics; «statistics_id» = u .«statistics_id» }
+abbrev pub withSortOrdersPart : SortOrdersPart → TableUpdate → TableUpdate
+withSortOrdersPart x u = record { kind = u .kind; fields = u .fields; snapshots = u .snapshots; refs = u .refs; schemas = u .schemas; «sort_orders» = x; statistics = u .statistics }
 
-abbrev pub withRefName : RefName → TableUpdate → TableUpdate
-withRefName x u = record { kind = u .kind; uuid = u .uuid; «format_version» = u .«format_version»; location = u .location; snapshot = u .snapshot; «snapshot_ids» = u .«snapshot_ids»; «ref_name» = x; reference = u .reference; schema = u .schema; «schema_id» = u .«schema_id»; «schema_ids» = u .«schema_ids»; «sort_order» = u .«sort_order»; «sort_order_id» = u .«sort_order_id»; statistics = u .statistics; «statistics_id» = u .«statistics_id» }
+abbrev pub withStatisticsPart : StatisticsPart → TableUpdate → TableUpdate
+withStatisticsPart x u = record { kind = u .kind; fields = u .fields; snapshots = u .snapshots; refs = u .refs; schemas = u .schemas; «sort_orders» = u .«sort_orders»; statistics = x }
 
-abbrev pub withReference : SnapshotReference → TableUpdate → TableUpdate
-withReference x u = record { kind = u .kind; uuid = u .uuid; «format_version» = u .«format_version»; location = u .location; snapshot = u .snapshot; «snapshot_ids» = u .«snapshot_ids»; «ref_name» = u .«ref_name»; reference = x; schema = u .schema; «schema_id» = u .«schema_id»; «schema_ids» = u .«schema_ids»; «sort_order» = u .«sort_order»; «sort_order_id» = u .«sort_order_id»; statistics = u .statistics; «statistics_id» = u .«statistics_id» }
+-- ---- a part with another record
 
-abbrev pub withSchema : Schema → TableUpdate → TableUpdate
-withSchema x u = record { kind = u .kind; uuid = u .uuid; «format_version» = u .«format_version»; location = u .location; snapshot = u .snapshot; «snapshot_ids» = u .«snapshot_ids»; «ref_name» = u .«ref_name»; reference = u .reference; schema = x; «schema_id» = u .«schema_id»; «schema_ids» = u .«schema_ids»; «sort_order» = u .«sort_order»; «sort_order_id» = u .«sort_order_id»; statistics = u .statistics; «statistics_id» = u .«statistics_id» }
+abbrev pub withUuid : List ℕ → FieldsPart → FieldsPart
+withUuid x p = record { uuid = x; «format_version» = p .«format_version»; location = p .location }
 
-abbrev pub withSchemaId : SchemaId → TableUpdate → TableUpdate
-withSchemaId x u = record { kind = u .kind; uuid = u .uuid; «format_version» = u .«format_version»; location = u .location; snapshot = u .snapshot; «snapshot_ids» = u .«snapshot_ids»; «ref_name» = u .«ref_name»; reference = u .reference; schema = u .schema; «schema_id» = x; «schema_ids» = u .«schema_ids»; «sort_order» = u .«sort_order»; «sort_order_id» = u .«sort_order_id»; statistics = u .statistics; «statistics_id» = u .«statistics_id» }
+abbrev pub withFormatVersion : ℕ → FieldsPart → FieldsPart
+withFormatVersion x p = record { uuid = p .uuid; «format_version» = x; location = p .location }
 
-abbrev pub withSchemaIds : SchemaIds → TableUpdate → TableUpdate
-withSchemaIds x u = record { kind = u .kind; uuid = u .uuid; «format_version» = u .«format_version»; location = u .location; snapshot = u .snapshot; «snapshot_ids» = u .«snapshot_ids»; «ref_name» = u .«ref_name»; reference = u .reference; schema = u .schema; «schema_id» = u .«schema_id»; «schema_ids» = x; «sort_order» = u .«sort_order»; «sort_order_id» = u .«sort_order_id»; statistics = u .statistics; «statistics_id» = u .«statistics_id» }
+abbrev pub withLocation : Text → FieldsPart → FieldsPart
+withLocation x p = record { uuid = p .uuid; «format_version» = p .«format_version»; location = x }
 
-abbrev pub withSortOrder : SortOrder → TableUpdate → TableUpdate
-withSortOrder x u = record { kind = u .kind; uuid = u .uuid; «format_version» = u .«format_version»; location = u .location; snapshot = u .snapshot; «snapshot_ids» = u .«snapshot_ids»; «ref_name» = u .«ref_name»; reference = u .reference; schema = u .schema; «schema_id» = u .«schema_id»; «schema_ids» = u .«schema_ids»; «sort_order» = x; «sort_order_id» = u .«sort_order_id»; statistics = u .statistics; «statistics_id» = u .«statistics_id» }
+abbrev pub withSnapshot : Snapshot → SnapshotsPart → SnapshotsPart
+withSnapshot x p = record { added = x; removed = p .removed }
 
-abbrev pub withSortOrderId : SortOrderId → TableUpdate → TableUpdate
-withSortOrderId x u = record { kind = u .kind; uuid = u .uuid; «format_version» = u .«format_version»; location = u .location; snapshot = u .snapshot; «snapshot_ids» = u .«snapshot_ids»; «ref_name» = u .«ref_name»; reference = u .reference; schema = u .schema; «schema_id» = u .«schema_id»; «schema_ids» = u .«schema_ids»; «sort_order» = u .«sort_order»; «sort_order_id» = x; statistics = u .statistics; «statistics_id» = u .«statistics_id» }
+abbrev pub withSnapshotIds : SnapshotIds → SnapshotsPart → SnapshotsPart
+withSnapshotIds x p = record { added = p .added; removed = x }
 
-abbrev pub withStatisticsFile : StatisticsFile → TableUpdate → TableUpdate
-withStatisticsFile x u = record { kind = u .kind; uuid = u .uuid; «format_version» = u .«format_version»; location = u .location; snapshot = u .snapshot; «snapshot_ids» = u .«snapshot_ids»; «ref_name» = u .«ref_name»; reference = u .reference; schema = u .schema; «schema_id» = u .«schema_id»; «schema_ids» = u .«schema_ids»; «sort_order» = u .«sort_order»; «sort_order_id» = u .«sort_order_id»; statistics = x; «statistics_id» = u .«statistics_id» }
+abbrev pub withRefName : RefName → NamedRef → NamedRef
+withRefName x p = record { name = x; reference = p .reference }
 
-abbrev pub withStatisticsId : SnapshotId → TableUpdate → TableUpdate
-withStatisticsId x u = record { kind = u .kind; uuid = u .uuid; «format_version» = u .«format_version»; location = u .location; snapshot = u .snapshot; «snapshot_ids» = u .«snapshot_ids»; «ref_name» = u .«ref_name»; reference = u .reference; schema = u .schema; «schema_id» = u .«schema_id»; «schema_ids» = u .«schema_ids»; «sort_order» = u .«sort_order»; «sort_order_id» = u .«sort_order_id»; statistics = u .statistics; «statistics_id» = x }
+abbrev pub withReference : SnapshotReference → NamedRef → NamedRef
+withReference x p = record { name = p .name; reference = x }
+
+abbrev pub withSchema : Schema → SchemasPart → SchemasPart
+withSchema x p = record { added = x; chosen = p .chosen; removed = p .removed }
+
+abbrev pub withSchemaId : SchemaId → SchemasPart → SchemasPart
+withSchemaId x p = record { added = p .added; chosen = x; removed = p .removed }
+
+abbrev pub withSchemaIds : SchemaIds → SchemasPart → SchemasPart
+withSchemaIds x p = record { added = p .added; chosen = p .chosen; removed = x }
+
+abbrev pub withSortOrder : SortOrder → SortOrdersPart → SortOrdersPart
+withSortOrder x p = record { added = x; chosen = p .chosen }
+
+abbrev pub withSortOrderId : SortOrderId → SortOrdersPart → SortOrdersPart
+withSortOrderId x p = record { added = p .added; chosen = x }
+
+abbrev pub withStatisticsFile : StatisticsFile → StatisticsPart → StatisticsPart
+withStatisticsFile x p = record { file = x; removed = p .removed }
+
+abbrev pub withStatisticsId : SnapshotId → StatisticsPart → StatisticsPart
+withStatisticsId x p = record { file = p .file; removed = x }
+
+-- ---- an update laid out
 
 -- the kinds of the two tables
 abbrev pub settingKind : StatisticsTable → ℕ
@@ -221,21 +304,21 @@ removingKind Statistics = removeStatisticsKind
 removingKind PartitionStatistics = removePartitionStatisticsKind
 
 unfoldable pub laidUpdate : Update → TableUpdate
-laidUpdate (AssignUuid uuid) = withUuid uuid (ofKind assignUuidKind)
-laidUpdate (UpgradeFormatVersion v) = withFormatVersion v (ofKind upgradeFormatVersionKind)
-laidUpdate (SetLocation location) = withLocation (laidLocation location) (ofKind setLocationKind)
-laidUpdate (AddSnapshot s) = withSnapshot (laidSnapshot s) (ofKind addSnapshotKind)
-laidUpdate (SetBranchSnapshot name s) = withRefName (laidRefName name) (withSnapshot (laidSnapshot s) (ofKind setBranchSnapshotKind))
-laidUpdate (RemoveSnapshots ids) = withSnapshotIds (laidSnapshotIds ids) (ofKind removeSnapshotsKind)
-laidUpdate (SetRef name r) = withRefName (laidRefName name) (withReference (laidReference r) (ofKind setRefKind))
-laidUpdate (RemoveRef name) = withRefName (laidRefName name) (ofKind removeRefKind)
-laidUpdate (AddSchema s) = withSchema (laidSchema s) (ofKind addSchemaKind)
-laidUpdate (SetCurrentSchema id) = withSchemaId (record { 0 = id }) (ofKind setCurrentSchemaKind)
-laidUpdate (RemoveSchemas ids) = withSchemaIds (laidSchemaIds ids) (ofKind removeSchemasKind)
-laidUpdate (AddSortOrder o) = withSortOrder (laidSortOrder o) (ofKind addSortOrderKind)
-laidUpdate (SetDefaultSortOrder id) = withSortOrderId (record { 0 = id }) (ofKind setDefaultSortOrderKind)
-laidUpdate (SetStatistics which f) = withStatisticsFile (laidStatisticsFile f) (ofKind (settingKind which))
-laidUpdate (RemoveStatistics which id) = withStatisticsId (record { 0 = id }) (ofKind (removingKind which))
+laidUpdate (AssignUuid uuid) = withFieldsPart (withUuid uuid noFieldsPart) (ofKind assignUuidKind)
+laidUpdate (UpgradeFormatVersion v) = withFieldsPart (withFormatVersion v noFieldsPart) (ofKind upgradeFormatVersionKind)
+laidUpdate (SetLocation location) = withFieldsPart (withLocation (laidText location) noFieldsPart) (ofKind setLocationKind)
+laidUpdate (AddSnapshot s) = withSnapshotsPart (withSnapshot (laidSnapshot s) noSnapshotsPart) (ofKind addSnapshotKind)
+laidUpdate (SetBranchSnapshot name s) = withRefsPart (withRefName (laidRefName name) noRef) (withSnapshotsPart (withSnapshot (laidSnapshot s) noSnapshotsPart) (ofKind setBranchSnapshotKind))
+laidUpdate (RemoveSnapshots ids) = withSnapshotsPart (withSnapshotIds (laidSnapshotIds ids) noSnapshotsPart) (ofKind removeSnapshotsKind)
+laidUpdate (SetRef name r) = withRefsPart (record { name = laidRefName name; reference = laidReference r }) (ofKind setRefKind)
+laidUpdate (RemoveRef name) = withRefsPart (withRefName (laidRefName name) noRef) (ofKind removeRefKind)
+laidUpdate (AddSchema s) = withSchemasPart (withSchema (laidSchema s) noSchemasPart) (ofKind addSchemaKind)
+laidUpdate (SetCurrentSchema id) = withSchemasPart (withSchemaId (record { 0 = id }) noSchemasPart) (ofKind setCurrentSchemaKind)
+laidUpdate (RemoveSchemas ids) = withSchemasPart (withSchemaIds (laidSchemaIds ids) noSchemasPart) (ofKind removeSchemasKind)
+laidUpdate (AddSortOrder o) = withSortOrdersPart (withSortOrder (laidSortOrder o) noSortOrdersPart) (ofKind addSortOrderKind)
+laidUpdate (SetDefaultSortOrder id) = withSortOrdersPart (withSortOrderId (record { 0 = id }) noSortOrdersPart) (ofKind setDefaultSortOrderKind)
+laidUpdate (SetStatistics which f) = withStatisticsPart (withStatisticsFile (laidStatisticsFile f) noStatisticsPart) (ofKind (settingKind which))
+laidUpdate (RemoveStatistics which id) = withStatisticsPart (withStatisticsId (record { 0 = id }) noStatisticsPart) (ofKind (removingKind which))
 laidUpdate (NotFormed counts) = noUpdate
 
 unfoldable pub laidUpdates : List Update → UpdateList

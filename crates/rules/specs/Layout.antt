@@ -12,8 +12,7 @@ use Rattle.records.specs.declared.counters.RowId.{RowId}
 use Rattle.records.specs.declared.counters.SnapshotId.{SnapshotId}
 use Rattle.records.specs.declared.counters.SchemaId.{SchemaId}
 use Rattle.records.specs.declared.text.RefName.{RefName}
-use Rattle.records.specs.declared.text.Location.{Location}
-use Rattle.records.specs.declared.text.FileName.{FileName}
+use Rattle.records.specs.declared.text.Text.{Text}
 use Rattle.records.specs.declared.snapshot.Snapshot.{Snapshot}
 use Rattle.records.specs.declared.snapshot.Snapshots.{Snapshots}
 use Rattle.records.specs.declared.snapshot.SnapshotIds.{SnapshotIds}
@@ -36,7 +35,7 @@ use Rattle.records.specs.declared.metadata.MetadataLog.{MetadataLog}
 use Rattle.records.specs.declared.metadata.SingleFields.{SingleFields}
 use Rattle.records.specs.declared.metadata.TableMetadata.{TableMetadata}
 use Rattle.rules.specs.Words.{isSome, orElse}
-use Rattle.rules.specs.Capacities.{snapshotRoom, refRoom, snapshotLogRoom, metadataLogRoom, schemaRoom, schemaFieldRoom, sortOrderRoom, sortFieldRoom, statisticsRoom, removalRoom, refNameRoom, locationRoom, fileNameRoom}
+use Rattle.rules.specs.Capacities.{snapshotRoom, refRoom, snapshotLogRoom, metadataLogRoom, schemaRoom, schemaFieldRoom, sortOrderRoom, sortFieldRoom, statisticsRoom, removalRoom, refNameRoom, textRoom}
 use Rattle.rules.specs.Register as plain
 
 -- ---- slots and flags
@@ -63,17 +62,11 @@ readRefName t = counted 0 (t .bytes) (t .len)
 unfoldable pub laidRefName : List ℕ → RefName
 laidRefName l = record { bytes = pad refNameRoom 0 l; len = length l }
 
-abbrev pub readLocation : Location → List ℕ
-readLocation t = counted 0 (t .bytes) (t .len)
+abbrev pub readText : Text → List ℕ
+readText t = counted 0 (t .bytes) (t .len)
 
-unfoldable pub laidLocation : List ℕ → Location
-laidLocation l = record { bytes = pad locationRoom 0 l; len = length l }
-
-abbrev pub readFileName : FileName → List ℕ
-readFileName t = counted 0 (t .bytes) (t .len)
-
-unfoldable pub laidFileName : List ℕ → FileName
-laidFileName l = record { bytes = pad fileNameRoom 0 l; len = length l }
+unfoldable pub laidText : List ℕ → Text
+laidText l = record { bytes = pad textRoom 0 l; len = length l }
 
 -- ---- snapshots
 
@@ -218,10 +211,10 @@ laidSortOrders l = record { items = pad sortOrderRoom noSortOrder (map laidSortO
 -- ---- statistics files
 
 abbrev pub readStatisticsFile : StatisticsFile → plain.StatisticsFile
-readStatisticsFile f = record { snapshot = f .«snapshot_id» .0; path = readFileName (f .«statistics_path»); size = f .«file_size_in_bytes» .0 }
+readStatisticsFile f = record { snapshot = f .«snapshot_id» .0; path = readText (f .«statistics_path»); size = f .«file_size_in_bytes» .0 }
 
 unfoldable pub laidStatisticsFile : plain.StatisticsFile → StatisticsFile
-laidStatisticsFile f = record { «snapshot_id» = record { 0 = f .snapshot }; «statistics_path» = laidFileName (f .path); «file_size_in_bytes» = record { 0 = f .size } }
+laidStatisticsFile f = record { «snapshot_id» = record { 0 = f .snapshot }; «statistics_path» = laidText (f .path); «file_size_in_bytes» = record { 0 = f .size } }
 
 abbrev pub readStatistics : StatisticsFiles → List plain.StatisticsFile
 readStatistics t = map readStatisticsFile (counted noStatisticsFile (t .items) (t .count))
@@ -232,10 +225,10 @@ laidStatistics l = record { items = pad statisticsRoom noStatisticsFile (map lai
 -- ---- metadata
 
 abbrev pub readMetadataLogEntry : MetadataLogEntry → plain.FileEntry
-readMetadataLogEntry e = record { file = readFileName (e .«metadata_file»); time = e .«timestamp_ms» .0 }
+readMetadataLogEntry e = record { file = readText (e .«metadata_file»); time = e .«timestamp_ms» .0 }
 
 unfoldable pub laidMetadataLogEntry : plain.FileEntry → MetadataLogEntry
-laidMetadataLogEntry e = record { «metadata_file» = laidFileName (e .file); «timestamp_ms» = record { 0 = e .time } }
+laidMetadataLogEntry e = record { «metadata_file» = laidText (e .file); «timestamp_ms» = record { 0 = e .time } }
 
 abbrev pub readMetadataLog : MetadataLog → List plain.FileEntry
 readMetadataLog t = map readMetadataLogEntry (counted noMetadataLogEntry (t .items) (t .count))
@@ -248,7 +241,7 @@ readFields f =
     record {
       version = f .«format_version»;
       uuid = f .«table_uuid»;
-      location = readLocation (f .location);
+      location = readText (f .location);
       lastUpdated = f .«last_updated_ms» .0;
       lastSequence = f .«last_sequence_number»;
       nextRow = f .«next_row_id»;
@@ -263,7 +256,7 @@ laidFields f =
     record {
       «format_version» = f .version;
       «table_uuid» = f .uuid;
-      location = laidLocation (f .location);
+      location = laidText (f .location);
       «last_updated_ms» = record { 0 = f .lastUpdated };
       «last_sequence_number» = f .lastSequence;
       «next_row_id» = f .nextRow;

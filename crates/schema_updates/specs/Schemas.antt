@@ -4,6 +4,7 @@ use mathlib.Core.Path.{_≡_}
 use mathlib.Core.Bool.{true, false, cond}
 use mathlib.Core.Option.{Option}
 use lib.IntN.{ℤ}
+use Rattle.records.specs.Blanks.{noSchemasPart}
 use Rattle.records.specs.declared.schema.Schema.{Schema}
 use Rattle.records.specs.declared.schema.Schemas.{Schemas}
 use Rattle.records.specs.declared.update.TableUpdate.{TableUpdate}
@@ -14,7 +15,7 @@ use Rattle.rules.specs.WellFormed.{schemaBelow}
 use Rattle.rules.specs.SchemaUpdates.{holdsSchema, addSchemaChecks, addSchema}
 use Rattle.rules.specs.Updates.{effect}
 use Rattle.rules.specs.Layout.{given, readSchema, readSchemas, laidSchemas}
-use Rattle.rules.specs.Kinds.{readUpdate, ofKind, withSchema, addSchemaKind}
+use Rattle.rules.specs.Kinds.{readUpdate, ofKind, withSchemasPart, withSchema, addSchemaKind}
 use Rattle.tables.specs.Laid.{LaidSchema}
 use Rattle.builder.specs.declared.builder.TableMetadataBuilder.{TableMetadataBuilder}
 use Rattle.builder.specs.declared.decision.Decision.{Decision}
@@ -28,7 +29,7 @@ addedSchema b = given (b .«has_schema») (b .«last_added_schema_id» .0)
 
 -- the answer, the table after it, and that a schema to put is laid out, has room and is not held
 pub record SchemaGrown (b : TableMetadataBuilder) (t : Schemas) (s : Schema) (r : SchemaAdded) : Type 0 where
-  pub answers : (st : State) → b ≡ laidBuilder st → t ≡ laidSchemas (st .metadata .schemas) → Answers (addSchemaChecks (readSchema s) st) st (addSchema (readSchema s) st) (r .number) (r .logs) (r .builder) (withSchema (r .schema) (ofKind addSchemaKind))
+  pub answers : (st : State) → b ≡ laidBuilder st → t ≡ laidSchemas (st .metadata .schemas) → Answers (addSchemaChecks (readSchema s) st) st (addSchema (readSchema s) st) (r .number) (r .logs) (r .builder) (withSchemasPart (withSchema (r .schema) noSchemasPart) (ofKind addSchemaKind))
   pub table : (st : State) → t ≡ laidSchemas (st .metadata .schemas) → r .number ≡ 0 → addSchema (readSchema s) st .metadata .schemas ≡ cond (r .grows) (put schemaBelow (readSchema (r .schema)) (st .metadata .schemas)) (st .metadata .schemas)
   pub laid : LaidSchema (r .schema)
   pub room : r .grows ≡ true → t .count < schemaRoom
@@ -43,5 +44,5 @@ pub record NewSchema (t : Schemas) (s : Schema) : Type 0 where
 -- an addition, decided: the answer, the table after it, and that a schema to put can be put
 pub record SchemaDecided (b : TableMetadataBuilder) (t : Schemas) (u : TableUpdate) (d : Decision) : Type 0 where
   pub answers : (terms : Terms) (st : State) → b ≡ laidBuilder st → t ≡ laidSchemas (st .metadata .schemas) → Decides terms u st d
-  pub table : (terms : Terms) (st : State) → t ≡ laidSchemas (st .metadata .schemas) → d .number ≡ 0 → effect terms (readUpdate u) st .metadata .schemas ≡ cond (d .grows) (put schemaBelow (readSchema (d .entry .schema)) (st .metadata .schemas)) (st .metadata .schemas)
-  pub new : d .grows ≡ true → NewSchema t (d .entry .schema)
+  pub table : (terms : Terms) (st : State) → t ≡ laidSchemas (st .metadata .schemas) → d .number ≡ 0 → effect terms (readUpdate u) st .metadata .schemas ≡ cond (d .grows) (put schemaBelow (readSchema (d .entry .schemas .added)) (st .metadata .schemas)) (st .metadata .schemas)
+  pub new : d .grows ≡ true → NewSchema t (d .entry .schemas .added)

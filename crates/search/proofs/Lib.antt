@@ -2,3 +2,4 @@
 pub mod Bits
 pub mod Places
 mod Ascending
+pub mod Successors

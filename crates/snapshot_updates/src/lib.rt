@@ -20,14 +20,15 @@ use builder::builder::own_or;
 use builder::checks::choose;
 use builder::decision::Decision;
 use builder::decision::decided;
-use leaves::row_ids::check_rows;
-use leaves::window::is_before;
+use primitives::row_ids::check_rows;
+use primitives::window::is_before;
 use records::capacities::SNAPSHOTS;
 use records::counters::Age;
 use records::counters::RowId;
 use records::counters::SequenceNumber;
 use records::counters::Time;
 use records::metadata::SingleFields;
+use records::reference::NamedRef;
 use records::replies::ACCEPTED;
 use records::replies::BEFORE_LAST_ENTRY;
 use records::replies::BEFORE_LAST_UPDATE;
@@ -38,7 +39,6 @@ use records::replies::SNAPSHOT_HELD;
 use records::replies::TABLE_FULL;
 use records::snapshot::Snapshot;
 use records::snapshot::Snapshots;
-use records::text::RefName;
 use records::update::ADD_SNAPSHOT;
 use records::update::TableUpdate;
 use search::position_ascending;
@@ -191,12 +191,12 @@ fn add_snapshot_builder(b: TableMetadataBuilder, s: Snapshot) -> TableMetadataBu
 
 // The entry of a snapshot that is added, by itself or by a branch commit.
 fn addition(u: TableUpdate) -> TableUpdate
-    ensures { λ r. ⌜ ((eqb (u .kind) addSnapshotKind || eqb (u .kind) setBranchSnapshotKind) ≡ true → isTidyUpdate u ≡ true → r ≡ laidUpdate (AddSnapshot (readSnapshot (u .snapshot)))) ⌝ }
+    ensures { λ r. ⌜ ((eqb (u .kind) addSnapshotKind || eqb (u .kind) setBranchSnapshotKind) ≡ true → isTidyUpdate u ≡ true → r ≡ laidUpdate (AddSnapshot (readSnapshot (u .snapshots .added)))) ⌝ }
 {
     let mut e = u;
-    let none = RefName::blank();
+    let none = NamedRef::blank();
     e.kind = ADD_SNAPSHOT;
-    e.ref_name = none;
+    e.refs = none;
     e
 }
 
@@ -213,9 +213,9 @@ pub fn add_snapshot(
     requires { ⌜ isTidyUpdate u ≡ true ⌝ }
     requires { ⌜ (eqb (u .kind) addSnapshotKind || eqb (u .kind) setBranchSnapshotKind) ≡ true ⌝ }
     requires { ⌜ ascending ltZ (now ids) ≡ true ⌝ }
-    ensures { λ r. ⌜ ((st : State) → b ≡ laidBuilder st → now (ids .entry) ≡ idsOf (st .metadata .snapshots) → given «has_last» (entry .0) ≡ lastTime (st .metadata .snapshotLog) → SnapshotDecided «on_tag» (tolerance .0) (readSnapshot (u .snapshot)) st r) ⌝ }
+    ensures { λ r. ⌜ ((st : State) → b ≡ laidBuilder st → now (ids .entry) ≡ idsOf (st .metadata .snapshots) → given «has_last» (entry .0) ≡ lastTime (st .metadata .snapshotLog) → SnapshotDecided «on_tag» (tolerance .0) (readSnapshot (u .snapshots .added)) st r) ⌝ }
 {
-    let s = u.snapshot;
+    let s = u.snapshots.added;
     let fails = add_snapshot_number(b, ids, has_last, entry, tolerance, s);
     let number = choose(on_tag, COMMIT_ON_TAG, fails);
     let c = add_snapshot_builder(b, s);
@@ -233,14 +233,15 @@ pub fn add_snapshot(
 pub fn remove_snapshots(b: TableMetadataBuilder, t: Snapshots, u: TableUpdate) -> Decision
     requires { ⌜ LaidSnapshots t ⌝ }
     requires { ⌜ ascending snapshotBelow (readSnapshots t) ≡ true ⌝ }
-    requires { ⌜ LaidSnapshotIds (u .«snapshot_ids») ⌝ }
+    requires { ⌜ LaidSnapshotIds (u .snapshots .removed) ⌝ }
     requires { ⌜ isTidyUpdate u ≡ true ⌝ }
     requires { ⌜ u .kind ≡ removeSnapshotsKind ⌝ }
-    ensures { λ r. ⌜ ((st : State) → b ≡ laidBuilder st → t ≡ laidSnapshots (st .metadata .snapshots) → SnapshotsGone (readSnapshotIds (u .«snapshot_ids»)) st r) ⌝ }
+    ensures { λ r. ⌜ ((st : State) → b ≡ laidBuilder st → t ≡ laidSnapshots (st .metadata .snapshots) → SnapshotsGone (readSnapshotIds (u .snapshots .removed)) st r) ⌝ }
 {
-    let asked = u.snapshot_ids;
-    let held = tables::snapshots::held(t, asked);
+    let mut part = u.snapshots;
+    let held = tables::snapshots::held(t, part.removed);
+    part.removed = held;
     let mut e = u;
-    e.snapshot_ids = held;
+    e.snapshots = part;
     decided(ACCEPTED, held.count > 0, b, e)
 }

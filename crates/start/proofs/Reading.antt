@@ -3,26 +3,25 @@ use Prim.Native.Nat.{ℕ, zero, suc, _+_, _≤_, _<_}
 use native.Mathlib.Omega.{arith}
 use native.Mathlib.Numerals.{add-one}
 use mathlib.Core.Path.{_≡_, refl, sym, ap, _∙_}
-use mathlib.Core.Bool.{Bool, true, false, cond, _||_, false≢true}
+use mathlib.Core.Bool.{Bool, true, false, cond, _&&_, _||_, false≢true}
 use mathlib.Core.List.{List, [], _∷_, map}
-use lib.Dec.{eqb}
+use lib.Dec.{eqb, leb}
 use lib.ListN.{length, getD, take, drop, length-map, length-take, drop-of-length-le}
 use lib.Seq.{drop-cons, getD-take}
-use borrow.Author.Tests.{eqb-true}
+use borrow.Author.Tests.{eqb-true, leb-true}
 use borrow.Table.Steps.{cases}
 use Rattle.records.specs.Blanks.{noUpdate}
 use Rattle.records.specs.declared.update.TableUpdate.{TableUpdate}
 use Rattle.records.specs.declared.update.UpdateList.{UpdateList}
 use Rattle.rules.specs.Words.{all, any, total}
-use Rattle.rules.specs.Register.{StatisticsTable, Update}
-use Rattle.rules.specs.Register.StatisticsTable.{Statistics, PartitionStatistics}
-use Rattle.rules.specs.Register.Update.{AddSnapshot, SetBranchSnapshot, RemoveSnapshots, SetRef, RemoveRef, RemoveSchemas, SetStatistics, RemoveStatistics, NotFormed}
+use Rattle.rules.specs.Register.{Update}
+use Rattle.rules.specs.Register.Update.{AddSnapshot, SetBranchSnapshot, RemoveSnapshots, SetRef, RemoveRef, NotFormed}
 use Rattle.rules.specs.WellFormed.{updateFormed}
 use Rattle.rules.specs.Run.{weight}
-use Rattle.rules.specs.Layout.{counted, readRefName, readSnapshot, readReference, readSnapshotIds, readSchemaIds, readStatisticsFile}
-use Rattle.rules.specs.Kinds.{isTidyUpdate, kindWeight, atKind, readings, readKind, readUpdate, readUpdates, assignUuidKind, upgradeFormatVersionKind, setLocationKind, addSnapshotKind, setBranchSnapshotKind, removeSnapshotsKind, setRefKind, removeRefKind, addSchemaKind, setCurrentSchemaKind, removeSchemasKind, addSortOrderKind, setDefaultSortOrderKind, setStatisticsKind, removeStatisticsKind, setPartitionStatisticsKind, removePartitionStatisticsKind, settingKind, removingKind}
+use Rattle.rules.specs.Layout.{counted, readRefName, readSnapshot, readReference, readSnapshotIds}
+use Rattle.rules.specs.Kinds.{isTidyUpdate, kindWeight, atKind, readings, readKind, readUpdate, readUpdates, assignUuidKind, upgradeFormatVersionKind, setLocationKind, addSnapshotKind, setBranchSnapshotKind, removeSnapshotsKind, setRefKind, removeRefKind, addSchemaKind, setCurrentSchemaKind, removeSchemasKind, addSortOrderKind, setDefaultSortOrderKind, setStatisticsKind, removeStatisticsKind, setPartitionStatisticsKind, removePartitionStatisticsKind}
 use Rattle.rules.proofs.Checks.{and-left, and-right, by-either, neither, by-test}
-use Rattle.rules.proofs.Relaid.{counted-take, length-counted}
+use Rattle.rules.proofs.Slots.Relaid.{counted-take, length-counted}
 
 -- ---- by its kind
 
@@ -48,31 +47,20 @@ unknown k [] e = refl
 unknown k (x ∷ l) e = let n = neither (eqb k (x .0)) (any (eqb k) (map (λ (y : ℕ × Update). y .0) l)) e in rw (n .0) (unknown k l (n .1))
 
 module _ (u : TableUpdate) (f : updateFormed (readUpdate u) ≡ true) where
-  pub read-add-snapshot : u .kind ≡ addSnapshotKind → readUpdate u ≡ AddSnapshot (readSnapshot (u .snapshot))
+  pub read-add-snapshot : u .kind ≡ addSnapshotKind → readUpdate u ≡ AddSnapshot (readSnapshot (u .snapshots .added))
   read-add-snapshot e = read-tidy u (formed-tidy u f) ∙ rw e
 
-  pub read-set-branch-snapshot : u .kind ≡ setBranchSnapshotKind → readUpdate u ≡ SetBranchSnapshot (readRefName (u .«ref_name»)) (readSnapshot (u .snapshot))
+  pub read-set-branch-snapshot : u .kind ≡ setBranchSnapshotKind → readUpdate u ≡ SetBranchSnapshot (readRefName (u .refs .name)) (readSnapshot (u .snapshots .added))
   read-set-branch-snapshot e = read-tidy u (formed-tidy u f) ∙ rw e
 
-  pub read-remove-snapshots : u .kind ≡ removeSnapshotsKind → readUpdate u ≡ RemoveSnapshots (readSnapshotIds (u .«snapshot_ids»))
+  pub read-remove-snapshots : u .kind ≡ removeSnapshotsKind → readUpdate u ≡ RemoveSnapshots (readSnapshotIds (u .snapshots .removed))
   read-remove-snapshots e = read-tidy u (formed-tidy u f) ∙ rw e
 
-  pub read-set-ref : u .kind ≡ setRefKind → readUpdate u ≡ SetRef (readRefName (u .«ref_name»)) (readReference (u .reference))
+  pub read-set-ref : u .kind ≡ setRefKind → readUpdate u ≡ SetRef (readRefName (u .refs .name)) (readReference (u .refs .reference))
   read-set-ref e = read-tidy u (formed-tidy u f) ∙ rw e
 
-  pub read-remove-ref : u .kind ≡ removeRefKind → readUpdate u ≡ RemoveRef (readRefName (u .«ref_name»))
+  pub read-remove-ref : u .kind ≡ removeRefKind → readUpdate u ≡ RemoveRef (readRefName (u .refs .name))
   read-remove-ref e = read-tidy u (formed-tidy u f) ∙ rw e
-
-  pub read-remove-schemas : u .kind ≡ removeSchemasKind → readUpdate u ≡ RemoveSchemas (readSchemaIds (u .«schema_ids»))
-  read-remove-schemas e = read-tidy u (formed-tidy u f) ∙ rw e
-
-  pub read-set-statistics : (which : StatisticsTable) → u .kind ≡ settingKind which → readUpdate u ≡ SetStatistics which (readStatisticsFile (u .statistics))
-  read-set-statistics Statistics e = read-tidy u (formed-tidy u f) ∙ rw e
-  read-set-statistics PartitionStatistics e = read-tidy u (formed-tidy u f) ∙ rw e
-
-  pub read-remove-statistics : (which : StatisticsTable) → u .kind ≡ removingKind which → readUpdate u ≡ RemoveStatistics which (u .«statistics_id» .0)
-  read-remove-statistics Statistics e = read-tidy u (formed-tidy u f) ∙ rw e
-  read-remove-statistics PartitionStatistics e = read-tidy u (formed-tidy u f) ∙ rw e
 
   -- its form by its kind alone
   pub formed-kind : updateFormed (readKind u) ≡ true
@@ -84,6 +72,19 @@ module _ (u : TableUpdate) (f : updateFormed (readUpdate u) ≡ true) where
   known =
       cases (any (eqb (u .kind)) kinds) (λ e. e)
       (λ e. absurd (false≢true (sym (ap updateFormed (unknown (u .kind) (readings u) e)) ∙ formed-kind)))
+
+  -- and so its kind is one of their numbers
+  pub bounds : (assignUuidKind ≤ u .kind) × (u .kind ≤ removePartitionStatisticsKind)
+  bounds = go kinds known refl
+    where
+      go : (l : List ℕ) → any (eqb (u .kind)) l ≡ true → all (λ x. leb assignUuidKind x && leb x removePartitionStatisticsKind) l ≡ true → (assignUuidKind ≤ u .kind) × (u .kind ≤ removePartitionStatisticsKind)
+      go [] e h = absurd (false≢true e)
+      go (x ∷ l) e h =
+          let k = and-left (leb assignUuidKind x && leb x removePartitionStatisticsKind) (all (λ x. leb assignUuidKind x && leb x removePartitionStatisticsKind) l) h in
+          by-either (eqb (u .kind) x) (any (eqb (u .kind)) l)
+          (λ t. rw (eqb-true (u .kind) x t) (leb-true assignUuidKind x (and-left (leb assignUuidKind x) (leb x removePartitionStatisticsKind) k), leb-true x removePartitionStatisticsKind (and-right (leb assignUuidKind x) (leb x removePartitionStatisticsKind) k)))
+          (λ t. go l t (and-right (leb assignUuidKind x && leb x removePartitionStatisticsKind) (all (λ x. leb assignUuidKind x && leb x removePartitionStatisticsKind) l) h))
+          e
 
 -- ---- what it counts
 

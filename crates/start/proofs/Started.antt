@@ -19,12 +19,12 @@ use Rattle.rules.specs.Register.Outcome.{Refused}
 use Rattle.rules.specs.WellFormed.{metadataFormed, fileNameFormed}
 use Rattle.rules.specs.Run.{listSum, runFrom, started, closeRan, startChecks, run}
 use Rattle.rules.specs.Blanks.{isTidyMetadata}
-use Rattle.rules.specs.Layout.{given, counted, readFileName, readMetadata}
+use Rattle.rules.specs.Layout.{given, counted, readText, readMetadata}
 use Rattle.rules.specs.Kinds.{readUpdates}
 use Rattle.rules.specs.Answer.{readTerms, laidOutcome, answer}
 use Rattle.rules.proofs.Checks.{only-then, both, and-left, and-right, passed}
-use Rattle.rules.proofs.AcceptedRun.{run-started}
-use Rattle.rules.proofs.Relaid.{length-counted}
+use Rattle.rules.proofs.Sound.Accepted.{run-started}
+use Rattle.rules.proofs.Slots.Relaid.{length-counted}
 use Rattle.records.specs.Blanks.{noUpdate}
 use Rattle.start.specs.Start.{startNumber}
 use Rattle.start.proofs.Reading.{weighs}
@@ -32,12 +32,12 @@ use Rattle.start.proofs.Reading.{weighs}
 module _ (m : TableMetadata) (us : UpdateList) (terms : RunTerms) where
   -- the name of the current file is not too long
   abbrev fileFits : Bool
-  fileFits = ifSome fileNameFormed (given (terms .«has_file») (readFileName (terms .file)))
+  fileFits = ifSome fileNameFormed (given (terms .«has_file») (readText (terms .file)))
 
   pub record Starts : Type 0 where
     pub tidy : isTidyMetadata m ≡ true
     pub formed : metadataFormed (readMetadata m) ≡ true
-    pub file : ifSome fileNameFormed (given (terms .«has_file») (readFileName (terms .file))) ≡ true
+    pub file : ifSome fileNameFormed (given (terms .«has_file») (readText (terms .file))) ≡ true
     pub sum : listSum (readUpdates us) ≤ 64
     pub tolerated : isOutside (terms .«tolerance_ms» .0) ≡ false
 
@@ -81,15 +81,15 @@ and-false true = refl
 and-false false = refl
 
 module _ (m : TableMetadata) (us : UpdateList) (terms : RunTerms) where
-  pub file-fits : (terms .«has_file» ≡ true → terms .file .len ≤ 96) → ifSome fileNameFormed (given (terms .«has_file») (readFileName (terms .file))) ≡ true
+  pub file-fits : (terms .«has_file» ≡ true → terms .file .len ≤ 96) → ifSome fileNameFormed (given (terms .«has_file») (readText (terms .file))) ≡ true
   file-fits h = go (terms .«has_file») h
     where
-      go : (b : Bool) → (b ≡ true → terms .file .len ≤ 96) → ifSome fileNameFormed (given b (readFileName (terms .file))) ≡ true
-      go true h = le-leb (length (readFileName (terms .file))) 96 (omega (arith, h refl, length-counted 0 (terms .file .bytes) (terms .file .len)))
+      go : (b : Bool) → (b ≡ true → terms .file .len ≤ 96) → ifSome fileNameFormed (given b (readText (terms .file))) ≡ true
+      go true h = le-leb (length (readText (terms .file))) 96 (omega (arith, h refl, length-counted 0 (terms .file .bytes) (terms .file .len)))
       go false h = refl
 
-  pub file-short : ifSome fileNameFormed (given (terms .«has_file») (readFileName (terms .file))) ≡ true → terms .«has_file» ≡ true → terms .file .len ≤ 96
-  file-short e q = omega (arith, leb-true (length (readFileName (terms .file))) 96 (rw q at e), length-counted 0 (terms .file .bytes) (terms .file .len))
+  pub file-short : ifSome fileNameFormed (given (terms .«has_file») (readText (terms .file))) ≡ true → terms .«has_file» ≡ true → terms .file .len ≤ 96
+  file-short e q = omega (arith, leb-true (length (readText (terms .file))) 96 (rw q at e), length-counted 0 (terms .file .bytes) (terms .file .len))
 
   -- 1, where one of the three tests fails
   one : (tidy formed fits : Bool) (k : ℕ) → (tidy && formed && fits) ≡ false → 1 ≡ cond tidy (cond (not (formed && fits)) startNotFormed k) startNotFormed
@@ -103,11 +103,11 @@ module _ (m : TableMetadata) (us : UpdateList) (terms : RunTerms) where
   pub file-long : terms .«has_file» ≡ true → 96 < terms .file .len → 1 ≡ startNumber m us terms
   unfolding startNumber startChecks
   file-long e h =
-      let l : leb (length (readFileName (terms .file))) 96 ≡ false = lt-leb (length (readFileName (terms .file))) 96 (omega (arith, length-counted 0 (terms .file .bytes) (terms .file .len))) in
+      let l : leb (length (readText (terms .file))) 96 ≡ false = lt-leb (length (readText (terms .file))) 96 (omega (arith, length-counted 0 (terms .file .bytes) (terms .file .len))) in
       one (isTidyMetadata m) (metadataFormed (readMetadata m)) _ _ (rw (e, l) (and-false (isTidyMetadata m && metadataFormed (readMetadata m))))
 
   module _ (f : isTidyMetadata m && metadataFormed (readMetadata m) ≡ true) (h : terms .«has_file» ≡ true → terms .file .len ≤ 96) where
-    formed : (metadataFormed (readMetadata m) && ifSome fileNameFormed (given (terms .«has_file») (readFileName (terms .file)))) ≡ true
+    formed : (metadataFormed (readMetadata m) && ifSome fileNameFormed (given (terms .«has_file») (readText (terms .file)))) ≡ true
     formed = both (and-right (isTidyMetadata m) (metadataFormed (readMetadata m)) f) (file-fits h)
 
     tidy : isTidyMetadata m ≡ true

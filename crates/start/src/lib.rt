@@ -2,16 +2,21 @@
 // A refusal gives document 01's number and the place, the metadata that was given, no changes and no expired entries.
 // Document 01 decides, as the crate `rules` writes it in Run and Answer.
 ghost use mathlib.Core.Path.{_≡_};
+ghost use mathlib.Core.Bool.{_&&_};
 ghost use Prim.Native.Nat.{_≤_};
+ghost use Rattle.records.specs.declared.metadata.TableMetadata as tables;
 ghost use Rattle.records.specs.declared.update.UpdateList as lists;
 ghost use Rattle.rules.specs.Capacities.{listRoom};
 ghost use Rattle.rules.specs.Window.{isOutside};
+ghost use Rattle.rules.specs.WellFormed.{metadataFormed};
+ghost use Rattle.rules.specs.Blanks.{isTidyMetadata};
+ghost use Rattle.rules.specs.Layout.{readMetadata};
 ghost use Rattle.rules.specs.Register.Outcome.{Refused};
 ghost use Rattle.rules.specs.Run.{listSum};
 ghost use Rattle.rules.specs.Kinds.{kindWeight, readUpdates};
 ghost use Rattle.rules.specs.Answer.{laidOutcome};
 ghost use Rattle.start.specs.Start.{startNumber};
-use records::capacities::FILE_NAME;
+use records::capacities::TEXT;
 use records::capacities::UPDATES;
 use records::counters::Age;
 use records::metadata::MetadataLog;
@@ -58,18 +63,19 @@ fn is_outside(tolerance: Age) -> bool
     (span < 0) | (span > LONGEST_TOLERANCE_MS)
 }
 
-// 1, then 2, then 26. The sum is that of the list, where its count is at most 64.
-pub fn start_number(m: TableMetadata, terms: RunTerms, count: usize, sum: usize) -> u8
-    ensures { λ r. ⌜ ((us : lists.UpdateList) → us .count ≡ count → (count ≤ listRoom → sum ≡ listSum (readUpdates us)) → r ≡ startNumber m us terms) ⌝ }
+// 1, then 2, then 26. Whether the metadata is well formed is handed over, and not the metadata, which would be copied. The sum is that of
+// the list, where its count is at most 64.
+pub fn start_number(is_formed: bool, terms: RunTerms, count: usize, sum: usize) -> u8
+    ensures { λ r. ⌜ ((m : tables.TableMetadata) (us : lists.UpdateList) → «is_formed» ≡ (isTidyMetadata m && metadataFormed (readMetadata m)) → us .count ≡ count → (count ≤ listRoom → sum ≡ listSum (readUpdates us)) → r ≡ startNumber m us terms) ⌝ }
 {
     let has_file = terms.has_file;
     let file = terms.file;
     let length = file.len;
     let outside = is_outside(terms.tolerance_ms);
-    if !formed::metadata::is_formed(m) {
+    if !is_formed {
         return START_NOT_FORMED;
     }
-    if has_file & (length > FILE_NAME) {
+    if has_file & (length > TEXT) {
         return START_NOT_FORMED;
     }
     if (count > UPDATES) | (sum > UPDATES) {

@@ -1,4 +1,4 @@
--- What the proofs of both updates cite, and the laws that the run cites.
+-- What the proofs of the updates of statistics files cite.
 mod Rules
 mod Reading
-pub mod Tables
+mod Tables

@@ -15,7 +15,7 @@ use Rattle.rules.specs.StatisticsUpdates.{isOf, hasFileOf, removeStatistics}
 use Rattle.rules.specs.Updates.{effect}
 use Rattle.rules.specs.Layout.{readStatisticsFile, readStatistics, laidStatistics}
 use Rattle.rules.proofs.Checks.{neither}
-use Rattle.rules.proofs.Reread.{reread-statistics}
+use Rattle.rules.proofs.Slots.Reread.{reread-statistics}
 use Rattle.builder.specs.declared.decision.Decision.{Decision}
 
 keep-others : {A : Type 0} (p : A → Bool) (l : List A) → any p l ≡ false → keep (λ x. not (p x)) l ≡ l
@@ -31,8 +31,8 @@ module _ (which : StatisticsTable) (st : State) {t : StatisticsFiles} (h : t ≡
   pub read-statistics : readStatistics t ≡ statisticsOf which (st .metadata)
   read-statistics = ap (λ (x : StatisticsFiles). readStatistics x) h ∙ reread-statistics (statisticsOf which (st .metadata))
 
-  pub statistics-grown : (d : Decision) {r : StatisticsFiles} {l : List plain.StatisticsFile} → r ≡ cond (d .grows) (laidStatistics (put statisticsBelow (readStatisticsFile (d .entry .statistics)) (readStatistics t))) t
-      → l ≡ cond (d .grows) (put statisticsBelow (readStatisticsFile (d .entry .statistics)) (statisticsOf which (st .metadata))) (statisticsOf which (st .metadata)) → r ≡ laidStatistics l
+  pub statistics-grown : (d : Decision) {r : StatisticsFiles} {l : List plain.StatisticsFile} → r ≡ cond (d .grows) (laidStatistics (put statisticsBelow (readStatisticsFile (d .entry .statistics .file)) (readStatistics t))) t
+      → l ≡ cond (d .grows) (put statisticsBelow (readStatisticsFile (d .entry .statistics .file)) (statisticsOf which (st .metadata))) (statisticsOf which (st .metadata)) → r ≡ laidStatistics l
   statistics-grown d q e = q ∙ rw e (cases (d .grows) (λ y. rw (y, read-statistics)) (λ n. rw n h))
 
   pub statistics-left : (terms : Terms) (v : Update) (id : ℤ) → v ≡ RemoveStatistics which id → {r : StatisticsFiles} → r ≡ laidStatistics (keep (λ x. not (isOf id x)) (readStatistics t)) → r ≡ laidStatistics (statisticsOf which (effect terms v st .metadata))

@@ -27,5 +27,5 @@ pub record NewFile (t : StatisticsFiles) (f : StatisticsFile) : Type 0 where
 -- a setting, decided: the answer, the table after it, and that a file to put can be put
 pub record FileDecided (b : TableMetadataBuilder) (t : StatisticsFiles) (u : TableUpdate) (d : Decision) : Type 0 where
   pub answers : (which : StatisticsTable) (terms : Terms) (st : State) → u .kind ≡ settingKind which → b ≡ laidBuilder st → t ≡ laidStatistics (statisticsOf which (st .metadata)) → Decides terms u st d
-  pub table : (which : StatisticsTable) (terms : Terms) (st : State) → u .kind ≡ settingKind which → d .number ≡ 0 → statisticsOf which (effect terms (readUpdate u) st .metadata) ≡ cond (d .grows) (put statisticsBelow (readStatisticsFile (d .entry .statistics)) (statisticsOf which (st .metadata))) (statisticsOf which (st .metadata))
-  pub new : d .grows ≡ true → NewFile t (d .entry .statistics)
+  pub table : (which : StatisticsTable) (terms : Terms) (st : State) → u .kind ≡ settingKind which → d .number ≡ 0 → statisticsOf which (effect terms (readUpdate u) st .metadata) ≡ cond (d .grows) (put statisticsBelow (readStatisticsFile (d .entry .statistics .file)) (statisticsOf which (st .metadata))) (statisticsOf which (st .metadata))
+  pub new : d .grows ≡ true → NewFile t (d .entry .statistics .file)

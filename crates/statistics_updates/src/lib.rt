@@ -25,6 +25,8 @@ use records::update::TableUpdate;
 use tables::statistics::has_file_of;
 use tables::statistics::put;
 
+pub mod family;
+
 // A file is set and logged also where the table has an equal one.
 pub fn set_statistics(b: TableMetadataBuilder, t: StatisticsFiles, u: TableUpdate) -> Decision
     requires { ⌜ LaidStatistics t ⌝ }
@@ -34,7 +36,7 @@ pub fn set_statistics(b: TableMetadataBuilder, t: StatisticsFiles, u: TableUpdat
     ensures { λ r. ⌜ FileDecided b t u r ⌝ }
 {
     let n = t.count;
-    let f = u.statistics;
+    let f = u.statistics.file;
     let held = has_file_of(t, f.snapshot_id);
     let full = is_full(!held, n, STATISTICS);
     let number = choose(full, TABLE_FULL, ACCEPTED);
@@ -51,13 +53,11 @@ pub fn set_statistics(b: TableMetadataBuilder, t: StatisticsFiles, u: TableUpdat
 pub fn statistics_after(t: StatisticsFiles, d: Decision) -> StatisticsFiles
     requires { ⌜ LaidStatistics t ⌝ }
     requires { ⌜ ascending statisticsBelow (readStatistics t) ≡ true ⌝ }
-    requires { ⌜ (d .grows ≡ true → NewFile t (d .entry .statistics)) ⌝ }
-    ensures { λ r. ⌜ r ≡ cond (d .grows) (laidStatistics (putBy statisticsBelow (readStatisticsFile (d .entry .statistics)) (readStatistics t))) t ⌝ }
+    requires { ⌜ (d .grows ≡ true → NewFile t (d .entry .statistics .file)) ⌝ }
+    ensures { λ r. ⌜ r ≡ cond (d .grows) (laidStatistics (putBy statisticsBelow (readStatisticsFile (d .entry .statistics .file)) (readStatistics t))) t ⌝ }
 {
-    let e = d.entry;
-    let f = e.statistics;
     if d.grows {
-        return put(t, f);
+        return put(t, d.entry.statistics.file);
     }
     t
 }
@@ -68,6 +68,6 @@ pub fn remove_statistics(b: TableMetadataBuilder, t: StatisticsFiles, u: TableUp
     requires { ⌜ isTidyUpdate u ≡ true ⌝ }
     ensures { λ r. ⌜ ((which : StatisticsTable) (terms : Terms) (st : State) → u .kind ≡ removingKind which → b ≡ laidBuilder st → t ≡ laidStatistics (statisticsOf which (st .metadata)) → Decides terms u st r) ⌝ }
 {
-    let held = has_file_of(t, u.statistics_id);
+    let held = has_file_of(t, u.statistics.removed);
     decided(ACCEPTED, held, b, u)
 }

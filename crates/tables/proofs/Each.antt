@@ -31,7 +31,7 @@ use Rattle.records.specs.declared.metadata.MetadataLog.{MetadataLog}
 use Rattle.rules.specs.Register as plain
 use Rattle.rules.specs.Capacities.{refNameRoom, removalRoom, snapshotRoom, refRoom, schemaRoom, sortOrderRoom, statisticsRoom, snapshotLogRoom, metadataLogRoom, schemaFieldRoom, sortFieldRoom}
 use Rattle.rules.specs.Layout.{readSnapshotIds, laidSnapshotIds, readSchemaIds, laidSchemaIds, readSnapshot, laidSnapshot, laidSnapshots, readRef, laidRef, laidRefs, readSchema, laidSchema, laidSchemas, readSortOrder, laidSortOrder, laidSortOrders, readStatisticsFile, laidStatisticsFile, laidStatistics, readLogEntry, laidLogEntry, laidSnapshotLog, readMetadataLogEntry, laidMetadataLogEntry, laidMetadataLog, readSchemaField, laidSchemaField, readSortField, laidSortField}
-use Rattle.rules.proofs.Reread.{reread-snapshot-ids, reread-schema-ids}
+use Rattle.rules.proofs.Slots.Reread.{reread-snapshot-ids, reread-schema-ids}
 use Rattle.tables.specs.Laid.{LaidName, LaidRef, LaidSnapshotIds, LaidSchemaIds, LaidSnapshots, LaidRefs, LaidSchemas, LaidOrders, LaidStatistics, LaidSnapshotLog, LaidMetadataLog, LaidSchema, LaidOrder}
 use Rattle.tables.proofs.Table.{Kind, Tidy, Made, read-length, each-at, element-back}
 

@@ -22,7 +22,7 @@ module _ {A : Type 0} (p : A → Bool) where
   keep-front i l = omega (arith, ap length (sym (keep-append (take i l) (drop i l)) ∙ ap (keep p) (take-append-drop i l)), length-append (keep p (take i l)) (keep p (drop i l)))
 
 -- r has what passes of the first i
-pub record Kept (K : Kind) (laid : List (K .Plain) → K .Whole) (p : K .Plain → Bool) (t r : K .Whole) (i : ℕ) : Type 0 where
+pub record Filtered (K : Kind) (laid : List (K .Plain) → K .Whole) (p : K .Plain → Bool) (t r : K .Whole) (i : ℕ) : Type 0 where
   pub fits : K .count t ≤ K .room
   pub sofar : i ≤ K .count t
   pub short : K .count r ≤ i
@@ -46,15 +46,15 @@ module _ {K : Kind} {t : K .Whole} (h : Tidy K t) (p : K .Plain → Bool) where
   keep-all {i} b = ap (keep p) (take-all i (listed K t) (omega (arith, read-length h)))
 
 module _ {K : Kind} {laid : List (K .Plain) → K .Whole} (m : Made K laid) {t : K .Whole} (h : Tidy K t) {p : K .Plain → Bool} where
-  pub kept-start : {r : K .Whole} → r ≡ laid [] → Kept K laid p t r 0
-  kept-start e = record { fits = within h; sofar = omega arith; short = omega (arith, ap (K .count) e, m .laid-count []); kept = e }
+  pub filtered-start : {r : K .Whole} → r ≡ laid [] → Filtered K laid p t r 0
+  filtered-start e = record { fits = within h; sofar = omega arith; short = omega (arith, ap (K .count) e, m .laid-count []); kept = e }
 
-  module _ {r : K .Whole} {i : ℕ} (d : K .Slot) (b : i < K .count t) (s : Kept K laid p t r i) where
-    pub kept-less : p (K .read (getD (K .items t) i d)) ≡ false → Kept K laid p t r (i + 1)
-    kept-less e = record { fits = s .fits; sofar = omega arith; short = omega (arith, s .short); kept = s .kept ∙ ap laid (sym (keep-none h p i d b e)) }
+  module _ {r : K .Whole} {i : ℕ} (d : K .Slot) (b : i < K .count t) (s : Filtered K laid p t r i) where
+    pub filtered-less : p (K .read (getD (K .items t) i d)) ≡ false → Filtered K laid p t r (i + 1)
+    filtered-less e = record { fits = s .fits; sofar = omega arith; short = omega (arith, s .short); kept = s .kept ∙ ap laid (sym (keep-none h p i d b e)) }
 
-    pub kept-more : {u : K .Whole} → p (K .read (getD (K .items t) i d)) ≡ true → K .items u ≡ set (K .items r) (K .count r) (getD (K .items t) i d) → K .count u ≡ K .count r + 1 → Kept K laid p t u (i + 1)
-    kept-more e x n =
+    pub filtered-more : {u : K .Whole} → p (K .read (getD (K .items t) i d)) ≡ true → K .items u ≡ set (K .items r) (K .count r) (getD (K .items t) i d) → K .count u ≡ K .count r + 1 → Filtered K laid p t u (i + 1)
+    filtered-more e x n =
         record {
           fits = s .fits;
           sofar = omega arith;
@@ -62,5 +62,5 @@ module _ {K : Kind} {laid : List (K .Plain) → K .Whole} (m : Made K laid) {t :
           kept = pushed m (getD (K .items t) i d) (s .kept) (keep-room h p i d b) (element-back h i d b) x n ∙ ap laid (sym (keep-one h p i d b e));
         }
 
-  pub kept-end : {r : K .Whole} {i : ℕ} → K .count t ≤ i → Kept K laid p t r i → r ≡ laid (keep p (listed K t))
-  kept-end b s = s .kept ∙ ap laid (keep-all h p b)
+  pub filtered-end : {r : K .Whole} {i : ℕ} → K .count t ≤ i → Filtered K laid p t r i → r ≡ laid (keep p (listed K t))
+  filtered-end b s = s .kept ∙ ap laid (keep-all h p b)

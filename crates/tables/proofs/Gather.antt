@@ -8,11 +8,11 @@ use lib.IntN.{ℤ}
 use lib.ListN.{length, getD, take, length-append, length-map}
 use lib.Signed.{ltZ}
 use Rattle.rules.specs.Words.{keep, isIn, ascending}
-use Rattle.rules.proofs.ReplayKeys.{heldIds}
+use Rattle.rules.proofs.Replay.Keys.{heldIds}
 use Rattle.rules.proofs.Tables.{byKey}
 use Rattle.tables.proofs.Table.{Kind, Tidy, listed, within}
 use Rattle.tables.proofs.Filter.{keep-one, keep-none, keep-front, keep-all}
-use Rattle.rules.proofs.ReplayKeys.{kept-count}
+use Rattle.rules.proofs.Replay.Keys.{kept-count}
 
 -- r has the ids among the first i that stand in the list
 pub record Gathered {R : Type 0} (K : Kind) (laid : List ℤ → R) (key : K .Plain → ℤ) (ids : List ℤ) (t : K .Whole) (r : R) (i : ℕ) : Type 0 where

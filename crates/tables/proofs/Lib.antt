@@ -6,7 +6,6 @@ mod Filter
 mod Gather
 mod Shift
 pub mod Put
-mod Alike
-pub mod Highest
+pub mod Keyed
 pub mod Each
 mod Name

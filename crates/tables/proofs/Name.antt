@@ -7,7 +7,7 @@ use lib.Seq.{length-take-le}
 use Rattle.records.specs.declared.text.RefName.{RefName}
 use Rattle.rules.specs.Capacities.{refNameRoom}
 use Rattle.rules.specs.Layout.{pad, readRefName, laidRefName}
-use Rattle.rules.proofs.Relaid.{counted-take, length-counted}
+use Rattle.rules.proofs.Slots.Relaid.{counted-take, length-counted}
 use Rattle.tables.specs.Laid.{LaidName}
 
 module _ {a : RefName} (h : LaidName a) where

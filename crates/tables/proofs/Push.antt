@@ -6,7 +6,7 @@ use mathlib.Core.List.{List, [], _∷_, _++_, map, map-append}
 use lib.ListN.{length, set, replicate, length-append, length-map, length-set}
 use lib.Seq.{set-append-left}
 use Rattle.rules.specs.Layout.{pad}
-use Rattle.rules.proofs.Relaid.{set-pad}
+use Rattle.rules.proofs.Slots.Relaid.{set-pad}
 use Rattle.tables.proofs.Table.{Kind, Tidy, Made, listed, slotted, read-length, laid-back}
 
 map-set : {A B : Type 0} (f : A → B) (l : List A) (i : ℕ) (y : A) → map f (set l i y) ≡ set (map f l) i (f y)

@@ -1,15 +1,18 @@
--- Searches through a table from the front, for any test: where the first stands that passes, and whether one passes.
+-- Searches through a table from the front, for any test: where the first stands that passes, which it is, and whether one passes.
 use Prim.Native.Nat.{ℕ, suc, _+_, _≤_, _<_}
 use native.Mathlib.Omega.{arith}
-use mathlib.Core.Path.{_≡_, refl, sym, ap₂, _∙_}
-use mathlib.Core.Bool.{Bool, true, false}
+use mathlib.Core.Path.{_≡_, refl, sym, ap, ap₂, _∙_}
+use mathlib.Core.Bool.{Bool, true, false, false≢true}
 use mathlib.Core.List.{List, [], _∷_, map}
+use mathlib.Core.Option.{some}
+use borrow.Author.Tests.{ltb-true}
+use borrow.Table.Steps.{cases}
 use lib.Dec.{ltb}
 use lib.ListN.{getD, drop, drop-of-length-le}
-use Rattle.rules.specs.Words.{any}
+use Rattle.rules.specs.Words.{any, first}
 use Rattle.search.specs.Places.{indexOf}
 use Rattle.search.proofs.Places.{index-le, index-below}
-use Rattle.tables.proofs.Table.{Kind, Tidy, listed, read-length, within, rest}
+use Rattle.tables.proofs.Table.{Kind, Tidy, listed, read-length, at, within, rest}
 
 -- none of the first i passes
 pub record Sought (K : Kind) (p : K .Plain → Bool) (t : K .Whole) (i : ℕ) : Type 0 where
@@ -55,3 +58,15 @@ module _ {K : Kind} {t : K .Whole} (h : Tidy K t) (p : K .Plain → Bool) {i : �
 pub any-map : {A B : Type 0} (p : B → Bool) (f : A → B) (l : List A) → any p (map f l) ≡ any (λ x. p (f x)) l
 any-map p f [] = refl
 any-map p f (x ∷ l) = rw (any-map p f l)
+
+first-at : {A : Type 0} (p : A → Bool) (l : List A) (d : A) → any p l ≡ true → first p l ≡ some (getD l (indexOf p l) d)
+first-at p [] d e = absurd (false≢true e)
+first-at p (x ∷ l) d e = cases (p x) (λ t. rw t) (λ f. rw f (first-at p l d (rw f at e)))
+
+-- one that passes stands where it is found
+module _ {K : Kind} {t : K .Whole} (h : Tidy K t) (p : K .Plain → Bool) (a : any p (listed K t) ≡ true) {i : ℕ} (e : i ≡ indexOf p (listed K t)) where
+  pub found-within : i < K .count t
+  found-within = ltb-true i (K .count t) (place-held h p e ∙ a)
+
+  pub found-first : (d : K .Slot) → first p (listed K t) ≡ some (K .read (getD (K .items t) i d))
+  found-first d = first-at p (listed K t) (K .read d) a ∙ ap some (ap (λ (k : ℕ). getD (listed K t) k (K .read d)) (sym e) ∙ at h i d found-within)

@@ -11,7 +11,7 @@ use lib.Seq.{take-suc, drop-cons, getD-take}
 use Rattle.rules.specs.Layout.{counted, pad}
 use Rattle.rules.specs.Words.{all}
 use Rattle.rules.proofs.Tables.{all-head, all-drop}
-use Rattle.rules.proofs.Relaid.{length-counted, counted-take}
+use Rattle.rules.proofs.Slots.Relaid.{length-counted, counted-take}
 
 -- a kind of table: its slots, and what is read of one
 pub record Kind : Type 1 where

@@ -1,27 +1,20 @@
-// Ids compared, and looked for among the ids of the table or in a removal's list.
+// Ids in their order, and looked for among the ids of the table or in a removal's list.
 ghost use mathlib.Core.Path.{_≡_};
 ghost use Prim.Native.Nat.{_<_};
 ghost use mathlib.Core.Bool.{true};
 ghost use mathlib.Core.List.{[], _∷_, _++_};
 ghost use lib.Signed.{ltZ};
-ghost use Rattle.rules.specs.Words.{ascending, eqZ, isIn};
+ghost use Rattle.rules.specs.Words.{ascending, isIn};
 ghost use Rattle.rules.specs.Layout.{readSnapshotIds, laidSnapshotIds, readSchemaIds, laidSchemaIds};
 ghost use Rattle.tables.specs.Laid.{LaidSnapshotIds, LaidSchemaIds};
-use records::counters::FieldId;
+use equality::ids::same_schema;
+use equality::ids::same_snapshot;
 use records::counters::SchemaId;
 use records::counters::SnapshotId;
 use records::counters::SortOrderId;
 use records::schema::SchemaIds;
 use records::snapshot::SnapshotIds;
 use search::position_ascending;
-
-pub fn same_snapshot(a: SnapshotId, b: SnapshotId) -> bool
-    ensures { λ r. ⌜ r ≡ eqZ (a .0) (b .0) ⌝ }
-{
-    let x = a.0;
-    let y = b.0;
-    x == y
-}
 
 pub fn snapshot_below(a: SnapshotId, b: SnapshotId) -> bool
     ensures { λ r. ⌜ r ≡ ltZ (a .0) (b .0) ⌝ }
@@ -40,14 +33,6 @@ pub fn is_held(ids: &[i64], id: SnapshotId) -> bool
     position_ascending(ids, x) < ids.len()
 }
 
-pub fn same_schema(a: SchemaId, b: SchemaId) -> bool
-    ensures { λ r. ⌜ r ≡ eqZ (a .0) (b .0) ⌝ }
-{
-    let x = a.0;
-    let y = b.0;
-    x == y
-}
-
 pub fn schema_below(a: SchemaId, b: SchemaId) -> bool
     ensures { λ r. ⌜ r ≡ ltZ (a .0) (b .0) ⌝ }
 {
@@ -56,28 +41,12 @@ pub fn schema_below(a: SchemaId, b: SchemaId) -> bool
     x < y
 }
 
-pub fn same_order(a: SortOrderId, b: SortOrderId) -> bool
-    ensures { λ r. ⌜ r ≡ eqZ (a .0) (b .0) ⌝ }
-{
-    let x = a.0;
-    let y = b.0;
-    x == y
-}
-
 pub fn order_below(a: SortOrderId, b: SortOrderId) -> bool
     ensures { λ r. ⌜ r ≡ ltZ (a .0) (b .0) ⌝ }
 {
     let x = a.0;
     let y = b.0;
     x < y
-}
-
-pub fn same_field(a: FieldId, b: FieldId) -> bool
-    ensures { λ r. ⌜ r ≡ eqZ (a .0) (b .0) ⌝ }
-{
-    let x = a.0;
-    let y = b.0;
-    x == y
 }
 
 pub fn has_snapshot(ids: SnapshotIds, id: SnapshotId) -> bool

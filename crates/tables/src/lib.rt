@@ -1,7 +1,8 @@
-// The keyed tables: find, put, remove by key, each on a table by value.
+// The keyed tables, each by value: its keys, which the crate `search` looks through; put, remove by key.
 // Nothing is refused here; the callers check that there is room.
 // Document 01, "Tables are ascending by key", as the crate `rules` writes it in Words (`put`, `keep`, `first`).
 pub mod ids;
+pub mod keys;
 pub mod names;
 pub mod refs;
 pub mod schemas;

@@ -4,9 +4,9 @@ ghost use Rattle.rules.specs.Words.{sameBytes};
 ghost use Rattle.rules.specs.Names.{isMain, nameBelow};
 ghost use Rattle.rules.specs.Layout.{readRefName};
 ghost use Rattle.tables.specs.Laid.{LaidName};
-use leaves::names::is_main;
-use leaves::names::name_below;
-use leaves::names::same_bytes;
+use primitives::names::is_main;
+use primitives::names::name_below;
+use primitives::names::same_bytes;
 use records::text::RefName;
 
 pub fn same_name(a: RefName, b: RefName) -> bool

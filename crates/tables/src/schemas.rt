@@ -1,42 +1,53 @@
 // The table of schemas.
 ghost use mathlib.Core.Path.{_≡_};
-ghost use Prim.Native.Nat.{_≤_, _<_};
+ghost use Prim.Native.Nat.{ℕ, _≤_, _<_};
 ghost use mathlib.Core.Bool.{true, false, not};
 ghost use mathlib.Core.List.{_∷_, _++_};
-ghost use lib.Signed.{ltZ};
-ghost use lib.ListN.{take, drop};
-ghost use Rattle.rules.specs.Words.{put as putBy, ascending, keep, isIn, sameList, larger, highest as highestOf};
+ghost use mathlib.Core.Option.{some};
+ghost use lib.IntN.{pos};
+ghost use lib.ListN.{getD, take, drop};
+ghost use mir.Syntax.{w32};
+ghost use mir.Val.{SFits};
+ghost use Rattle.rules.specs.Words.{put as putBy, ascending, first, keep, isIn, sameList};
+ghost use Rattle.rules.specs.Capacities.{schemaRoom, schemaFieldRoom};
 ghost use Rattle.rules.specs.WellFormed.{schemaBelow, hasSchema, fieldIds};
 ghost use Rattle.rules.specs.SchemaUpdates.{holdsSchema, heldSchemas, sameSchemaField, schemaIds};
-ghost use Rattle.rules.specs.Layout.{readSchema, readSchemas, laidSchemas, readSchemaIds, laidSchemaIds};
+ghost use Rattle.rules.specs.Layout.{pad, readSchema, readSchemas, laidSchemas, readSchemaIds, laidSchemaIds};
 ghost use Rattle.search.specs.Places.{indexOf};
 ghost use Rattle.tables.specs.Laid.{LaidSchema, LaidSchemas, LaidSchemaIds};
 use crate::ids::has_schema;
 use crate::ids::push_schema;
-use crate::ids::same_field;
-use crate::ids::same_schema;
-use crate::ids::schema_below;
-use records::counters::FieldId;
+use crate::keys::field_key;
+use crate::keys::schema_key;
+use equality::read::same_fields;
+use records::capacities::SCHEMA_FIELDS;
+use records::capacities::SCHEMAS;
 use records::counters::SchemaId;
 use records::schema::Schema;
 use records::schema::SchemaIds;
 use records::schema::Schemas;
+use search::is_in;
+use search::place;
+use search::position;
 
-pub fn find(t: Schemas, id: SchemaId) -> usize
+// The ids, in table order, and zeros after them.
+pub fn ids_of(t: Schemas) -> [i64; SCHEMAS]
     requires { ⌜ LaidSchemas t ⌝ }
-    ensures { λ r. ⌜ r ≡ indexOf (hasSchema (id .0)) (readSchemas t) ⌝ }
+    ensures { λ r. ⌜ r ≡ pad schemaRoom (pos 0) (schemaIds (readSchemas t)) ⌝ }
+    ensures { λ r. ⌜ ((k : ℕ) → SFits w32 (getD r k (pos 0))) ⌝ }
 {
     let n = t.count;
+    let mut r = [0i64; SCHEMAS];
     let mut i = 0;
     while i < n {
         let s = t.items[i];
         let x = s.schema_id;
-        if same_schema(x, id) {
-            return i;
-        }
+        let k = schema_key(x);
+        let z = k.0;
+        r[i] = z;
         i += 1;
     }
-    n
+    r
 }
 
 pub fn holds(t: Schemas, id: SchemaId) -> bool
@@ -44,33 +55,43 @@ pub fn holds(t: Schemas, id: SchemaId) -> bool
     ensures { λ r. ⌜ r ≡ holdsSchema (readSchemas t) (id .0) ⌝ }
 {
     let n = t.count;
-    let i = find(t, id);
-    i < n
+    let ids = ids_of(t);
+    let k = schema_key(id);
+    is_in(&ids[..n], k)
 }
 
-// The same fields one by one.
-pub fn same_fields(a: Schema, b: Schema) -> bool
-    requires { ⌜ LaidSchema a ⌝ }
-    requires { ⌜ LaidSchema b ⌝ }
-    ensures { λ r. ⌜ r ≡ sameList sameSchemaField (readSchema a .fields) (readSchema b .fields) ⌝ }
+// The schema of an id that is held.
+pub fn get(t: Schemas, id: SchemaId) -> Schema
+    requires { ⌜ LaidSchemas t ⌝ }
+    requires { ⌜ holdsSchema (readSchemas t) (id .0) ≡ true ⌝ }
+    ensures { λ r. ⌜ first (hasSchema (id .0)) (readSchemas t) ≡ some (readSchema r) ⌝ }
+    ensures { λ r. ⌜ LaidSchema r ⌝ }
 {
-    let n = a.count;
-    let m = b.count;
-    if n != m {
-        return false;
-    }
+    let n = t.count;
+    let ids = ids_of(t);
+    let k = schema_key(id);
+    let i = position(&ids[..n], k.0);
+    t.items[i]
+}
+
+// The ids of the fields, in order, and zeros after them.
+pub fn field_ids_of(s: Schema) -> [i64; SCHEMA_FIELDS]
+    requires { ⌜ LaidSchema s ⌝ }
+    ensures { λ r. ⌜ r ≡ pad schemaFieldRoom (pos 0) (fieldIds (readSchema s)) ⌝ }
+    ensures { λ r. ⌜ ((k : ℕ) → SFits w32 (getD r k (pos 0))) ⌝ }
+{
+    let n = s.count;
+    let mut r = [0i64; SCHEMA_FIELDS];
     let mut i = 0;
     while i < n {
-        let x = a.items[i];
-        let y = b.items[i];
-        let p = x.id;
-        let q = y.id;
-        if !same_field(p, q) {
-            return false;
-        }
+        let f = s.items[i];
+        let x = f.id;
+        let k = field_key(x);
+        let z = k.0;
+        r[i] = z;
         i += 1;
     }
-    true
+    r
 }
 
 // Where the first with equal fields stands; the count where there is none.
@@ -84,66 +105,6 @@ pub fn find_equal(t: Schemas, s: Schema) -> usize
     while i < n {
         let x = t.items[i];
         if same_fields(x, s) {
-            return i;
-        }
-        i += 1;
-    }
-    n
-}
-
-// The field is one of the schema's.
-pub fn has_field(s: Schema, id: FieldId) -> bool
-    requires { ⌜ LaidSchema s ⌝ }
-    ensures { λ r. ⌜ r ≡ isIn (fieldIds (readSchema s)) (id .0) ⌝ }
-{
-    let n = s.count;
-    let mut i = 0;
-    while i < n {
-        let f = s.items[i];
-        let x = f.id;
-        if same_field(id, x) {
-            return true;
-        }
-        i += 1;
-    }
-    false
-}
-
-pub fn larger_id(a: SchemaId, b: SchemaId) -> SchemaId
-    ensures { λ r. ⌜ r .0 ≡ larger (a .0) (b .0) ⌝ }
-{
-    if schema_below(a, b) {
-        return b;
-    }
-    a
-}
-
-// The highest id; 0 where there is none.
-pub fn highest(t: Schemas) -> SchemaId
-    requires { ⌜ LaidSchemas t ⌝ }
-    ensures { λ r. ⌜ r .0 ≡ highestOf (schemaIds (readSchemas t)) ⌝ }
-{
-    let mut i = t.count;
-    let mut h = SchemaId(0);
-    while i > 0 {
-        i -= 1;
-        let s = t.items[i];
-        let x = s.schema_id;
-        h = larger_id(x, h);
-    }
-    h
-}
-
-fn place(t: Schemas, id: SchemaId) -> usize
-    requires { ⌜ LaidSchemas t ⌝ }
-    ensures { λ r. ⌜ r ≡ indexOf (λ s. not (ltZ (s .id) (id .0))) (readSchemas t) ⌝ }
-{
-    let n = t.count;
-    let mut i = 0;
-    while i < n {
-        let s = t.items[i];
-        let x = s.schema_id;
-        if !schema_below(x, id) {
             return i;
         }
         i += 1;
@@ -179,8 +140,11 @@ pub fn put(t: Schemas, s: Schema) -> Schemas
     requires { ⌜ holdsSchema (readSchemas t) (s .«schema_id» .0) ≡ false ⌝ }
     ensures { λ r. ⌜ r ≡ laidSchemas (putBy schemaBelow (readSchema s) (readSchemas t)) ⌝ }
 {
+    let n = t.count;
     let id = s.schema_id;
-    let at = place(t, id);
+    let ids = ids_of(t);
+    let k = schema_key(id);
+    let at = place(&ids[..n], k);
     insert_at(t, at, s)
 }
 

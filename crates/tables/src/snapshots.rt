@@ -1,68 +1,41 @@
 // The table of snapshots.
 ghost use mathlib.Core.Path.{_≡_};
 ghost use Prim.Native.Nat.{_≤_, _<_};
-ghost use mathlib.Core.Bool.{true, false, not};
-ghost use mathlib.Core.List.{_∷_, _++_};
-ghost use lib.Signed.{ltZ};
+ghost use mathlib.Core.Bool.{true, false};
+ghost use mathlib.Core.List.{_∷_, _++_, map};
+ghost use lib.IntN.{pos};
 ghost use lib.ListN.{take, drop};
 ghost use Rattle.rules.specs.Words.{put as putBy, ascending};
-ghost use Rattle.rules.specs.WellFormed.{snapshotBelow, hasSnapshot, holdsSnapshot};
+ghost use Rattle.rules.specs.Capacities.{snapshotRoom};
+ghost use Rattle.rules.specs.Register as plain;
+ghost use Rattle.rules.specs.WellFormed.{snapshotBelow, holdsSnapshot};
 ghost use Rattle.rules.specs.SnapshotUpdates.{heldSnapshots, otherSnapshots};
-ghost use Rattle.rules.specs.Layout.{readSnapshot, laidSnapshot, readSnapshots, laidSnapshots, readSnapshotIds, laidSnapshotIds};
-ghost use Rattle.search.specs.Places.{indexOf};
+ghost use Rattle.rules.specs.Layout.{pad, readSnapshot, laidSnapshot, readSnapshots, laidSnapshots, readSnapshotIds, laidSnapshotIds};
 ghost use Rattle.tables.specs.Laid.{LaidSnapshots, LaidSnapshotIds};
 use crate::ids::has_snapshot;
 use crate::ids::push_snapshot;
-use crate::ids::same_snapshot;
-use crate::ids::snapshot_below;
-use records::counters::SnapshotId;
+use crate::keys::snapshot_key;
+use records::capacities::SNAPSHOTS;
 use records::snapshot::Snapshot;
 use records::snapshot::SnapshotIds;
 use records::snapshot::Snapshots;
+use search::place;
 
-// Where the id stands; the count where it is not held.
-pub fn find(t: Snapshots, id: SnapshotId) -> usize
-    requires { ⌜ LaidSnapshots t ⌝ }
-    ensures { λ r. ⌜ r ≡ indexOf (hasSnapshot (id .0)) (readSnapshots t) ⌝ }
+// The ids, in table order, and zeros after them. Of a table that is not laid out it gives some numbers or other.
+pub fn ids_of(t: Snapshots) -> [i64; SNAPSHOTS]
+    ensures { λ r. ⌜ (LaidSnapshots t → r ≡ pad snapshotRoom (pos 0) (map (λ (s : plain.Snapshot). s .id) (readSnapshots t))) ⌝ }
 {
     let n = t.count;
+    let mut r = [0i64; SNAPSHOTS];
     let mut i = 0;
-    while i < n {
+    while (i < n) & (i < SNAPSHOTS) {
         let s = t.items[i];
         let x = s.snapshot_id;
-        if same_snapshot(x, id) {
-            return i;
-        }
+        let z = x.0;
+        r[i] = z;
         i += 1;
     }
-    n
-}
-
-pub fn holds(t: Snapshots, id: SnapshotId) -> bool
-    requires { ⌜ LaidSnapshots t ⌝ }
-    ensures { λ r. ⌜ r ≡ holdsSnapshot (readSnapshots t) (id .0) ⌝ }
-{
-    let n = t.count;
-    let i = find(t, id);
-    i < n
-}
-
-// Where the first stands that is not below the id.
-fn place(t: Snapshots, id: SnapshotId) -> usize
-    requires { ⌜ LaidSnapshots t ⌝ }
-    ensures { λ r. ⌜ r ≡ indexOf (λ s. not (ltZ (s .id) (id .0))) (readSnapshots t) ⌝ }
-{
-    let n = t.count;
-    let mut i = 0;
-    while i < n {
-        let s = t.items[i];
-        let x = s.snapshot_id;
-        if !snapshot_below(x, id) {
-            return i;
-        }
-        i += 1;
-    }
-    n
+    r
 }
 
 // The snapshot at a place, those from there on one further.
@@ -94,8 +67,11 @@ pub fn put(t: Snapshots, s: Snapshot) -> Snapshots
     requires { ⌜ holdsSnapshot (readSnapshots t) (s .«snapshot_id» .0) ≡ false ⌝ }
     ensures { λ r. ⌜ r ≡ laidSnapshots (putBy snapshotBelow (readSnapshot s) (readSnapshots t)) ⌝ }
 {
+    let n = t.count;
     let id = s.snapshot_id;
-    let at = place(t, id);
+    let ids = ids_of(t);
+    let k = snapshot_key(id);
+    let at = place(&ids[..n], k);
     insert_at(t, at, s)
 }
 

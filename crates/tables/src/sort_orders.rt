@@ -1,41 +1,49 @@
 // The table of sort orders.
 ghost use mathlib.Core.Path.{_≡_};
-ghost use Prim.Native.Nat.{_≤_, _<_};
+ghost use Prim.Native.Nat.{ℕ, _≤_, _<_};
 ghost use mathlib.Core.Bool.{true, false, not};
 ghost use mathlib.Core.List.{_∷_, _++_};
-ghost use lib.Signed.{ltZ};
-ghost use lib.ListN.{take, drop};
-ghost use Rattle.rules.specs.Words.{put as putBy, any, isIn, sameList, larger, highest as highestOf};
+ghost use mathlib.Core.Option.{some};
+ghost use lib.IntN.{pos};
+ghost use lib.ListN.{getD, take, drop};
+ghost use mir.Syntax.{w64};
+ghost use mir.Val.{SFits};
+ghost use Rattle.rules.specs.Words.{put as putBy, any, first, isIn, sameList};
+ghost use Rattle.rules.specs.Capacities.{sortOrderRoom};
 ghost use Rattle.rules.specs.WellFormed.{orderBelow, hasOrder, fieldIds};
 ghost use Rattle.rules.specs.OrderUpdates.{holdsOrder, sameSortField, orderIds};
-ghost use Rattle.rules.specs.Layout.{readSchema, readSortField, readSortOrder, readSortOrders, laidSortOrders};
+ghost use Rattle.rules.specs.Layout.{pad, readSchema, readSortOrder, readSortOrders, laidSortOrders};
 ghost use Rattle.search.specs.Places.{indexOf};
 ghost use Rattle.tables.specs.Laid.{LaidSchema, LaidOrder, LaidOrders};
-use crate::ids::order_below;
-use crate::ids::same_field;
-use crate::ids::same_order;
-use crate::schemas::has_field;
+use crate::keys::field_key;
+use crate::keys::order_key;
+use crate::schemas::field_ids_of;
+use equality::read::same_sort_fields;
+use records::capacities::SORT_ORDERS;
 use records::counters::SortOrderId;
 use records::schema::Schema;
-use records::sort_order::SortField;
 use records::sort_order::SortOrder;
 use records::sort_order::SortOrders;
+use search::is_in;
+use search::place;
+use search::position;
 
-pub fn find(t: SortOrders, id: SortOrderId) -> usize
+pub fn ids_of(t: SortOrders) -> [i64; SORT_ORDERS]
     requires { ⌜ LaidOrders t ⌝ }
-    ensures { λ r. ⌜ r ≡ indexOf (hasOrder (id .0)) (readSortOrders t) ⌝ }
+    ensures { λ r. ⌜ r ≡ pad sortOrderRoom (pos 0) (orderIds (readSortOrders t)) ⌝ }
+    ensures { λ r. ⌜ ((k : ℕ) → SFits w64 (getD r k (pos 0))) ⌝ }
 {
     let n = t.count;
+    let mut r = [0i64; SORT_ORDERS];
     let mut i = 0;
     while i < n {
         let o = t.items[i];
         let x = o.order_id;
-        if same_order(x, id) {
-            return i;
-        }
+        let z = x.0;
+        r[i] = z;
         i += 1;
     }
-    n
+    r
 }
 
 pub fn holds(t: SortOrders, id: SortOrderId) -> bool
@@ -43,48 +51,21 @@ pub fn holds(t: SortOrders, id: SortOrderId) -> bool
     ensures { λ r. ⌜ r ≡ holdsOrder (readSortOrders t) (id .0) ⌝ }
 {
     let n = t.count;
-    let i = find(t, id);
-    i < n
+    let ids = ids_of(t);
+    let k = order_key(id);
+    is_in(&ids[..n], k)
 }
 
-fn same_sort_field(a: SortField, b: SortField) -> bool
-    ensures { λ r. ⌜ r ≡ sameSortField (readSortField a) (readSortField b) ⌝ }
+pub fn get(t: SortOrders, id: SortOrderId) -> SortOrder
+    requires { ⌜ LaidOrders t ⌝ }
+    requires { ⌜ holdsOrder (readSortOrders t) (id .0) ≡ true ⌝ }
+    ensures { λ r. ⌜ first (hasOrder (id .0)) (readSortOrders t) ≡ some (readSortOrder r) ⌝ }
+    ensures { λ r. ⌜ LaidOrder r ⌝ }
 {
-    let x = a.source_id;
-    let y = b.source_id;
-    let p = a.direction;
-    let q = b.direction;
-    let u = a.null_order;
-    let v = b.null_order;
-    if !same_field(x, y) {
-        return false;
-    }
-    if p != q {
-        return false;
-    }
-    u == v
-}
-
-pub fn same_fields(a: SortOrder, b: SortOrder) -> bool
-    requires { ⌜ LaidOrder a ⌝ }
-    requires { ⌜ LaidOrder b ⌝ }
-    ensures { λ r. ⌜ r ≡ sameList sameSortField (readSortOrder a .fields) (readSortOrder b .fields) ⌝ }
-{
-    let n = a.count;
-    let m = b.count;
-    if n != m {
-        return false;
-    }
-    let mut i = 0;
-    while i < n {
-        let x = a.items[i];
-        let y = b.items[i];
-        if !same_sort_field(x, y) {
-            return false;
-        }
-        i += 1;
-    }
-    true
+    let n = t.count;
+    let ids = ids_of(t);
+    let i = position(&ids[..n], id.0);
+    t.items[i]
 }
 
 pub fn find_equal(t: SortOrders, o: SortOrder) -> usize
@@ -96,7 +77,7 @@ pub fn find_equal(t: SortOrders, o: SortOrder) -> usize
     let mut i = 0;
     while i < n {
         let x = t.items[i];
-        if same_fields(x, o) {
+        if same_sort_fields(x, o) {
             return i;
         }
         i += 1;
@@ -111,57 +92,19 @@ pub fn is_unfit(o: SortOrder, s: Schema) -> bool
     ensures { λ r. ⌜ r ≡ any (λ f. not (isIn (fieldIds (readSchema s)) (f .source))) (readSortOrder o .fields) ⌝ }
 {
     let n = o.count;
+    let m = s.count;
+    let ids = field_ids_of(s);
     let mut i = 0;
     while i < n {
         let f = o.items[i];
         let x = f.source_id;
-        if !has_field(s, x) {
+        let k = field_key(x);
+        if !is_in(&ids[..m], k) {
             return true;
         }
         i += 1;
     }
     false
-}
-
-fn larger_id(a: SortOrderId, b: SortOrderId) -> SortOrderId
-    ensures { λ r. ⌜ r .0 ≡ larger (a .0) (b .0) ⌝ }
-{
-    if order_below(a, b) {
-        return b;
-    }
-    a
-}
-
-pub fn highest(t: SortOrders) -> SortOrderId
-    requires { ⌜ LaidOrders t ⌝ }
-    ensures { λ r. ⌜ r .0 ≡ highestOf (orderIds (readSortOrders t)) ⌝ }
-{
-    let mut i = t.count;
-    let mut h = SortOrderId(0);
-    while i > 0 {
-        i -= 1;
-        let o = t.items[i];
-        let x = o.order_id;
-        h = larger_id(x, h);
-    }
-    h
-}
-
-fn place(t: SortOrders, id: SortOrderId) -> usize
-    requires { ⌜ LaidOrders t ⌝ }
-    ensures { λ r. ⌜ r ≡ indexOf (λ o. not (ltZ (o .id) (id .0))) (readSortOrders t) ⌝ }
-{
-    let n = t.count;
-    let mut i = 0;
-    while i < n {
-        let o = t.items[i];
-        let x = o.order_id;
-        if !order_below(x, id) {
-            return i;
-        }
-        i += 1;
-    }
-    n
 }
 
 fn insert_at(t: SortOrders, at: usize, x: SortOrder) -> SortOrders
@@ -192,7 +135,10 @@ pub fn put(t: SortOrders, o: SortOrder) -> SortOrders
     requires { ⌜ holdsOrder (readSortOrders t) (o .«order_id» .0) ≡ false ⌝ }
     ensures { λ r. ⌜ r ≡ laidSortOrders (putBy orderBelow (readSortOrder o) (readSortOrders t)) ⌝ }
 {
+    let n = t.count;
     let id = o.order_id;
-    let at = place(t, id);
+    let ids = ids_of(t);
+    let k = order_key(id);
+    let at = place(&ids[..n], k);
     insert_at(t, at, o)
 }

@@ -1,4 +1,5 @@
-// A table of statistics files.
+// A table of statistics files. Its records are searched slot by slot and not by their keys, since gathering the keys first made a run with
+// statistics files slower (docs/DECISIONS.md).
 ghost use mathlib.Core.Path.{_≡_};
 ghost use Prim.Native.Nat.{_≤_, _<_};
 ghost use mathlib.Core.Bool.{true, false, not};
@@ -11,8 +12,8 @@ ghost use Rattle.rules.specs.StatisticsUpdates.{isOf, hasFileOf};
 ghost use Rattle.rules.specs.Layout.{readStatisticsFile, readStatistics, laidStatistics};
 ghost use Rattle.search.specs.Places.{indexOf};
 ghost use Rattle.tables.specs.Laid.{LaidStatisticsFile, LaidStatistics};
-use crate::ids::same_snapshot;
 use crate::ids::snapshot_below;
+use equality::ids::same_snapshot;
 use records::counters::SnapshotId;
 use records::statistics::StatisticsFile;
 use records::statistics::StatisticsFiles;

@@ -12,9 +12,9 @@ use Rattle.rules.specs.Run.{run}
 use Rattle.rules.specs.Layout.{readMetadata, readMetadataLog}
 use Rattle.rules.specs.Kinds.{readUpdates}
 use Rattle.rules.specs.Answer.{readTerms}
-use Rattle.rules.proofs.AnswerLaws.{answer-read}
-use Rattle.rules.proofs.Whole.{whole-stays, whole-after-removal}
-use Rattle.rules.proofs.Kept.{joinedBy, HistoryKept, history-kept, Kept, moment-kept}
+use Rattle.rules.proofs.Answer.Laws.{answer-read}
+use Rattle.rules.proofs.History.Whole.{whole-stays, whole-after-removal}
+use Rattle.rules.proofs.History.Kept.{joinedBy, HistoryKept, history-kept, MomentKept, moment-kept}
 use Rattle.theorems.proofs.Run.{Call, start, updates, terms, text, says}
 
 module _ (c : Call) where
@@ -60,5 +60,5 @@ module _ (c : Call) (e : c .answered .number ≡ 0) where
     run-history-kept = history-kept (under c) (before c) (asked c) (after c) (changes c) (readMetadataLog (c .answered .expired)) accepted w n
 
     -- so for every time the answer is the one before the run, or an entry of this run, or none
-    pub run-moment-kept : (time : ℤ) → Kept (joined c) (changes c) (currentAt time (before c .snapshotLog)) (currentAt time (after c .snapshotLog))
+    pub run-moment-kept : (time : ℤ) → MomentKept (joined c) (changes c) (currentAt time (before c .snapshotLog)) (currentAt time (after c .snapshotLog))
     run-moment-kept = moment-kept (under c) (before c) (asked c) (after c) (changes c) (readMetadataLog (c .answered .expired)) accepted w n

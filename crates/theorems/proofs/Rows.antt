@@ -11,11 +11,11 @@ use Rattle.rules.specs.Layout.{readMetadata}
 use Rattle.rules.specs.Kinds.{readUpdates}
 use Rattle.rules.specs.Answer.{answer}
 use Rattle.rules.specs.Rows.{newSnapshots, hasRows, rangesOf, hasRow, rangeAt, Ascend, Disjoint, AboveAll, isApart, isFormedAndApart}
-use Rattle.rules.proofs.Ranges.{climbs-ascend, ascend-disjoint}
-use Rattle.rules.proofs.Rows.{Adds, adds-none, adds-on}
-use Rattle.rules.proofs.ApartExactly.{apart-means, disjoint-from-held}
-use Rattle.rules.proofs.Above.{adds-above}
-use Rattle.rules.proofs.AnswerRows.{newIn, answer-logs-new, answer-adds, answer-apart-stays, answer-rows-apart-stays}
+use Rattle.rules.proofs.Rows.Ranges.{climbs-ascend, ascend-disjoint}
+use Rattle.rules.proofs.Rows.Runs.{Adds, adds-none, adds-on}
+use Rattle.rules.proofs.Rows.ApartExactly.{apart-means, disjoint-from-held}
+use Rattle.rules.proofs.Rows.Above.{adds-above}
+use Rattle.rules.proofs.Answer.Rows.{newIn, answer-logs-new, answer-adds, answer-apart-stays, answer-rows-apart-stays}
 use Rattle.theorems.proofs.Run.{Call, start, updates, terms, text, says}
 
 -- each call starts from what the one before answered, the first from m

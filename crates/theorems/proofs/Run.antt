@@ -15,9 +15,9 @@ use Rattle.rules.specs.Replay.{strip}
 use Rattle.rules.specs.Kinds.{readUpdates, laidUpdates}
 use Rattle.rules.specs.Answer.{answer}
 use Rattle.rules.specs.Promises.{AsksNothing}
-use Rattle.rules.proofs.Places.{Reply}
-use Rattle.rules.proofs.AnswerLaws.{Formed, Fits, Unchanged, answer-formed, answer-log-fits, answer-refused, answer-reply}
-use Rattle.rules.proofs.AnswerReplays.{Replays, answer-replays}
+use Rattle.rules.proofs.Answer.Places.{Reply}
+use Rattle.rules.proofs.Answer.Laws.{Formed, Fits, Unchanged, answer-formed, answer-log-fits, answer-refused, answer-reply}
+use Rattle.rules.proofs.Answer.Replays.{Replays, answer-replays}
 use Rattle.register.proofs.run.{signature, spec}
 use Rattle.register.proofs.run.Kinds.{ps, r}
 use Rattle.register.proofs.run.Reads.{Post}

@@ -31,10 +31,10 @@ oracle generate --seed S --count N [--kind run|walk|limit|tolerance|statistics|m
 oracle compare CASES ACTUAL        (ACTUAL may be - for standard input)
 oracle pick --count K < CASES
 oracle differences [--cases]
-oracle bench [--kinds] [--program REPEAT]";
+oracle bench [--kinds] [--program PROGRAM]";
 
-/// The program `repeat`, where `rt check repeat` puts it.
-const REPEAT: &str = concat!(env!("CARGO_MANIFEST_DIR"), "/../../target/bin/repeat");
+/// The program, where `rt check soritauba` puts it.
+const PROGRAM: &str = concat!(env!("CARGO_MANIFEST_DIR"), "/../../target/bin/soritauba");
 
 fn main() -> ExitCode {
     published::number::quiet_attempts();
@@ -77,8 +77,8 @@ fn command(arguments: &[&str]) -> Option<io::Result<bool>> {
         }
         ["differences"] => done(differences::differences(out)),
         ["differences", "--cases"] => done(differences::cases(out)),
-        ["bench", "--kinds", options @ ..] => done(bench::bench_kinds(repeat(options)?, out)),
-        ["bench", options @ ..] => done(bench::bench(repeat(options)?, out)),
+        ["bench", "--kinds", options @ ..] => done(bench::bench_kinds(program(options)?, out)),
+        ["bench", options @ ..] => done(bench::bench(program(options)?, out)),
         _ => return None,
     })
 }
@@ -89,10 +89,10 @@ fn only(options: &[&str], names: &[&str]) -> Option<()> {
     options.chunks(2).all(known).then_some(())
 }
 
-/// Where the program `repeat` is.
-fn repeat<'a>(options: &[&'a str]) -> Option<&'a Path> {
+/// Where the program is whose command `repeat` is timed.
+fn program<'a>(options: &[&'a str]) -> Option<&'a Path> {
     only(options, &["--program"])?;
-    Some(Path::new(value(options, "--program").unwrap_or(REPEAT)))
+    Some(Path::new(value(options, "--program").unwrap_or(PROGRAM)))
 }
 
 fn value<'a>(options: &[&'a str], name: &str) -> Option<&'a str> {

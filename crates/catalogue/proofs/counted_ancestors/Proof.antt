@@ -54,7 +54,7 @@ use Rattle.records.specs.declared.snapshot.Snapshots.{Snapshots}
 use Rattle.records.proofs.snapshot.Snapshots as T
 use Rattle.records.proofs.snapshot.Snapshots.Laws as T′
 use Rattle.rules.specs.Layout.{given, readSnapshot, readSnapshots}
-use Rattle.rules.proofs.Relaid.{counted-take}
+use Rattle.rules.proofs.Slots.Relaid.{counted-take}
 use Rattle.rules.specs.Walk.{Walk, recordAncestors, walkBuffer}
 use Rattle.walk.specs.Answers.{walked as answered}
 use Rattle.walk.specs.declared.Walked.{Walked}

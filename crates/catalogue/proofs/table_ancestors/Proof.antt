@@ -6,7 +6,7 @@ use lib.ListN.{length-map}
 use mir.Facts.{toZ-ofZ}
 use Rattle.records.specs.Blanks.{noSnapshot}
 use Rattle.rules.specs.Layout.{counted, given, readSnapshot, readSnapshots}
-use Rattle.rules.proofs.Relaid.{length-counted}
+use Rattle.rules.proofs.Slots.Relaid.{length-counted}
 use Rattle.walk.specs.Answers.{walked}
 use Rattle.catalogue.proofs.Gathered.{too-many}
 use Rattle.catalogue.proofs.table_ancestors.Statement.{statement}

@@ -1,8 +1,8 @@
 -- The answer's two fields are those of the check.
 use mathlib.Core.Path.{ap}
 use borrow.Author.Needs.{needs}
-use Rattle.leaves.specs.declared.row_ids.RowsChecked.{RowsChecked}
-use Rattle.leaves.specs.Answers.{rowsChecked}
+use Rattle.primitives.specs.declared.row_ids.RowsChecked.{RowsChecked}
+use Rattle.primitives.specs.Answers.{rowsChecked}
 use Rattle.exports.specs.declared.RowCheck.{RowCheck}
 use Rattle.exports.specs.Answers.{rowCheck}
 use Rattle.exports.proofs.register_row_check.Statement.{statement}

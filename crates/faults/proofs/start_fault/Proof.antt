@@ -4,19 +4,19 @@ use mathlib.Core.Path.{_≡_, refl, sym, ap, _∙_}
 use mathlib.Core.Bool.{Bool, true, false, cond, not, _||_}
 use borrow.Author.Needs.{needs}
 use lib.Dec.{leb}
-use Rattle.records.specs.declared.text.FileName.{FileName}
+use Rattle.records.specs.declared.text.Text.{Text}
 use Rattle.rules.specs.Words.{ifSome}
 use Rattle.rules.specs.Capacities.{fileNameRoom}
 use Rattle.rules.specs.WellFormed.{fileNameFormed}
-use Rattle.rules.specs.Layout.{given, readFileName}
-use Rattle.rules.proofs.Relaid.{length-counted}
+use Rattle.rules.specs.Layout.{given, readText}
+use Rattle.rules.proofs.Slots.Relaid.{length-counted}
 use Rattle.faults.specs.Faults.{metadataFaults, metadataFault, fileFaults, startFault}
 use Rattle.faults.proofs.Picked.{join}
 use Rattle.faults.proofs.Parts.{all-numbered}
 use Rattle.faults.proofs.start_fault.Statement.{statement}
 use Rattle.faults.proofs.start_fault.Tie as tie
 
-name-fits : (has : Bool) (file : FileName) → (not has || leb (file .len) fileNameRoom) ≡ ifSome fileNameFormed (given has (readFileName file))
+name-fits : (has : Bool) (file : Text) → (not has || leb (file .len) fileNameRoom) ≡ ifSome fileNameFormed (given has (readText file))
 name-fits true file = ap (λ (n : ℕ). leb n fileNameRoom) (sym (length-counted 0 (file .bytes) (file .len)))
 name-fits false file = refl
 

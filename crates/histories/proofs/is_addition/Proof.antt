@@ -12,10 +12,10 @@ use Rattle.histories.proofs.is_addition.Statement.{statement}
 use Rattle.histories.proofs.is_addition.Tie as tie
 
 module _ (id : ℤ) (u : TableUpdate) where
-  added : u .kind ≡ addSnapshotKind → isAddition id (readKind u) ≡ eqZ (u .snapshot .«snapshot_id» .0) id
+  added : u .kind ≡ addSnapshotKind → isAddition id (readKind u) ≡ eqZ (u .snapshots .added .«snapshot_id» .0) id
   added e = rw e
 
-  adds : u .kind ≡ addSnapshotKind → {t s : Bool} → t ≡ isTidyUpdate u → s ≡ eqZ (u .snapshot .«snapshot_id» .0) id → (t && s) ≡ isAddition id (readUpdate u)
+  adds : u .kind ≡ addSnapshotKind → {t s : Bool} → t ≡ isTidyUpdate u → s ≡ eqZ (u .snapshots .added .«snapshot_id» .0) id → (t && s) ≡ isAddition id (readUpdate u)
   adds e p q = rw (p, q) (sym (read-tidy (isAddition id) (λ n. refl) u ∙ ap (λ (b : Bool). isTidyUpdate u && b) (added e)))
 
 pub is-addition-spec : {M : Type 1} → statement M

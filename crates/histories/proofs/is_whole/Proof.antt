@@ -17,8 +17,8 @@ use Rattle.rules.specs.Blanks.{isTidyMetadata}
 use Rattle.rules.specs.Layout.{readLogEntry, readSnapshotLog, readSnapshots, readMetadata, laidMetadata}
 use Rattle.rules.proofs.Checks.{and-left, and-right}
 use Rattle.rules.proofs.Tables.{log-fits, table-parts}
-use Rattle.rules.proofs.Relaid.{relaid}
-use Rattle.rules.proofs.Sound.{Sound, formed-sound}
+use Rattle.rules.proofs.Slots.Relaid.{relaid}
+use Rattle.rules.proofs.Sound.Metadata.{Sound, formed-sound}
 use Rattle.tables.specs.Laid.{LaidSnapshots}
 use Rattle.formed.proofs.Counted.{read-length}
 use Rattle.histories.proofs.is_whole.Statement.{statement}

@@ -14,10 +14,10 @@ use Rattle.histories.proofs.removes_added.Statement.{statement}
 use Rattle.histories.proofs.removes_added.Tie as tie
 
 module _ (q : ℤ → Bool) (u : TableUpdate) where
-  removed : u .kind ≡ removeSnapshotsKind → any q (removedIds (readKind u)) ≡ any q (readSnapshotIds (u .«snapshot_ids»))
+  removed : u .kind ≡ removeSnapshotsKind → any q (removedIds (readKind u)) ≡ any q (readSnapshotIds (u .snapshots .removed))
   removed e = rw e
 
-  removes : u .kind ≡ removeSnapshotsKind → {t s : Bool} → t ≡ isTidyUpdate u → s ≡ any q (readSnapshotIds (u .«snapshot_ids»)) → (t && s) ≡ any q (removedIds (readUpdate u))
+  removes : u .kind ≡ removeSnapshotsKind → {t s : Bool} → t ≡ isTidyUpdate u → s ≡ any q (readSnapshotIds (u .snapshots .removed)) → (t && s) ≡ any q (removedIds (readUpdate u))
   removes e p r = rw (p, r) (sym (read-tidy (λ (x : Update). any q (removedIds x)) (λ n. refl) u ∙ ap (λ (b : Bool). isTidyUpdate u && b) (removed e)))
 
 pub removes-added-spec : {M : Type 1} → statement M

@@ -15,7 +15,7 @@ use Rattle.rules.specs.Register.{Update}
 use Rattle.rules.specs.ChangeLog.{removedIds, logsAddition}
 use Rattle.rules.specs.Moment.{logsRemoved, removesAndAdds}
 use Rattle.rules.specs.Kinds.{readUpdate, readUpdates}
-use Rattle.rules.proofs.ReplayLists.{any-append}
+use Rattle.rules.proofs.Replay.Lists.{any-append}
 use Rattle.formed.proofs.Scans.{slots}
 use Rattle.formed.proofs.Counted.{Taken, taken-start, taken-on}
 use Rattle.histories.proofs.Slots.{with-slots, scanned, any-update}

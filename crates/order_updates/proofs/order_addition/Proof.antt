@@ -10,6 +10,7 @@ use borrow.Author.Tests.{leb-false, eq-eqb, eqb-true}
 use lib.Dec.{eqb, leb}
 use lib.IntN.{ℤ}
 use lib.ListN.{length}
+use Rattle.records.specs.Blanks.{noSortOrdersPart}
 use Rattle.records.specs.declared.counters.SortOrderId.{SortOrderId}
 use Rattle.records.specs.declared.schema.Schema.{Schema}
 use Rattle.records.specs.declared.schema.Schemas.{Schemas}
@@ -24,9 +25,9 @@ use Rattle.rules.specs.WellFormed.{fieldIds, hasSchema, orderBelow, ordersForme
 use Rattle.rules.specs.OrderUpdates.{reusedOrder, orderIds, newOrderId, isUnfit, addSortOrderChecks, addSortOrder}
 use Rattle.rules.specs.OrderUpdates as rule
 use Rattle.rules.specs.Layout.{readSchema, readSchemas, laidSchemas, readSortOrder, laidSortOrder, readSortOrders, laidSortOrders, laidFields}
-use Rattle.rules.specs.Kinds.{laidUpdate, ofKind, withSortOrder, addSortOrderKind}
+use Rattle.rules.specs.Kinds.{laidUpdate, ofKind, withSortOrdersPart, withSortOrder, addSortOrderKind}
 use Rattle.rules.proofs.Checks.{by-test, Passed, passed}
-use Rattle.rules.proofs.Reread.{reread-schemas, reread-sort-orders}
+use Rattle.rules.proofs.Slots.Reread.{reread-schemas, reread-sort-orders}
 use Rattle.tables.specs.Laid.{LaidOrder}
 use Rattle.tables.proofs.Table.{listed-length}
 use Rattle.tables.proofs.Each.{sortOrders}
@@ -69,7 +70,7 @@ module _ (b : TableMetadataBuilder) (t : SortOrders) (schemas : Schemas) (o : So
           answers = λ st p s q.
               let l : last ≡ someWith (eqZ (id .0)) (st .added .order) = x ∙ ap (someWith (eqZ (id .0))) (ap (λ (y : TableMetadataBuilder). addedOrder y) p ∙ given-back (st .added .order)) in (
                 rw (held-at-state st q),
-                λ z. rw (held-at-state st q, addSortOrder, l, p) (stepped-unless (someWith (eqZ (id .0)) (st .added .order)) st (rule.addedOrder (id .0) st) (AddSortOrder (readSortOrder (renamed id o))) _ _ refl refl (ap (λ (y : SortOrder). withSortOrder y (ofKind addSortOrderKind)) (sym (order-renamed o k id .back)))),
+                λ z. rw (held-at-state st q, addSortOrder, l, p) (stepped-unless (someWith (eqZ (id .0)) (st .added .order)) st (rule.addedOrder (id .0) st) (AddSortOrder (readSortOrder (renamed id o))) _ _ refl refl (ap (λ (y : SortOrder). withSortOrdersPart (withSortOrder y noSortOrdersPart) (ofKind addSortOrderKind)) (sym (order-renamed o k id .back)))),
               );
           table = λ st q z. rw (held-at-state st q, addSortOrder) (by-test (λ (y : State). y .metadata .orders ≡ st .metadata .orders) (someWith (eqZ (id .0)) (st .added .order)) (λ h. refl) (λ h. refl));
           laid = order-renamed o k id;
@@ -126,7 +127,7 @@ module _ (b : TableMetadataBuilder) (t : SortOrders) (schemas : Schemas) (o : So
                 λ z.
                     let i : id ≡ record { 0 = one .id } = λ j. record { 0 = numbered st q z j } in
                     let y : laidSortOrder one ≡ renamed id o = ap (λ (d : ℤ). laidSortOrder (record { id = d; fields = readSortOrder o .fields })) (sym (numbered st q z)) ∙ order-renamed o k id .back in
-                    rw (new-at-state st q, addSortOrder) (stepped-unless false st end (AddSortOrder one) _ _ refl (rw (i, p)) (ap (λ (d : SortOrder). withSortOrder d (ofKind addSortOrderKind)) (sym y))),
+                    rw (new-at-state st q, addSortOrder) (stepped-unless false st end (AddSortOrder one) _ _ refl (rw (i, p)) (ap (λ (d : SortOrder). withSortOrdersPart (withSortOrder d noSortOrdersPart) (ofKind addSortOrderKind)) (sym y))),
               );
           table = λ st q z. rw (new-at-state st q, addSortOrder, eq-eqb number 0 z) (ap (λ (d : ℤ). put orderBelow (record { id = d; fields = readSortOrder o .fields }) (st .metadata .orders)) (sym (numbered st q z)));
           laid = order-renamed o k id;
@@ -139,20 +140,21 @@ returns c =
     let f = c .before .before .before in
     let a = f .before in
     let r = f .reuse-or-create-new-sort-id in
-    held (a .args .b) (a .args .t) (a .args .schemas) (a .args .o) (a .pre .1 .1 .1 .1) (r .result .id) (r .ensures .held (c .before .if1 .taken)) (c .is-last-added .result) (c .is-last-added .ensures)
+    let yes = c .before .if1 .taken in
+    held (a .args .b) (a .args .t) (a .args .schemas) (a .args .o) (a .pre .1 .1 .1 .1) (r .result .id) (r .ensures .held yes) (r .result .«is_last») (r .ensures .again yes)
 
 returns-2 : tie.Need-returns-2
 returns-2 c =
     let u = c .before .before .before in
     let w = u .before in
-    let j = w .before in
+    let j = w .before .before in
     let f = j .before .before in
     let a = f .before in
     let r = f .reuse-or-create-new-sort-id in
     let no = j .if1 .left in
     new (a .args .b) (a .args .t) (a .args .schemas) (a .args .o) (a .pre .1 .1 .1 .1) (r .result .id) (r .ensures .new no) (a .pre .1 .0)
     (r .result .exhausted) (r .ensures .over no) (r .ensures .gets no)
-    (w .current-schema .result) (w .current-schema .ensures .0) (u .is-unfit .result) (u .is-unfit .ensures)
+    (w .get .result) (w .get .ensures .0) (u .is-unfit .result) (u .is-unfit .ensures)
     (c .choose3 .result)
     (c .choose3 .ensures ∙ ap (cond (r .result .exhausted) 18) (c .before .choose2 .ensures ∙ ap (cond (u .is-unfit .result) 17) (c .before .before .choose .ensures)))
 
@@ -160,7 +162,6 @@ pub order-addition-spec : {M : Type 1} → statement M
 order-addition-spec =
     tie.close
     (tie.spec
-    (λ c κs. search needs)
     (λ c κs. search needs)
     returns
     (λ c κs. search needs)

@@ -1,69 +1,82 @@
--- The search gives the first with equal fields; where there is none the new id is the highest one's successor.
-use Prim.Native.Nat.{_≤_, _<_}
+-- The search gives the first with equal fields, whose id is among the keys; where there is none the new id is 0 or the highest one's successor.
+use Prim.Native.Nat.{ℕ}
 use mathlib.Core.Path.{_≡_, refl, sym, ap, _∙_}
-use mathlib.Core.Bool.{true, false}
+use mathlib.Core.Bool.{Bool, true, false, cond, not, _&&_, true≢false, false≢true}
 use mathlib.Core.List.{List, [], _∷_}
-use mathlib.Core.Option.{none}
+use mathlib.Core.Option.{Option}
 use native.Mathlib.Omega.{arith}
 use borrow.Author.Needs.{needs}
-use lib.IntN.{ℤ}
+use borrow.Author.Tests.{eq-eqb, ne-eqb}
+use lib.Dec.{eqb}
+use lib.IntN.{ℤ, pos, sucℤ}
 use lib.ListN.{length}
+use mir.Syntax.{w64}
 use Rattle.rules.specs.Words.{eqZ, sameList, highest, isEmpty}
 use Rattle.rules.specs.Register as plain
 use Rattle.rules.specs.Capacities.{largestSortOrderId}
 use Rattle.rules.specs.OrderUpdates.{sameSortField, reusedOrder, orderIds}
-use Rattle.rules.specs.Layout.{readSortOrder, readSortOrders}
-use Rattle.tables.proofs.Table.{within, listed-length}
+use Rattle.rules.specs.Layout.{given, readSortOrder, readSortOrders}
+use Rattle.tables.proofs.Table.{listed-length}
+use Rattle.tables.proofs.Keyed.{lent, lent-within, lent-slice, take-fits}
 use Rattle.tables.proofs.Each.{sortFields, tidy-sort-orders}
-use Rattle.builder.proofs.Found.{id-found, id-none, numbered-held, numbered-new}
+use Rattle.builder.specs.Added.{Numbered}
+use Rattle.builder.proofs.NewIds.{numbered, reused-at}
 use Rattle.order_updates.proofs.reuse_or_create_new_sort_id.Statement.{statement}
 use Rattle.order_updates.proofs.reuse_or_create_new_sort_id.Tie as tie
 
-is-empty : {A : Type 0} (l : List A) → length l ≡ 0 → isEmpty l ≡ true
-is-empty [] e = refl
-is-empty (x ∷ l) e = absurd (omega arith)
+counted-empty : {A : Type 0} (l : List A) (n : ℕ) → length l ≡ n → eqb n 0 ≡ isEmpty l
+counted-empty [] n e = eq-eqb n 0 (sym e)
+counted-empty (x ∷ l) n e = ne-eqb n 0 (λ q. omega arith)
 
-not-empty : {A : Type 0} (l : List A) → (length l ≡ 0 → ⊥) → isEmpty l ≡ false
-not-empty [] n = absurd (n refl)
-not-empty (x ∷ l) n = refl
+-- what an order with fields would get
+as-any : (c : tie.After-order-id) → let x = c .before in let s = x .before .before .before .before .before in let l = readSortOrders (s .args .t) in let r = x .reuse-or-create-new-id .result in
+    Numbered (reusedOrder (readSortOrder (s .args .o)) l) (eqZ (highest (orderIds l)) largestSortOrderId) (sucℤ (highest (orderIds l))) (given (s .args .has-last) (s .args .last .0)) (r .found) (r .exhausted) (r .«is_last») (c .order-id .result .0)
+as-any c =
+    let x = c .before in
+    let k = x .before .before in
+    let i = k .before .before in
+    let s = i .before in
+    let e = lent (tidy-sort-orders (s .pre .0)) (λ y. y .id) (i .ids-of .ensures .0) in
+    numbered w64 (take-fits w64 (s .args .t .count) (i .ids-of .result) (i .ids-of .ensures .1)) (x .reuse-or-create-new-id .ensures) e (ap (given (s .args .has-last)) (k .order-key .ensures)) (c .order-id .ensures)
+    (reused-at (λ (y : plain.SortOrder). sameList sameSortField (y .fields) (readSortOrder (s .args .o) .fields)) (λ y. y .id) (readSortOrders (s .args .t)) (k .before .find-equal .ensures) e)
 
-inside : (c : tie.Then1) → c .before .find-equal .result < 16
-inside c = omega (arith, within (tidy-sort-orders (c .before .before .pre .0)), c .if1 .taken)
+-- a new one with no fields gets 0
+module _ {reused : Option ℤ} {over exhausted is-last : Bool} {next id : ℤ} {last : Option ℤ} where
+  zero : (empty found : Bool) → Numbered reused over next last found exhausted is-last id → (not found && empty) ≡ true → Numbered reused (not empty && over) (cond empty (pos 0) next) last false false false (pos 0)
+  zero true false k e = record { held = λ t. absurd (false≢true t); again = λ t. absurd (false≢true t); new = k .new; over = λ f. refl; gets = λ f o. refl }
+  zero true true k e = absurd (false≢true e)
+  zero false true k e = absurd (false≢true e)
+  zero false false k e = absurd (false≢true e)
+
+  as-it-is : (empty found : Bool) → Numbered reused over next last found exhausted is-last id → (not found && empty) ≡ false → Numbered reused (not empty && over) (cond empty (pos 0) next) last found exhausted is-last id
+  as-it-is false found k e = k
+  as-it-is true true k e = record { held = k .held; again = k .again; new = λ f. absurd (true≢false f); over = λ f. absurd (true≢false f); gets = λ f o. absurd (true≢false f) }
+  as-it-is true false k e = absurd (true≢false e)
+
+-- whether there are fields is told by their count
+told : (c : tie.After-order-id) {t : Bool} → let x = c .before in let s = x .before .before .before .before .before in let found = x .reuse-or-create-new-id .result .found in
+    (not found && eqb (s .args .o .count) 0) ≡ t → (not found && isEmpty (readSortOrder (s .args .o) .fields)) ≡ t
+told c e =
+    let x = c .before in
+    let o = x .before .before .before .before .before .args .o in
+    ap (λ (b : Bool). not (x .reuse-or-create-new-id .result .found) && b) (sym (counted-empty (readSortOrder o .fields) (o .count) (listed-length sortFields o))) ∙ e
 
 returns : tie.Need-returns
-returns c =
-    let f = c .before .before .before in
-    let s = f .before in
-    numbered-held _ _ (id-found (tidy-sort-orders (s .pre .0)) (λ (y : plain.SortOrder). sameList sameSortField (y .fields) (readSortOrder (s .args .o) .fields)) (f .find-equal .ensures) (λ (y : plain.SortOrder). y .id) _ (c .before .before .if1 .taken))
-
-none-found : (f : tie.After-find-equal) → f .before .args .t1 .count ≤ f .find-equal .result → reusedOrder (readSortOrder (f .before .args .o)) (readSortOrders (f .before .args .t1)) ≡ none
-none-found f b = id-none (tidy-sort-orders (f .before .pre .0)) (λ (y : plain.SortOrder). sameList sameSortField (y .fields) (readSortOrder (f .before .args .o) .fields)) (f .find-equal .ensures) (λ (y : plain.SortOrder). y .id) b
+returns c = let y = c .before .before in zero _ (y .before .reuse-or-create-new-id .result .found) (as-any y) (told y (c .if1 .taken))
 
 returns-2 : tie.Need-returns-2
-returns-2 c =
-    let f = c .before .before in
-    let z : isEmpty (readSortOrder (f .before .args .o) .fields) ≡ true = is-empty (readSortOrder (f .before .args .o) .fields) (listed-length sortFields (f .before .args .o) ∙ c .if2 .taken) in
-    numbered-new (none-found f (c .before .if1 .left)) (rw z) (λ e. rw z)
-
-returns-3 : tie.Need-returns-3
-returns-3 c =
-    let f = c .before .before .before .before .before in
-    let k = c .before .before .before in
-    let h = c .before .before .highest .ensures in
-    let z : isEmpty (readSortOrder (f .before .args .o) .fields) ≡ false = not-empty (readSortOrder (f .before .args .o) .fields) (λ e. k .if2 .left (sym (listed-length sortFields (f .before .args .o)) ∙ e)) in
-    let x : c .before .is-largest .result ≡ eqZ (highest (orderIds (readSortOrders (f .before .args .t1)))) largestSortOrderId = c .before .is-largest .ensures ∙ ap (λ (y : ℤ). eqZ y largestSortOrderId) h in
-    numbered-new (none-found f (k .before .if1 .left)) (x ∙ rw z) (λ e. c .next-id .ensures ∙ rw (h, z, rw z at e))
+returns-2 c = let y = c .before .before in as-it-is _ (y .before .reuse-or-create-new-id .result .found) (as-any y) (told y (c .if1 .left))
 
 pub reuse-or-create-new-sort-id-spec : {M : Type 1} → statement M
 reuse-or-create-new-sort-id-spec =
     tie.close
     (tie.spec
     (λ c κs. search needs)
-    (λ c. omega (arith, inside c))
-    inside
+    (λ c κs. search needs)
+    (λ c κs. search needs)
+    (λ c. let i = c .before .before in lent-within (tidy-sort-orders (i .before .pre .0)) (λ y. y .id) (i .ids-of .ensures .0))
+    (λ c. let i = c .before .before .before in lent-slice (tidy-sort-orders (i .before .pre .0)) (λ y. y .id) (i .ids-of .ensures .0))
+    (λ c κs. search needs)
+    (λ c κs. search needs)
     returns
-    returns-2
-    (λ c κs. search needs)
-    (λ c κs. search needs)
-    (λ c κs. search needs)
-    returns-3)
+    returns-2)

@@ -13,8 +13,8 @@ use Rattle.rules.specs.Layout.{readSnapshots, readMetadata, laidMetadata}
 use Rattle.rules.specs.Rows.{rowsDisjoint, rowsEndBy, isApart}
 use Rattle.rules.proofs.Checks.{and-left, and-right}
 use Rattle.rules.proofs.Tables.{table-parts}
-use Rattle.rules.proofs.Relaid.{relaid}
-use Rattle.rules.proofs.Sound.{formed-sound}
+use Rattle.rules.proofs.Slots.Relaid.{relaid}
+use Rattle.rules.proofs.Sound.Metadata.{formed-sound}
 use Rattle.tables.specs.Laid.{LaidSnapshots}
 use Rattle.row_ranges.proofs.rows_apart.Statement.{statement}
 use Rattle.row_ranges.proofs.rows_apart.Tie as tie

@@ -5,10 +5,11 @@ use mathlib.Core.List.{List}
 use borrow.Author.Needs.{needs}
 use lib.Dec.{ltb}
 use lib.IntN.{ℤ}
-use lib.ListN.{length, length-map}
+use lib.ListN.{length-map}
 use Rattle.records.specs.Blanks.{noSchemaId}
 use Rattle.records.specs.declared.counters.SchemaId.{SchemaId}
 use Rattle.records.specs.declared.schema.Schemas.{Schemas}
+use Rattle.records.specs.declared.update.TableUpdate.{TableUpdate}
 use Rattle.rules.specs.Words.{isIn, isEmpty, keep}
 use Rattle.rules.specs.Register as plain
 use Rattle.rules.specs.Register.{withSchemas, withMetadata}
@@ -17,9 +18,9 @@ use Rattle.rules.specs.WellFormed.{updateFormed}
 use Rattle.rules.specs.SchemaUpdates.{heldSchemas, removeSchemasChecks, removeSchemas}
 use Rattle.rules.specs.Updates.{checks, effect}
 use Rattle.rules.specs.Layout.{counted, readSchemas, readSchemaIds, laidSchemaIds, laidFields}
-use Rattle.rules.specs.Kinds.{readUpdate, laidUpdate, withSchemaIds}
-use Rattle.rules.proofs.Relaid.{length-counted}
-use Rattle.rules.proofs.Reread.{reread-schemas}
+use Rattle.rules.specs.Kinds.{readUpdate, laidUpdate, withSchemasPart, withSchemaIds}
+use Rattle.rules.proofs.Slots.Relaid.{length-counted}
+use Rattle.rules.proofs.Slots.Reread.{reread-schemas}
 use Rattle.tables.specs.Laid.{LaidSchemaIds}
 use Rattle.builder.specs.declared.builder.TableMetadataBuilder.{TableMetadataBuilder}
 use Rattle.builder.specs.Pieces.{laidBuilder}
@@ -31,28 +32,25 @@ use Rattle.schema_updates.proofs.remove_schemas.Tie as tie
 
 -- the update, of kind 11
 module _ (s : tie.Start) where
-  long : length (s .args .u .uuid) ≡ 16
-  long = search needs
-
-  laid-ids : LaidSchemaIds (s .args .u .«schema_ids»)
+  laid-ids : LaidSchemaIds (s .args .u .schemas .removed)
   unfolding updateFormed
-  laid-ids = given-schema-ids (s .args .u) (s .pre .1 .1 .0) (formed-kind (s .args .u) long (s .pre .1 .1 .0) 11 (s .pre .1 .1 .1 .1) (s .pre .1 .1 .1 .0))
+  laid-ids = given-schema-ids (s .args .u) (s .pre .1 .1 .0) (formed-kind (s .args .u) (s .pre .1 .1 .0) 11 (s .pre .1 .1 .1 .1) (s .pre .1 .1 .1 .0))
 
 returns : tie.Need-returns
 unfolding checks effect removeSchemasChecks removeSchemas laidBuilder laidFields laidUpdate
 returns c terms st p q =
     let h = c .before in
     let r = h .before .before in
-    let s = r .before .before .before .before in
+    let s = r .before .before .before .before .before in
     let u = s .args .u in
-    let ids : List ℤ = readSchemaIds (u .«schema_ids») in
+    let ids : List ℤ = readSchemaIds (u .schemas .removed) in
     let l : readSchemas (s .args .t) ≡ st .metadata .schemas = ap (λ (t : Schemas). readSchemas t) q ∙ reread-schemas (st .metadata .schemas) in
-    let k : readUpdate u ≡ RemoveSchemas ids = read-kind u (long s) (s .pre .1 .1 .0) 11 (s .pre .1 .1 .1 .1) in
-    let some : ltb 0 (u .«schema_ids» .count) ≡ not (isEmpty ids) = some-counted ids (u .«schema_ids» .count) (length-map (counted noSchemaId (u .«schema_ids» .items) (u .«schema_ids» .count)) (λ (x : SchemaId). x .0) ∙ length-counted noSchemaId (u .«schema_ids» .items) (u .«schema_ids» .count)) in
+    let k : readUpdate u ≡ RemoveSchemas ids = read-kind u (s .pre .1 .1 .0) 11 (s .pre .1 .1 .1 .1) in
+    let some : ltb 0 (u .schemas .removed .count) ≡ not (isEmpty ids) = some-counted ids (u .schemas .removed .count) (length-map (counted noSchemaId (u .schemas .removed .items) (u .schemas .removed .count)) (λ (x : SchemaId). x .0) ∙ length-counted noSchemaId (u .schemas .removed .items) (u .schemas .removed .count)) in
     let held : h .held .result ≡ laidSchemaIds (heldSchemas ids (st .metadata .schemas)) = h .held .ensures ∙ ap (λ (x : List plain.Schema). laidSchemaIds (heldSchemas ids x)) l in
     let left : List plain.Schema = keep (λ (x : plain.Schema). not (isIn ids (x .id))) (st .metadata .schemas) in
-    let e : withSchemaIds (h .held .result) u ≡ laidUpdate (RemoveSchemas (heldSchemas ids (st .metadata .schemas))) =
-    ap (withSchemaIds (h .held .result)) (of-kind u (long s) (s .pre .1 .1 .0) 11 (s .pre .1 .1 .1 .1)) ∙ rw held in
+    let e : withSchemasPart (withSchemaIds (h .held .result) (u .schemas)) u ≡ laidUpdate (RemoveSchemas (heldSchemas ids (st .metadata .schemas))) =
+    ap (λ (y : TableUpdate). withSchemasPart (withSchemaIds (h .held .result) (y .schemas)) y) (of-kind u (s .pre .1 .1 .0) 11 (s .pre .1 .1 .1 .1)) ∙ rw held in
     rw (c .decided .ensures, k, some) (
       h .before .choose .ensures ∙ rw (r .has-schema .ensures, ap (λ (b : TableMetadataBuilder). b .fields .«current_schema_id» .0) p),
       λ z. stepped-unless (isEmpty ids) st (withMetadata (withSchemas left (st .metadata)) st) (RemoveSchemas (heldSchemas ids (st .metadata .schemas))) _ _ refl p e,
@@ -62,8 +60,8 @@ pub remove-schemas-spec : {M : Type 1} → statement M
 remove-schemas-spec =
     tie.close
     (tie.spec
-    (λ c κs. laid-ids (c .before .before .before))
+    (λ c κs. laid-ids (c .before .before .before .before))
     (λ c κs. search needs)
-    (λ c κs. let s = c .before .before .before .before .before in (s .pre .0, (laid-ids s, s .pre .1 .0)))
+    (λ c κs. let s = c .before .before .before .before .before .before in (s .pre .0, (laid-ids s, s .pre .1 .0)))
     (λ c κs. search needs)
     returns)

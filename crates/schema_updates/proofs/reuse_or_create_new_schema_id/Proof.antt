@@ -1,49 +1,43 @@
--- The search gives the first with equal fields; where there is none the new id is the highest one's successor.
-use Prim.Native.Nat.{_<_}
-use mathlib.Core.Path.{ap, _∙_}
-use native.Mathlib.Omega.{arith}
+-- The search gives the first with equal fields, whose id is among the keys; where there is none the new id is the highest one's successor.
+use Prim.Native.Nat.{ℕ}
+use mathlib.Core.Path.{ap}
 use borrow.Author.Needs.{needs}
-use lib.IntN.{ℤ}
-use Rattle.rules.specs.Words.{eqZ, sameList}
+use lib.IntN.{pos}
+use lib.ListN.{getD, take}
+use mir.Syntax.{w32}
+use mir.Val.{SFits}
+use Rattle.rules.specs.Words.{sameList}
 use Rattle.rules.specs.Register as plain
-use Rattle.rules.specs.Capacities.{largestSchemaId}
 use Rattle.rules.specs.SchemaUpdates.{sameSchemaField}
-use Rattle.rules.specs.Layout.{readSchema}
-use Rattle.tables.proofs.Table.{within}
+use Rattle.rules.specs.Layout.{given, readSchema, readSchemas}
+use Rattle.tables.proofs.Keyed.{lent, lent-within, lent-slice, take-fits}
 use Rattle.tables.proofs.Each.{tidy-schemas}
-use Rattle.builder.proofs.Found.{id-found, id-none, numbered-held, numbered-new}
+use Rattle.builder.proofs.NewIds.{given-fits, numbered, reused-at}
 use Rattle.schema_updates.proofs.reuse_or_create_new_schema_id.Statement.{statement}
 use Rattle.schema_updates.proofs.reuse_or_create_new_schema_id.Tie as tie
 
-inside : (c : tie.Then1) → c .before .find-equal .result < 16
-inside c = omega (arith, within (tidy-schemas (c .before .before .pre .0)), c .if1 .taken)
+fits : (c : tie.After-ids-of) → (k : ℕ) → SFits w32 (getD (take (c .before .args .t .count) (c .ids-of .result)) k (pos 0))
+fits c = take-fits w32 (c .before .args .t .count) (c .ids-of .result) (c .ids-of .ensures .1)
 
 returns : tie.Need-returns
 returns c =
-    let f = c .before .before .before in
-    let s = f .before in
-    numbered-held _ _ (id-found (tidy-schemas (s .pre .0)) (λ (y : plain.Schema). sameList sameSchemaField (y .fields) (readSchema (s .args .s) .fields)) (f .find-equal .ensures) (λ (y : plain.Schema). y .id) _ (c .before .before .if1 .taken))
-
-returns-2 : tie.Need-returns-2
-returns-2 c =
-    let k = c .before .before .before in
-    let f = k .before in
-    let s = f .before in
-    let h = c .before .before .highest .ensures in
-    numbered-new
-    (id-none (tidy-schemas (s .pre .0)) (λ (y : plain.Schema). sameList sameSchemaField (y .fields) (readSchema (s .args .s) .fields)) (f .find-equal .ensures) (λ (y : plain.Schema). y .id) (k .if1 .left))
-    (c .before .is-largest .ensures ∙ ap (λ (z : ℤ). eqZ z largestSchemaId) h)
-    (λ e. c .next-id .ensures ∙ rw (h, e))
+    let x = c .before in
+    let k = x .before .before in
+    let i = k .before .before in
+    let s = i .before in
+    let e = lent (tidy-schemas (s .pre .0)) (λ y. y .id) (i .ids-of .ensures .0) in
+    numbered w32 (fits i) (x .reuse-or-create-new-id .ensures) e (ap (given (s .args .has-last)) (k .schema-key .ensures .0)) (c .schema-id .ensures)
+    (reused-at (λ (y : plain.Schema). sameList sameSchemaField (y .fields) (readSchema (s .args .s) .fields)) (λ y. y .id) (readSchemas (s .args .t)) (k .before .find-equal .ensures) e)
 
 pub reuse-or-create-new-schema-id-spec : {M : Type 1} → statement M
 reuse-or-create-new-schema-id-spec =
     tie.close
     (tie.spec
     (λ c κs. search needs)
-    (λ c. omega (arith, inside c))
-    inside
-    returns
     (λ c κs. search needs)
     (λ c κs. search needs)
+    (λ c. let i = c .before .before in lent-within (tidy-schemas (i .before .pre .0)) (λ y. y .id) (i .ids-of .ensures .0))
+    (λ c. let i = c .before .before .before in lent-slice (tidy-schemas (i .before .pre .0)) (λ y. y .id) (i .ids-of .ensures .0))
     (λ c κs. search needs)
-    returns-2)
+    (λ c κs. given-fits w32 (fits (c .before .before .before .before)) (c .reuse-or-create-new-id .ensures))
+    returns)

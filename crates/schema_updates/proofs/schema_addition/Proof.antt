@@ -10,6 +10,7 @@ use borrow.Author.Tests.{leb-false, eq-eqb, eqb-true}
 use lib.Dec.{eqb, leb}
 use lib.IntN.{ℤ, sucℤ}
 use lib.ListN.{length}
+use Rattle.records.specs.Blanks.{noSchemasPart}
 use Rattle.records.specs.declared.counters.FieldId.{FieldId}
 use Rattle.records.specs.declared.counters.SchemaId.{SchemaId}
 use Rattle.records.specs.declared.schema.Schema.{Schema}
@@ -23,9 +24,9 @@ use Rattle.rules.specs.WellFormed.{fieldIds, schemaBelow}
 use Rattle.rules.specs.SchemaUpdates.{reusedSchema, schemaIds, addSchemaChecks, addSchema}
 use Rattle.rules.specs.SchemaUpdates as rule
 use Rattle.rules.specs.Layout.{readSchema, laidSchema, readSchemas, laidSchemas, laidFields}
-use Rattle.rules.specs.Kinds.{laidUpdate, ofKind, withSchema, addSchemaKind}
+use Rattle.rules.specs.Kinds.{laidUpdate, ofKind, withSchemasPart, withSchema, addSchemaKind}
 use Rattle.rules.proofs.Checks.{by-test, Passed, passed}
-use Rattle.rules.proofs.Reread.{reread-schemas}
+use Rattle.rules.proofs.Slots.Reread.{reread-schemas}
 use Rattle.tables.specs.Laid.{LaidSchema}
 use Rattle.tables.proofs.Table.{listed-length}
 use Rattle.tables.proofs.Each.{schemas}
@@ -87,7 +88,7 @@ module _ (b : TableMetadataBuilder) (t : Schemas) (s : Schema) (k : LaidSchema s
           answers = λ st p q.
               let l : last ≡ someWith (eqZ (id .0)) (st .added .schema) = x ∙ ap (someWith (eqZ (id .0))) (ap (λ (y : TableMetadataBuilder). addedSchema y) p ∙ given-back (st .added .schema)) in (
                 rw (held-at-state st q),
-                λ z. rw (held-at-state st q, addSchema, l, p) (stepped-unless (someWith (eqZ (id .0)) (st .added .schema)) st (rule.addedSchema (id .0) st) (AddSchema (readSchema s)) _ _ refl refl (ap (λ (y : Schema). withSchema y (ofKind addSchemaKind)) (sym (k .back)))),
+                λ z. rw (held-at-state st q, addSchema, l, p) (stepped-unless (someWith (eqZ (id .0)) (st .added .schema)) st (rule.addedSchema (id .0) st) (AddSchema (readSchema s)) _ _ refl refl (ap (λ (y : Schema). withSchemasPart (withSchema y noSchemasPart) (ofKind addSchemaKind)) (sym (k .back)))),
               );
           table = λ st q z. rw (held-at-state st q, addSchema) (by-test (λ (y : State). y .metadata .schemas ≡ st .metadata .schemas) (someWith (eqZ (id .0)) (st .added .schema)) (λ h. refl) (λ h. refl));
           laid = k;
@@ -132,7 +133,7 @@ module _ (b : TableMetadataBuilder) (t : Schemas) (s : Schema) (k : LaidSchema s
                     let v : column .0 ≡ larger (m .fields .lastColumn) (highest (fieldIds (readSchema s))) = y ∙ ap (λ (w : TableMetadataBuilder). larger (w .fields .«last_column_id» .0) (highest (fieldIds (readSchema s)))) p in
                     let w : column ≡ record { 0 = larger (m .fields .lastColumn) (highest (fieldIds (readSchema s))) } = λ j. record { 0 = v j } in
                     let r : laidSchema one ≡ record { «schema_id» = id; items = s .items; count = s .count } = ap (λ (d : ℤ). laidSchema (record { id = d; fields = readSchema s .fields })) (sym (numbered st q z)) ∙ schema-renamed s k id .back in
-                    rw (new-at-state st q, addSchema) (stepped-unless false st end (AddSchema one) _ _ refl (rw (i, w, p)) (ap (λ (d : Schema). withSchema d (ofKind addSchemaKind)) (sym r))),
+                    rw (new-at-state st q, addSchema) (stepped-unless false st end (AddSchema one) _ _ refl (rw (i, w, p)) (ap (λ (d : Schema). withSchemasPart (withSchema d noSchemasPart) (ofKind addSchemaKind)) (sym r))),
               );
           table = λ st q z. rw (new-at-state st q, addSchema, eq-eqb number 0 z) (ap (λ (d : ℤ). put schemaBelow (record { id = d; fields = readSchema s .fields }) (st .metadata .schemas)) (sym (numbered st q z)));
           laid = schema-renamed s k id;
@@ -145,11 +146,12 @@ returns c =
     let f = c .before .before .before in
     let a = f .before in
     let r = f .reuse-or-create-new-schema-id in
-    held (a .args .b) (a .args .t) (a .args .s) (a .pre .1) (r .result .id) (r .ensures .held (c .before .if1 .taken)) (c .is-last-added .result) (c .is-last-added .ensures)
+    let yes = c .before .if1 .taken in
+    held (a .args .b) (a .args .t) (a .args .s) (a .pre .1) (r .result .id) (r .ensures .held yes) (r .result .«is_last») (r .ensures .again yes)
 
 returns-2 : tie.Need-returns-2
 returns-2 c =
-    let i = c .before .before .before .before in
+    let i = c .before .before in
     let j = i .before .before in
     let f = j .before .before in
     let a = f .before in
@@ -158,17 +160,15 @@ returns-2 c =
     new (a .args .b) (a .args .t) (a .args .s) (a .pre .1) (r .result .id) (r .ensures .new no) (r .result .exhausted) (r .ensures .over no) (r .ensures .gets no)
     (i .choose2 .result)
     (i .choose2 .ensures ∙ ap (cond (r .result .exhausted) 18) (i .before .choose .ensures))
-    (c .larger-field .result)
-    (c .larger-field .ensures ∙ ap (larger (a .args .b .fields .«last_column_id» .0)) (c .before .highest-field .ensures))
+    (c .last-column .result)
+    (c .last-column .ensures)
 
 pub schema-addition-spec : {M : Type 1} → statement M
 schema-addition-spec =
     tie.close
     (tie.spec
     (λ c κs. search needs)
-    (λ c κs. search needs)
     returns
-    (λ c κs. search needs)
     (λ c κs. search needs)
     (λ c κs. search needs)
     (λ c κs. search needs)

@@ -1,20 +1,25 @@
 -- The choice is made of the state's last added and current ids, and the builder that comes back has the chosen one.
 use mathlib.Core.Path.{_≡_, refl, ap, _∙_}
+use mathlib.Core.List.{List}
 use mathlib.Core.Option.{Option}
 use borrow.Author.Needs.{needs}
 use lib.IntN.{ℤ}
+use mir.Syntax.{w32}
 use Rattle.records.specs.declared.schema.Schemas.{Schemas}
 use Rattle.rules.specs.Words.{eqZ}
+use Rattle.rules.specs.Register as plain
 use Rattle.rules.specs.Register.{withCurrentSchema, onFields}
 use Rattle.rules.specs.Register.Update.{SetCurrentSchema}
 use Rattle.rules.specs.SchemaUpdates.{chosen, choiceLogged, holdsSchema, setCurrentSchemaChecks, setCurrentSchema}
-use Rattle.rules.specs.Layout.{readSchemas, laidFields}
+use Rattle.rules.specs.Layout.{given, readSchemas, laidFields}
 use Rattle.rules.specs.Kinds.{laidUpdate}
-use Rattle.rules.proofs.Reread.{reread-schemas}
+use Rattle.rules.proofs.Slots.Reread.{reread-schemas}
+use Rattle.tables.proofs.Keyed.{lent-in, lent-within, lent-slice}
+use Rattle.tables.proofs.Each.{tidy-schemas}
 use Rattle.builder.specs.declared.builder.TableMetadataBuilder.{TableMetadataBuilder}
 use Rattle.builder.specs.Pieces.{laidBuilder}
 use Rattle.builder.proofs.Steps.{stepped-unless}
-use Rattle.builder.proofs.Choices.{given-back, choice}
+use Rattle.builder.proofs.Choices.{given-back, chosen-as, takes-fits, logs-fits}
 use Rattle.schema_updates.specs.Schemas.{addedSchema}
 use Rattle.schema_updates.proofs.schema_choice.Statement.{statement}
 use Rattle.schema_updates.proofs.schema_choice.Tie as tie
@@ -22,23 +27,24 @@ use Rattle.schema_updates.proofs.schema_choice.Tie as tie
 returns : tie.Need-returns
 unfolding setCurrentSchemaChecks setCurrentSchema laidBuilder laidFields laidUpdate
 returns c st p q =
-    let h = c .before .before .before in
-    let f = h .before .before in
-    let a = f .before .before .before .before .args in
-    let id : ℤ = a .id .0 in
+    let x = c .before .before .before in
+    let k = x .before .before in
+    let g = k .before .before .before in
+    let s = g .before .before in
+    let a = s .args in
     let last : Option ℤ = st .added .schema in
     let current : ℤ = st .metadata .fields .currentSchema in
-    let x : ℤ = chosen id last in
-    let k =
-    choice id (a .b .«has_schema») (a .b .«last_added_schema_id» .0)
-    (ap (λ (b : TableMetadataBuilder). addedSchema b) p ∙ given-back last)
-    (ap (λ (b : TableMetadataBuilder). b .fields .«current_schema_id» .0) p)
-    (ap holdsSchema (ap (λ (t : Schemas). readSchemas t) q ∙ reread-schemas (st .metadata .schemas)))
-    (f .before .same-schema .ensures) (f .chosen-schema .ensures) (h .before .same-schema2 .ensures) (h .holds .ensures) (c .before .before .choose .ensures) (c .before .choose2 .ensures) (c .logged-schema .ensures) in
-    let new : f .chosen-schema .result ≡ record { 0 = x } = λ i. record { 0 = k .takes i } in
-    let put : c .logged-schema .result ≡ record { 0 = choiceLogged x last } = λ i. record { 0 = k .logs i } in (
-      k .checked,
-      λ z. rw (k .unchanged, put, new, p) (stepped-unless (eqZ x current) st (onFields (withCurrentSchema x) st) (SetCurrentSchema (choiceLogged x last)) _ _ refl refl refl),
+    let K =
+    chosen-as (k .before .before .schema-key .ensures .0)
+    (ap (given (a .b .«has_schema»)) (k .before .schema-key2 .ensures .0) ∙ ap (λ (b : TableMetadataBuilder). addedSchema b) p ∙ given-back last)
+    (k .schema-key3 .ensures .0 ∙ ap (λ (b : TableMetadataBuilder). b .fields .«current_schema_id» .0) p)
+    (λ i z. (lent-in (tidy-schemas (s .pre)) (λ y. y .id) (g .ids-of .ensures .0) z ∙ ap (λ (l : List plain.Schema). holdsSchema l z) (ap (λ (t : Schemas). readSchemas t) q ∙ reread-schemas (st .metadata .schemas))) i)
+    (x .choose-id .ensures) in
+    let y : ℤ = chosen (a .id .0) last in
+    let new : c .before .before .schema-id .result ≡ record { 0 = y } = λ i. record { 0 = (c .before .before .schema-id .ensures ∙ K .takes) i } in
+    let put : c .before .schema-id2 .result ≡ record { 0 = choiceLogged y last } = λ i. record { 0 = (c .before .schema-id2 .ensures ∙ K .logs) i } in (
+      K .checked,
+      λ z. rw (K .unchanged, put, new, p) (stepped-unless (eqZ y current) st (onFields (withCurrentSchema y) st) (SetCurrentSchema (choiceLogged y last)) _ _ refl refl refl),
     )
 
 pub schema-choice-spec : {M : Type 1} → statement M
@@ -49,7 +55,9 @@ schema-choice-spec =
     (λ c κs. search needs)
     (λ c κs. search needs)
     (λ c κs. search needs)
+    (λ c. let g = c .before .before .before in lent-within (tidy-schemas (g .before .before .pre)) (λ y. y .id) (g .ids-of .ensures .0))
+    (λ c. let g = c .before .before .before .before in lent-slice (tidy-schemas (g .before .before .pre)) (λ y. y .id) (g .ids-of .ensures .0))
     (λ c κs. search needs)
-    (λ c κs. search needs)
-    (λ c κs. search needs)
+    (λ c κs. let k = c .before .before .before in takes-fits w32 (k .before .before .before .before .args .b .«has_schema») (k .schema-key2 .result .0) (c .choose-id .ensures) (k .before .schema-key .ensures .1) (k .schema-key2 .ensures .1))
+    (λ c κs. let k = c .before .before .before .before in logs-fits w32 (k .before .before .before .before .args .b .«has_schema») (k .schema-key2 .result .0) (c .before .choose-id .ensures) (k .before .schema-key .ensures .1) (k .schema-key2 .ensures .1))
     returns)

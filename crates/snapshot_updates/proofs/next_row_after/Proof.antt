@@ -1,8 +1,8 @@
 -- At version 3 the leaf grows the next row id where no check fails; below it stays.
 use mathlib.Core.Path.{ap, _∙_}
 use borrow.Author.Needs.{needs}
-use Rattle.leaves.specs.Answers.{rowsChecked}
-use Rattle.leaves.specs.declared.row_ids.RowsChecked.{RowsChecked}
+use Rattle.primitives.specs.Answers.{rowsChecked}
+use Rattle.primitives.specs.declared.row_ids.RowsChecked.{RowsChecked}
 use Rattle.snapshot_updates.proofs.Rows.{row-stays, row-grows}
 use Rattle.snapshot_updates.proofs.next_row_after.Statement.{statement}
 use Rattle.snapshot_updates.proofs.next_row_after.Tie as tie

@@ -2,20 +2,17 @@
 use mathlib.Core.Path.{_≡_, refl, ap, _∙_}
 use mathlib.Core.List.{List}
 use borrow.Author.Needs.{needs}
-use lib.ListN.{length}
 use Rattle.records.specs.declared.snapshot.Snapshots.{Snapshots}
+use Rattle.records.specs.declared.update.TableUpdate.{TableUpdate}
 use Rattle.rules.specs.Register.{Snapshot}
 use Rattle.rules.specs.SnapshotUpdates.{heldSnapshots}
 use Rattle.rules.specs.Layout.{readSnapshots, laidSnapshotIds, readSnapshotIds}
-use Rattle.rules.specs.Kinds.{laidUpdate, withSnapshotIds}
-use Rattle.rules.proofs.Reread.{reread-snapshots}
+use Rattle.rules.specs.Kinds.{laidUpdate, withSnapshotsPart, withSnapshotIds}
+use Rattle.rules.proofs.Slots.Reread.{reread-snapshots}
 use Rattle.builder.proofs.Steps.{some-counted}
 use Rattle.builder.proofs.Entries.{of-kind}
 use Rattle.snapshot_updates.proofs.remove_snapshots.Statement.{statement}
 use Rattle.snapshot_updates.proofs.remove_snapshots.Tie as tie
-
-long : (s : tie.Start) → length (s .args .u .uuid) ≡ 16
-long s = search needs
 
 returns : tie.Need-returns
 unfolding laidUpdate laidSnapshotIds
@@ -23,7 +20,7 @@ returns c st p q =
     let h = c .before .before in
     let s = h .before .before in
     let u = s .args .u in
-    let asked = readSnapshotIds (u .«snapshot_ids») in
+    let asked = readSnapshotIds (u .snapshots .removed) in
     let l : readSnapshots (s .args .t) ≡ st .metadata .snapshots = ap (λ (t : Snapshots). readSnapshots t) q ∙ reread-snapshots (st .metadata .snapshots) in
     let held : h .held .result ≡ laidSnapshotIds (heldSnapshots asked (st .metadata .snapshots)) = h .held .ensures ∙ ap (λ (x : List Snapshot). laidSnapshotIds (heldSnapshots asked x)) l in
     rw (c .decided .ensures) (
@@ -31,7 +28,7 @@ returns c st p q =
       number = refl;
       logs = rw held (some-counted (heldSnapshots asked (st .metadata .snapshots)) _ refl);
       builder = p;
-      entry = ap (withSnapshotIds (h .held .result)) (of-kind u (long s) (s .pre .1 .1 .1 .0) 6 (s .pre .1 .1 .1 .1)) ∙ rw held;
+      entry = ap (λ (y : TableUpdate). withSnapshotsPart (withSnapshotIds (h .held .result) (y .snapshots)) y) (of-kind u (s .pre .1 .1 .1 .0) 6 (s .pre .1 .1 .1 .1)) ∙ rw held;
     }
     )
 

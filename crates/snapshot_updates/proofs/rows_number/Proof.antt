@@ -2,8 +2,8 @@
 use mathlib.Core.Path.{sym, ap, _∙_}
 use borrow.Author.Needs.{needs}
 use borrow.Author.Tests.{not-true, not-false}
-use Rattle.leaves.specs.Answers.{rowsChecked}
-use Rattle.leaves.specs.declared.row_ids.RowsChecked.{RowsChecked}
+use Rattle.primitives.specs.Answers.{rowsChecked}
+use Rattle.primitives.specs.declared.row_ids.RowsChecked.{RowsChecked}
 use Rattle.snapshot_updates.proofs.Rows.{no-check, no-rows, with-rows}
 use Rattle.snapshot_updates.proofs.rows_number.Statement.{statement}
 use Rattle.snapshot_updates.proofs.rows_number.Tie as tie

@@ -2,7 +2,7 @@
 use mathlib.Core.Path.{sym, _∙_}
 use borrow.Author.Needs.{needs}
 use borrow.Author.Tests.{eq-eqb, ne-eqb}
-use Rattle.rules.proofs.Relaid.{flag-given}
+use Rattle.rules.proofs.Slots.Relaid.{flag-given}
 use Rattle.snapshot_updates.proofs.too_low.Statement.{statement}
 use Rattle.snapshot_updates.proofs.too_low.Tie as tie
 

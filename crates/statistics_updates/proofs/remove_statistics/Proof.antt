@@ -1,8 +1,7 @@
 -- It is logged exactly if the state's table has a file of the snapshot.
-use mathlib.Core.Path.{_≡_, refl, sym, ap, _∙_}
+use mathlib.Core.Path.{refl, sym, ap, _∙_}
 use mathlib.Core.List.{List}
 use borrow.Author.Needs.{needs}
-use lib.ListN.{length}
 use Rattle.rules.specs.Register as plain
 use Rattle.rules.specs.StatisticsUpdates.{hasFileOf}
 use Rattle.rules.specs.Updates.{checks, effect}
@@ -12,19 +11,16 @@ use Rattle.statistics_updates.proofs.Tables.{read-statistics}
 use Rattle.statistics_updates.proofs.remove_statistics.Statement.{statement}
 use Rattle.statistics_updates.proofs.remove_statistics.Tie as tie
 
-long : (s : tie.Start) → length (s .args .u .uuid) ≡ 16
-long s = search needs
-
 returns : tie.Need-returns
 unfolding checks effect
 returns c which terms st k p q =
     let h = c .before in
     let s = h .before in
     let u = s .args .u in
-    let id = u .«statistics_id» .0 in
-    rw (c .decided .ensures, remove-read u (long s) (s .pre .1) which k) (
+    let id = u .statistics .removed .0 in
+    rw (c .decided .ensures, remove-read u (s .pre .1) which k) (
       refl,
-      λ z. remove-steps which id st (h .has-file-of .result) (sym (h .has-file-of .ensures ∙ ap (λ (l : List plain.StatisticsFile). hasFileOf l id) (read-statistics which st q))) p (remove-laid u (long s) (s .pre .1) which k),
+      λ z. remove-steps which id st (h .has-file-of .result) (sym (h .has-file-of .ensures ∙ ap (λ (l : List plain.StatisticsFile). hasFileOf l id) (read-statistics which st q))) p (remove-laid u (s .pre .1) which k),
     )
 
 pub remove-statistics-spec : {M : Type 1} → statement M

@@ -19,11 +19,8 @@ use Rattle.statistics_updates.proofs.set_statistics.Statement.{statemen
 use Rattle.statistics_updates.proofs.set_statistics.Tie as tie
 
 module _ (s : tie.Start) where
-  long : length (s .args .u .uuid) ≡ 16
-  long = search needs
-
-  offered : LaidStatisticsFile (s .args .u .statistics)
-  offered = file-laid (s .args .u) long (s .pre .1 .0) (s .pre .1 .1 .0) (s .pre .1 .1 .1)
+  offered : LaidStatisticsFile (s .args .u .statistics .file)
+  offered = file-laid (s .args .u) (s .pre .1 .0) (s .pre .1 .1 .0) (s .pre .1 .1 .1)
 
 returns : tie.Need-returns
 unfolding checks effect
@@ -32,16 +29,16 @@ returns c =
     let h = F .before in
     let s = h .before .before in
     let u = s .args .u in
-    let f = readStatisticsFile (u .statistics) in
+    let f = readStatisticsFile (u .statistics .file) in
     let n : c .choose .result ≡ firstOf (one (h .has-file-of .result) (s .args .t .count)) = c .choose .ensures ∙ rw (F .is-full .ensures) in
     record {
       answers = λ which terms st k p q.
           let l = read-statistics which st q in
-          rw (set-read u (long s) (s .pre .1 .0) which k) (
+          rw (set-read u (s .pre .1 .0) which k) (
             n ∙ number-is which f st (h .has-file-of .ensures ∙ ap (λ (x : List plain.StatisticsFile). hasFileOf x (f .snapshot)) l) (sym (read-length (tidy-statistics (s .pre .0))) ∙ ap length l),
-            λ z. set-steps which f st p (set-laid u (long s) (s .pre .1 .0) (offered s) which k),
+            λ z. set-steps which f st p (set-laid u (s .pre .1 .0) (offered s) which k),
           );
-      table = λ which terms st k z. rw (set-read u (long s) (s .pre .1 .0) which k, eq-eqb (c .choose .result) 0 z) (set-table which f st);
+      table = λ which terms st k z. rw (set-read u (s .pre .1 .0) which k, eq-eqb (c .choose .result) 0 z) (set-table which f st);
       new = λ g. record { laid = offered s; room = λ e. has-room (h .has-file-of .result) (s .args .t .count) (sym n ∙ eqb-true (c .choose .result) 0 g) (h .has-file-of .ensures ∙ e) };
     }
 

@@ -6,7 +6,7 @@ pub statistics-after-spec : {M : Type 1} → statement M
 statistics-after-spec =
     tie.close
     (tie.spec
-    (λ c κs. let s = c .before .before .before in
+    (λ c κs. let s = c .before in
     let n = s .pre .1 .1 (c .if1 .taken) in
     (s .pre .0, (n .laid, (n .room, s .pre .1 .0))))
     (λ c. rw (c .before .if1 .taken) (c .put .ensures))

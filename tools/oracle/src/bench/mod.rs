@@ -60,9 +60,9 @@ impl Spread {
     }
 }
 
-/// `repeat` is the program of that name.
-pub fn bench(repeat: &Path, mut report: impl Write) -> io::Result<()> {
-    let engine = Ours::of(repeat)?;
+/// `program` has the command `repeat`.
+pub fn bench(program: &Path, mut report: impl Write) -> io::Result<()> {
+    let engine = Ours::of(program)?;
     writeln!(report, "microseconds: median (5% .. 95%)")?;
     line(&mut report, HEAD.map(str::to_owned))?;
     for (title, workload) in workload::all() {
@@ -76,8 +76,8 @@ pub fn bench(repeat: &Path, mut report: impl Write) -> io::Result<()> {
 }
 
 /// The time of an update, by kind.
-pub fn bench_kinds(repeat: &Path, mut report: impl Write) -> io::Result<()> {
-    let engine = Ours::of(repeat)?;
+pub fn bench_kinds(program: &Path, mut report: impl Write) -> io::Result<()> {
+    let engine = Ours::of(program)?;
     writeln!(report, "nanoseconds for an update: median (5% .. 95%)")?;
     line(&mut report, HEAD.map(str::to_owned))?;
     for work in kinds::all() {

@@ -1,4 +1,4 @@
-//! Our engine: the proved program `repeat`, which reads a case once and answers it as often as it is told. The time of an answer is that of
+//! Our engine: the command `repeat` of the proved program, which reads a case once and answers it as often as it is told. The time of an answer is that of
 //! the program with many answers less that of the program with none, so neither its start nor its reading counts. What counts is the
 //! call, with the copies of its arguments that it is handed. It is processor time, since a sample is long enough to be interrupted.
 
@@ -30,7 +30,7 @@ impl Ours {
         };
         let found = program
             .canonicalize()
-            .map_err(said("`rt check repeat` makes it"))?;
+            .map_err(said("`rt check soritauba` makes it"))?;
         let mut trial = Command::new(&found);
         trial.stdin(Stdio::null()).stdout(Stdio::null());
         trial
@@ -106,6 +106,7 @@ fn terms(start: i64) -> WalkTerms {
 fn whole(program: &Path, times: f64, case: &str) -> f64 {
     let before = processor_time();
     let mut command = Command::new(program);
+    command.arg("repeat");
     command.stdin(Stdio::piped()).stdout(Stdio::piped());
     let mut child = command.spawn().expect("the program starts");
     let mut input = child.stdin.take().expect("its input is a pipe");

@@ -33,7 +33,7 @@ pub fn differences(mut output: impl Write) -> io::Result<()> {
     Ok(())
 }
 
-/// The same inputs in the case format, for the program `cases`.
+/// The same inputs in the case format, for `soritauba cases`.
 pub fn cases(mut output: impl Write) -> io::Result<()> {
     for (_, case) in rows::all() {
         writeln!(output, "{}", Line::of_case(&case))?;

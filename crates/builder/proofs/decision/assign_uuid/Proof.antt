@@ -1,15 +1,10 @@
 -- The answer is that of the builder's method, and the entry is the update as given.
-use mathlib.Core.Path.{_≡_}
 use borrow.Author.Needs.{needs}
-use lib.ListN.{length}
 use Rattle.rules.specs.Updates.{checks, effect}
 use Rattle.builder.proofs.Steps.{entry-as}
 use Rattle.builder.proofs.Entries.{of-kind, read-kind}
 use Rattle.builder.proofs.decision.assign_uuid.Statement.{statement}
 use Rattle.builder.proofs.decision.assign_uuid.Tie as tie
-
-long : (s : tie.Start) → length (s .args .u .uuid) ≡ 16
-long s = search needs
 
 returns : tie.Need-returns
 unfolding checks effect
@@ -17,7 +12,7 @@ returns c terms st p =
     let x = c .before .before in
     let s = x .before .before in
     let u = s .args .u in
-    rw (c .decided .ensures, read-kind u (long s) (s .pre .0) 1 (s .pre .1)) (entry-as (x .assign-uuid .ensures st p) (of-kind u (long s) (s .pre .0) 1 (s .pre .1)))
+    rw (c .decided .ensures, read-kind u (s .pre .0) 1 (s .pre .1)) (entry-as (x .assign-uuid .ensures st p) (of-kind u (s .pre .0) 1 (s .pre .1)))
 
 pub assign-uuid-spec : {M : Type 1} → statement M
 assign-uuid-spec = tie.close (tie.spec (λ c κs. search needs) (λ c κs. search needs) returns)

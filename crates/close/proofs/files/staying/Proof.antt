@@ -12,10 +12,10 @@ use lib.Seq.{take-all}
 use Rattle.records.specs.declared.counters.Time.{Time}
 use Rattle.records.specs.declared.metadata.MetadataLog.{MetadataLog}
 use Rattle.records.specs.declared.run.RunTerms.{RunTerms}
-use Rattle.records.specs.declared.text.FileName.{FileName}
+use Rattle.records.specs.declared.text.Text.{Text}
 use Rattle.rules.specs.Register.{FileEntry}
-use Rattle.rules.specs.Layout.{readFileName, laidFileName, readMetadataLogEntry, laidMetadataLogEntry, readMetadataLog, laidMetadataLog}
-use Rattle.rules.proofs.Reread.{reread-file-name}
+use Rattle.rules.specs.Layout.{readText, laidText, readMetadataLogEntry, laidMetadataLogEntry, readMetadataLog, laidMetadataLog}
+use Rattle.rules.proofs.Slots.Reread.{reread-text}
 use Rattle.tables.proofs.Table.{read-length}
 use Rattle.tables.proofs.Push.{pushed}
 use Rattle.tables.proofs.Each.{tidy-metadata-log, made-metadata-log}
@@ -29,12 +29,12 @@ alone terms old l e = rw (e, append-nil)
 
 -- the entry, in the slot after those that are left
 module _ (terms : RunTerms) (old : Time) {log : MetadataLog} (l : List FileEntry) (j : terms .«has_file» ≡ true) (e : log ≡ laidMetadataLog l) (fits : length l < 128) where
-  pub joins : {name : FileName} → name ≡ laidFileName (readFileName (terms .file))
+  pub joins : {name : Text} → name ≡ laidText (readText (terms .file))
       → record { items = set (log .items) (log .count) (record { «metadata_file» = name; «timestamp_ms» = old }); count = log .count + 1 } ≡ laidMetadataLog (l ++ joining terms old)
   unfolding laidMetadataLogEntry
   joins {name} n =
-      let w : readFileName name ≡ readFileName (terms .file) = ap readFileName n ∙ reread-file-name (readFileName (terms .file)) in
-      let b : laidMetadataLogEntry (readMetadataLogEntry (record { «metadata_file» = name; «timestamp_ms» = old })) ≡ record { «metadata_file» = name; «timestamp_ms» = old } = λ i. record { «metadata_file» = (ap laidFileName w ∙ sym n) i; «timestamp_ms» = old } in
+      let w : readText name ≡ readText (terms .file) = ap readText n ∙ reread-text (readText (terms .file)) in
+      let b : laidMetadataLogEntry (readMetadataLogEntry (record { «metadata_file» = name; «timestamp_ms» = old })) ≡ record { «metadata_file» = name; «timestamp_ms» = old } = λ i. record { «metadata_file» = (ap laidText w ∙ sym n) i; «timestamp_ms» = old } in
       pushed made-metadata-log _ e fits b refl refl ∙ ap (λ (y : List FileEntry). laidMetadataLog (l ++ y)) (λ i. cond (sym j i) (record { file = w i; time = old .0 } ∷ []) [])
 
 module _ (c : tie.Joined1) where

@@ -35,6 +35,6 @@ compare-fields-spec =
       f .same-field .ensures,
       f .before .before .before .same-sequence .ensures,
       f .before .before .before .before .same-time .ensures,
-      f .before .before .before .before .before .same-location .ensures,
+      f .before .before .before .before .before .same-text .ensures,
       f .before .before .before .before .before .before .same-uuid .ensures,
     )))

@@ -1,6 +1,6 @@
 -- The tests in order; as many bytes are read of a location as its length says.
 use borrow.Author.Needs.{needs}
-use Rattle.rules.proofs.Relaid.{length-counted}
+use Rattle.rules.proofs.Slots.Relaid.{length-counted}
 use Rattle.faults.specs.Faults.{fieldFaults}
 use Rattle.faults.proofs.part.fields_fault.Statement.{statement}
 use Rattle.faults.proofs.part.fields_fault.Tie as tie
@@ -22,10 +22,10 @@ fields-fault-spec =
     rw (
       c .unless4 .ensures,
       c .before .unless3 .ensures,
-      c .before .before .location-tidy .ensures,
+      c .before .before .text-fits .ensures,
       s .unless2 .ensures,
       s .before .sequence-formed .ensures,
       s .before .before .unless .ensures,
-      s .before .before .before .snapshot-id-zero .ensures,
+      s .before .before .before .same-snapshot .ensures,
       length-counted 0 (l .bytes) (l .len),
     )))

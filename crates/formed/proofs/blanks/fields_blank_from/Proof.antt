@@ -24,5 +24,5 @@ fields-blank-from-spec =
     (λ c κs. search needs)
     (λ c. search needs)
     (λ c. search needs)
-    (λ c. let l = c .before .before .before .before in slotted-on (l .loop .inv) _ (c .before .before .before .loop-test .taken) (c .field-id-zero .ensures))
+    (λ c. let l = c .before .before .before .before in slotted-on (l .loop .inv) _ (c .before .before .before .loop-test .taken) (c .same-field .ensures))
     (λ c. slotted-end (c .before .loop .inv) (c .loop-test .left)))

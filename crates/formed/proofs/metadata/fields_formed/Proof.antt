@@ -2,7 +2,7 @@
 use borrow.Author.Needs.{needs}
 use Rattle.rules.specs.WellFormed.{fieldsFormed}
 use Rattle.rules.specs.Blanks.{isTidyFields}
-use Rattle.rules.proofs.Relaid.{length-counted}
+use Rattle.rules.proofs.Slots.Relaid.{length-counted}
 use Rattle.formed.proofs.metadata.fields_formed.Statement.{statement}
 use Rattle.formed.proofs.metadata.fields_formed.Tie as tie
 
@@ -15,4 +15,4 @@ fields-formed-spec =
     (λ c κs. search needs)
     (λ c κs. search needs)
     (λ c. let l = c .before .before .before .before .before .before .args .f .location in
-    rw (c .before .before .location-tidy .ensures, c .before .snapshot-id-zero .ensures, c .sequence-formed .ensures, length-counted 0 (l .bytes) (l .len))))
+    rw (c .before .before .text-fits .ensures, c .before .same-snapshot .ensures, c .sequence-formed .ensures, length-counted 0 (l .bytes) (l .len))))

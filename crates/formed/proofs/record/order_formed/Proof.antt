@@ -13,4 +13,4 @@ order-formed-spec =
     (λ c κs. search needs)
     (λ c κs. search needs)
     (λ c. let o = c .before .before .before .args .o in
-    rw (c .before .order-id-zero .ensures, c .offered-order-formed .ensures, read-none readSortField noSortField (o .items) (o .count))))
+    rw (c .before .same-order .ensures, c .offered-order-formed .ensures, read-none readSortField noSortField (o .items) (o .count))))

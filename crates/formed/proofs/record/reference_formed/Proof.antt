@@ -1,6 +1,6 @@
 -- The code tests what the rule tests; a number counts where its flag is set.
 use borrow.Author.Needs.{needs}
-use Rattle.rules.proofs.Relaid.{flag-given}
+use Rattle.rules.proofs.Slots.Relaid.{flag-given}
 use Rattle.formed.proofs.record.reference_formed.Statement.{statement}
 use Rattle.formed.proofs.record.reference_formed.Tie as tie
 

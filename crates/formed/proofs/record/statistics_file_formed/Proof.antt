@@ -1,6 +1,6 @@
 -- The code tests what the rule tests; as many bytes are read of a path as its length says.
 use borrow.Author.Needs.{needs}
-use Rattle.rules.proofs.Relaid.{length-counted}
+use Rattle.rules.proofs.Slots.Relaid.{length-counted}
 use Rattle.formed.proofs.record.statistics_file_formed.Statement.{statement}
 use Rattle.formed.proofs.record.statistics_file_formed.Tie as tie
 

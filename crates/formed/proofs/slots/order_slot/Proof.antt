@@ -9,6 +9,6 @@ order-slot-spec =
     (tie.spec
     (λ c κs. search needs)
     (λ c κs. search needs)
-    (λ c. rw (c .before .before .if1 .taken, c .before .order-tidy .ensures, c .order-formed .ensures))
+    (λ c. rw (c .before .before .if1 .taken, c .before .order-fits .ensures, c .order-formed .ensures))
     (λ c κs. search needs)
-    (λ c. rw (c .before .if1 .left, c .order-blank .ensures)))
+    (λ c. rw (c .before .if1 .left, c .order-fits2 .ensures)))

@@ -9,6 +9,6 @@ schema-slot-spec =
     (tie.spec
     (λ c κs. search needs)
     (λ c κs. search needs)
-    (λ c. rw (c .before .before .if1 .taken, c .before .schema-tidy .ensures, c .schema-formed .ensures))
+    (λ c. rw (c .before .before .if1 .taken, c .before .schema-fits .ensures, c .schema-formed .ensures))
     (λ c κs. search needs)
-    (λ c. rw (c .before .if1 .left, c .schema-blank .ensures)))
+    (λ c. rw (c .before .if1 .left, c .schema-fits2 .ensures)))

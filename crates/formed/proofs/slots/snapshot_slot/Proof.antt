@@ -9,6 +9,6 @@ snapshot-slot-spec =
     (tie.spec
     (λ c κs. search needs)
     (λ c κs. search needs)
-    (λ c. rw (c .before .before .if1 .taken, c .before .snapshot-tidy .ensures, c .snapshot-formed .ensures))
+    (λ c. rw (c .before .before .if1 .taken, c .before .snapshot-fits .ensures, c .snapshot-formed .ensures))
     (λ c κs. search needs)
-    (λ c. rw (c .before .if1 .left, c .snapshot-blank .ensures)))
+    (λ c. rw (c .before .if1 .left, c .snapshot-fits2 .ensures)))

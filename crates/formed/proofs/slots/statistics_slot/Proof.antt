@@ -9,6 +9,6 @@ statistics-slot-spec =
     (tie.spec
     (λ c κs. search needs)
     (λ c κs. search needs)
-    (λ c. rw (c .before .before .if1 .taken, c .before .statistics-file-tidy .ensures, c .statistics-file-formed .ensures))
+    (λ c. rw (c .before .before .if1 .taken, c .before .statistics-file-fits .ensures, c .statistics-file-formed .ensures))
     (λ c κs. search needs)
-    (λ c. rw (c .before .if1 .left, c .statistics-file-blank .ensures)))
+    (λ c. rw (c .before .if1 .left, c .statistics-file-fits2 .ensures)))

@@ -1,6 +1,5 @@
--- Each record is tidy, and blank where the kind does not use it.
+-- Each part is asked what the rule asks of it.
 use borrow.Author.Needs.{needs}
-use Rattle.formed.proofs.Used.{update-tidy}
 use Rattle.formed.proofs.update.is_tidy.Statement.{statement}
 use Rattle.formed.proofs.update.is_tidy.Tie as tie
 
@@ -8,31 +7,10 @@ pub is-tidy-spec : {M : Type 1} → statement M
 is-tidy-spec =
     tie.close
     (tie.spec
-    (λ c. search needs)
     (λ c κs. search needs)
     (λ c κs. search needs)
     (λ c κs. search needs)
     (λ c κs. search needs)
     (λ c κs. search needs)
     (λ c κs. search needs)
-    (λ c κs. search needs)
-    (λ c κs. search needs)
-    (λ c κs. search needs)
-    (λ c κs. search needs)
-    (λ c κs. search needs)
-    (λ c κs. search needs)
-    (λ c κs. search needs)
-    (λ c. update-tidy (c .before .before .before .before .before .before .before .before .before .before .before .before .before .before .before .before .before .before .before .before .before .before .before .before .before .before .before .args .u)
-    (c .before .before .before .before .before .before .before .before .before .before .before .before .zeros-from .ensures)
-    (c .before .before .before .before .before .before .before .before .before .before .before .location-fits .ensures)
-    (c .before .before .before .before .before .before .before .before .before .before .snapshot-fits .ensures)
-    (c .before .before .before .before .before .before .before .before .before .snapshot-ids-fit .ensures)
-    (c .before .before .before .before .before .before .before .before .ref-name-fits .ensures)
-    (c .before .before .before .before .before .before .before .reference-fits .ensures)
-    (c .before .before .before .before .before .before .schema-fits .ensures)
-    (c .before .before .before .before .before .schema-id-zero .ensures)
-    (c .before .before .before .before .schema-ids-fit .ensures)
-    (c .before .before .before .order-fits .ensures)
-    (c .before .before .order-id-zero .ensures)
-    (c .before .statistics-file-fits .ensures)
-    (c .snapshot-id-zero .ensures)))
+    (λ c. rw (c .before .before .before .before .before .fields-fit .ensures, c .before .before .before .before .snapshots-fit .ensures, c .before .before .before .refs-fit .ensures, c .before .before .schemas-fit .ensures, c .before .sort-orders-fit .ensures, c .statistics-fit .ensures)))

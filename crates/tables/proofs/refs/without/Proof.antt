@@ -5,13 +5,13 @@ use mathlib.Core.Bool.{not}
 use borrow.Author.Needs.{needs}
 use Rattle.rules.specs.RefUpdates.{hasName}
 use Rattle.rules.specs.Layout.{readRefName, laidRefs}
-use Rattle.tables.proofs.Filter.{Kept, kept-start, kept-more, kept-less, kept-end}
+use Rattle.tables.proofs.Filter.{Filtered, filtered-start, filtered-more, filtered-less, filtered-end}
 use Rattle.tables.proofs.Each.{refs, tidy-refs, made-refs, none-refs, ref-at, name-of}
 use Rattle.tables.proofs.refs.without.Statement.{statement}
 use Rattle.tables.proofs.refs.without.Tie as tie
 
 abbrev Inv-loop : tie.InvT-loop
-Inv-loop name t n r₀ i₀ r i = Kept refs laidRefs (λ x. not (hasName (readRefName name) x)) t r i
+Inv-loop name t n r₀ i₀ r i = Filtered refs laidRefs (λ x. not (hasName (readRefName name) x)) t r i
 
 abbrev μ-loop : tie.MeasureT-loop
 μ-loop name t n r₀ i₀ r i = n - i
@@ -23,7 +23,7 @@ without-spec =
     Inv-loop
     μ-loop
     (λ c κs. search needs)
-    (λ c. kept-start made-refs (tidy-refs (c .before .pre .0)) (c .blank .ensures ∙ none-refs))
+    (λ c. filtered-start made-refs (tidy-refs (c .before .pre .0)) (c .blank .ensures ∙ none-refs))
     (λ c. search needs)
     (λ c. search needs)
     (λ c. search needs)
@@ -34,8 +34,8 @@ without-spec =
     (λ c. search needs)
     (λ c. search needs)
     (λ c. let b = c .before .before .before .before in
-    kept-more made-refs (tidy-refs (b .before .before .before .pre .0)) _ (b .loop-test .taken) (b .before .loop .inv) (ap not (sym (c .before .same-name .ensures)) ∙ c .if1 .taken) refl refl)
+    filtered-more made-refs (tidy-refs (b .before .before .before .pre .0)) _ (b .loop-test .taken) (b .before .loop .inv) (ap not (sym (c .before .same-name .ensures)) ∙ c .if1 .taken) refl refl)
     (λ c. search needs)
     (λ c. let b = c .before .before .before .before in
-    kept-less made-refs (tidy-refs (b .before .before .before .pre .0)) _ (b .loop-test .taken) (b .before .loop .inv) (ap not (sym (c .before .same-name .ensures)) ∙ c .if1 .left))
-    (λ c. kept-end made-refs (tidy-refs (c .before .before .before .pre .0)) (c .loop-test .left) (c .before .loop .inv)))
+    filtered-less made-refs (tidy-refs (b .before .before .before .pre .0)) _ (b .loop-test .taken) (b .before .loop .inv) (ap not (sym (c .before .same-name .ensures)) ∙ c .if1 .left))
+    (λ c. filtered-end made-refs (tidy-refs (c .before .before .before .pre .0)) (c .loop-test .left) (c .before .loop .inv)))

@@ -6,7 +6,8 @@ use Rattle.rules.specs.Words.{sameList}
 use Rattle.rules.specs.SchemaUpdates.{sameSchemaField}
 use Rattle.rules.specs.Layout.{readSchema}
 use Rattle.tables.proofs.Search.{Sought, sought-start, sought-here, sought-on, sought-end}
-use Rattle.tables.proofs.Each.{schemas, tidy-schemas, schema-at}
+use Rattle.tables.proofs.Table.{within}
+use Rattle.tables.proofs.Each.{schemas, tidy-schemas, schema-at, tidy-schema}
 use Rattle.tables.proofs.schemas.find_equal.Statement.{statement}
 use Rattle.tables.proofs.schemas.find_equal.Tie as tie
 
@@ -26,7 +27,7 @@ find-equal-spec =
     (λ c. search needs)
     (λ c. search needs)
     (λ c κs. let b = c .before in let p = b .before .before .pre in
-    (schema-at (p .0) (b .before .loop .i) _ (b .loop-test .taken), p .1))
+    (within (tidy-schema (schema-at (p .0) (b .before .loop .i) _ (b .loop-test .taken))), within (tidy-schema (p .1))))
     (λ c. let b = c .before .before .before in
     sought-here (tidy-schemas (b .before .before .pre .0)) _ (b .loop-test .taken) (b .before .loop .inv) (sym (c .before .same-fields .ensures) ∙ c .if1 .taken))
     (λ c. search needs)

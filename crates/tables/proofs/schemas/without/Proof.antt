@@ -5,13 +5,13 @@ use mathlib.Core.Bool.{not}
 use borrow.Author.Needs.{needs}
 use Rattle.rules.specs.Words.{isIn}
 use Rattle.rules.specs.Layout.{readSchemaIds, laidSchemas}
-use Rattle.tables.proofs.Filter.{Kept, kept-start, kept-more, kept-less, kept-end}
+use Rattle.tables.proofs.Filter.{Filtered, filtered-start, filtered-more, filtered-less, filtered-end}
 use Rattle.tables.proofs.Each.{schemas, tidy-schemas, made-schemas, none-schemas}
 use Rattle.tables.proofs.schemas.without.Statement.{statement}
 use Rattle.tables.proofs.schemas.without.Tie as tie
 
 abbrev Inv-loop : tie.InvT-loop
-Inv-loop ids t n r₀ i₀ r i = Kept schemas laidSchemas (λ x. not (isIn (readSchemaIds ids) (x .id))) t r i
+Inv-loop ids t n r₀ i₀ r i = Filtered schemas laidSchemas (λ x. not (isIn (readSchemaIds ids) (x .id))) t r i
 
 abbrev μ-loop : tie.MeasureT-loop
 μ-loop ids t n r₀ i₀ r i = n - i
@@ -23,7 +23,7 @@ without-spec =
     Inv-loop
     μ-loop
     (λ c κs. search needs)
-    (λ c. kept-start made-schemas (tidy-schemas (c .before .pre .0)) (c .blank .ensures ∙ none-schemas))
+    (λ c. filtered-start made-schemas (tidy-schemas (c .before .pre .0)) (c .blank .ensures ∙ none-schemas))
     (λ c. search needs)
     (λ c. search needs)
     (λ c. search needs)
@@ -33,8 +33,8 @@ without-spec =
     (λ c. search needs)
     (λ c. search needs)
     (λ c. let b = c .before .before .before .before in
-    kept-more made-schemas (tidy-schemas (b .before .before .before .pre .0)) _ (b .loop-test .taken) (b .before .loop .inv) (ap not (sym (c .before .has-schema .ensures)) ∙ c .if1 .taken) refl refl)
+    filtered-more made-schemas (tidy-schemas (b .before .before .before .pre .0)) _ (b .loop-test .taken) (b .before .loop .inv) (ap not (sym (c .before .has-schema .ensures)) ∙ c .if1 .taken) refl refl)
     (λ c. search needs)
     (λ c. let b = c .before .before .before .before in
-    kept-less made-schemas (tidy-schemas (b .before .before .before .pre .0)) _ (b .loop-test .taken) (b .before .loop .inv) (ap not (sym (c .before .has-schema .ensures)) ∙ c .if1 .left))
-    (λ c. kept-end made-schemas (tidy-schemas (c .before .before .before .pre .0)) (c .loop-test .left) (c .before .loop .inv)))
+    filtered-less made-schemas (tidy-schemas (b .before .before .before .pre .0)) _ (b .loop-test .taken) (b .before .loop .inv) (ap not (sym (c .before .has-schema .ensures)) ∙ c .if1 .left))
+    (λ c. filtered-end made-schemas (tidy-schemas (c .before .before .before .pre .0)) (c .loop-test .left) (c .before .loop .inv)))

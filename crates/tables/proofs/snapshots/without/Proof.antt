@@ -5,13 +5,13 @@ use mathlib.Core.Bool.{not}
 use borrow.Author.Needs.{needs}
 use Rattle.rules.specs.Words.{isIn}
 use Rattle.rules.specs.Layout.{readSnapshotIds, laidSnapshots}
-use Rattle.tables.proofs.Filter.{Kept, kept-start, kept-more, kept-less, kept-end}
+use Rattle.tables.proofs.Filter.{Filtered, filtered-start, filtered-more, filtered-less, filtered-end}
 use Rattle.tables.proofs.Each.{snapshots, tidy-snapshots, made-snapshots, none-snapshots}
 use Rattle.tables.proofs.snapshots.without.Statement.{statement}
 use Rattle.tables.proofs.snapshots.without.Tie as tie
 
 abbrev Inv-loop : tie.InvT-loop
-Inv-loop ids t n r₀ i₀ r i = Kept snapshots laidSnapshots (λ x. not (isIn (readSnapshotIds ids) (x .id))) t r i
+Inv-loop ids t n r₀ i₀ r i = Filtered snapshots laidSnapshots (λ x. not (isIn (readSnapshotIds ids) (x .id))) t r i
 
 abbrev μ-loop : tie.MeasureT-loop
 μ-loop ids t n r₀ i₀ r i = n - i
@@ -23,7 +23,7 @@ without-spec =
     Inv-loop
     μ-loop
     (λ c κs. search needs)
-    (λ c. kept-start made-snapshots (tidy-snapshots (c .before .pre .0)) (c .blank .ensures ∙ none-snapshots))
+    (λ c. filtered-start made-snapshots (tidy-snapshots (c .before .pre .0)) (c .blank .ensures ∙ none-snapshots))
     (λ c. search needs)
     (λ c. search needs)
     (λ c. search needs)
@@ -33,8 +33,8 @@ without-spec =
     (λ c. search needs)
     (λ c. search needs)
     (λ c. let b = c .before .before .before .before in
-    kept-more made-snapshots (tidy-snapshots (b .before .before .before .pre .0)) _ (b .loop-test .taken) (b .before .loop .inv) (ap not (sym (c .before .has-snapshot .ensures)) ∙ c .if1 .taken) refl refl)
+    filtered-more made-snapshots (tidy-snapshots (b .before .before .before .pre .0)) _ (b .loop-test .taken) (b .before .loop .inv) (ap not (sym (c .before .has-snapshot .ensures)) ∙ c .if1 .taken) refl refl)
     (λ c. search needs)
     (λ c. let b = c .before .before .before .before in
-    kept-less made-snapshots (tidy-snapshots (b .before .before .before .pre .0)) _ (b .loop-test .taken) (b .before .loop .inv) (ap not (sym (c .before .has-snapshot .ensures)) ∙ c .if1 .left))
-    (λ c. kept-end made-snapshots (tidy-snapshots (c .before .before .before .pre .0)) (c .loop-test .left) (c .before .loop .inv)))
+    filtered-less made-snapshots (tidy-snapshots (b .before .before .before .pre .0)) _ (b .loop-test .taken) (b .before .loop .inv) (ap not (sym (c .before .has-snapshot .ensures)) ∙ c .if1 .left))
+    (λ c. filtered-end made-snapshots (tidy-snapshots (c .before .before .before .pre .0)) (c .loop-test .left) (c .before .loop .inv)))

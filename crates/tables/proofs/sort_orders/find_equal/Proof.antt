@@ -6,7 +6,8 @@ use Rattle.rules.specs.Words.{sameList}
 use Rattle.rules.specs.OrderUpdates.{sameSortField}
 use Rattle.rules.specs.Layout.{readSortOrder}
 use Rattle.tables.proofs.Search.{Sought, sought-start, sought-here, sought-on, sought-end}
-use Rattle.tables.proofs.Each.{sortOrders, tidy-sort-orders, order-at}
+use Rattle.tables.proofs.Table.{within}
+use Rattle.tables.proofs.Each.{sortOrders, tidy-sort-orders, order-at, tidy-sort-order}
 use Rattle.tables.proofs.sort_orders.find_equal.Statement.{statement}
 use Rattle.tables.proofs.sort_orders.find_equal.Tie as tie
 
@@ -26,11 +27,11 @@ find-equal-spec =
     (λ c. search needs)
     (λ c. search needs)
     (λ c κs. let b = c .before in let p = b .before .before .pre in
-    (order-at (p .0) (b .before .loop .i) _ (b .loop-test .taken), p .1))
+    (within (tidy-sort-order (order-at (p .0) (b .before .loop .i) _ (b .loop-test .taken))), within (tidy-sort-order (p .1))))
     (λ c. let b = c .before .before .before in
-    sought-here (tidy-sort-orders (b .before .before .pre .0)) _ (b .loop-test .taken) (b .before .loop .inv) (sym (c .before .same-fields .ensures) ∙ c .if1 .taken))
+    sought-here (tidy-sort-orders (b .before .before .pre .0)) _ (b .loop-test .taken) (b .before .loop .inv) (sym (c .before .same-sort-fields .ensures) ∙ c .if1 .taken))
     (λ c. search needs)
     (λ c. search needs)
     (λ c. let b = c .before .before .before in
-    sought-on (tidy-sort-orders (b .before .before .pre .0)) _ (b .loop-test .taken) (b .before .loop .inv) (sym (c .before .same-fields .ensures) ∙ c .if1 .left))
+    sought-on (tidy-sort-orders (b .before .before .pre .0)) _ (b .loop-test .taken) (b .before .loop .inv) (sym (c .before .same-sort-fields .ensures) ∙ c .if1 .left))
     (λ c. sought-end (tidy-sort-orders (c .before .before .pre .0)) (c .loop-test .left) (c .before .loop .inv)))

@@ -5,13 +5,13 @@ use mathlib.Core.Bool.{not}
 use borrow.Author.Needs.{needs}
 use Rattle.rules.specs.StatisticsUpdates.{isOf}
 use Rattle.rules.specs.Layout.{laidStatistics}
-use Rattle.tables.proofs.Filter.{Kept, kept-start, kept-more, kept-less, kept-end}
+use Rattle.tables.proofs.Filter.{Filtered, filtered-start, filtered-more, filtered-less, filtered-end}
 use Rattle.tables.proofs.Each.{statistics, tidy-statistics, made-statistics, none-statistics}
 use Rattle.tables.proofs.statistics.without.Statement.{statement}
 use Rattle.tables.proofs.statistics.without.Tie as tie
 
 abbrev Inv-loop : tie.InvT-loop
-Inv-loop id t n r₀ i₀ r i = Kept statistics laidStatistics (λ x. not (isOf (id .0) x)) t r i
+Inv-loop id t n r₀ i₀ r i = Filtered statistics laidStatistics (λ x. not (isOf (id .0) x)) t r i
 
 abbrev μ-loop : tie.MeasureT-loop
 μ-loop id t n r₀ i₀ r i = n - i
@@ -23,7 +23,7 @@ without-spec =
     Inv-loop
     μ-loop
     (λ c κs. search needs)
-    (λ c. kept-start made-statistics (tidy-statistics (c .before .pre)) (c .blank .ensures ∙ none-statistics))
+    (λ c. filtered-start made-statistics (tidy-statistics (c .before .pre)) (c .blank .ensures ∙ none-statistics))
     (λ c. search needs)
     (λ c. search needs)
     (λ c. search needs)
@@ -33,8 +33,8 @@ without-spec =
     (λ c. search needs)
     (λ c. search needs)
     (λ c. let b = c .before .before .before .before in
-    kept-more made-statistics (tidy-statistics (b .before .before .before .pre)) _ (b .loop-test .taken) (b .before .loop .inv) (ap not (sym (c .before .same-snapshot .ensures)) ∙ c .if1 .taken) refl refl)
+    filtered-more made-statistics (tidy-statistics (b .before .before .before .pre)) _ (b .loop-test .taken) (b .before .loop .inv) (ap not (sym (c .before .same-snapshot .ensures)) ∙ c .if1 .taken) refl refl)
     (λ c. search needs)
     (λ c. let b = c .before .before .before .before in
-    kept-less made-statistics (tidy-statistics (b .before .before .before .pre)) _ (b .loop-test .taken) (b .before .loop .inv) (ap not (sym (c .before .same-snapshot .ensures)) ∙ c .if1 .left))
-    (λ c. kept-end made-statistics (tidy-statistics (c .before .before .before .pre)) (c .loop-test .left) (c .before .loop .inv)))
+    filtered-less made-statistics (tidy-statistics (b .before .before .before .pre)) _ (b .loop-test .taken) (b .before .loop .inv) (ap not (sym (c .before .same-snapshot .ensures)) ∙ c .if1 .left))
+    (λ c. filtered-end made-statistics (tidy-statistics (c .before .before .before .pre)) (c .loop-test .left) (c .before .loop .inv)))

@@ -1,4 +1,4 @@
--- The file name is the one that `FileName::blank` gives, and the time is 0.
+-- The file name is the one that `Text::blank` gives, and the time is 0.
 use Rattle.records.proofs.metadata.MetadataLogEntry.blank.Statement.{statement}
 use Rattle.records.proofs.metadata.MetadataLogEntry.blank.Tie as tie
 

@@ -1,4 +1,4 @@
--- The location is the one that `Location::blank` gives, and every other field is written out.
+-- The location is the one that `Text::blank` gives, and every other field is written out.
 use Rattle.records.specs.Blanks.{noFields}
 use Rattle.records.proofs.metadata.SingleFields.blank.Statement.{statement}
 use Rattle.records.proofs.metadata.SingleFields.blank.Tie as tie

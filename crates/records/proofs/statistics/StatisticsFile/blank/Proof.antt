@@ -1,4 +1,4 @@
--- The path is the one that `FileName::blank` gives, and both numbers are 0.
+-- The path is the one that `Text::blank` gives, and both numbers are 0.
 use Rattle.records.proofs.statistics.StatisticsFile.blank.Statement.{statement}
 use Rattle.records.proofs.statistics.StatisticsFile.blank.Tie as tie
 

@@ -1,0 +1,50 @@
+// Bytes: a length, then that many numbers from 0 to 255. The slots there are hold the first of them, and the length is kept as it came.
+use records::capacities::REF_NAME;
+use records::capacities::TEXT;
+use records::text::RefName;
+use records::text::Text;
+use slot_bounds::store_byte;
+use tokens::field::read_count;
+use tokens::field::read_u8;
+use tokens::input::Input;
+use tokens::input::Place;
+use tokens::input::is_good;
+
+fn read_slots(input: &mut Input, place: &mut Place, slots: &mut [u8], len: usize) {
+    let mut i = 0;
+    while i < len && is_good(place) {
+        let byte = read_u8(input, place);
+        store_byte(slots, i, byte);
+        i += 1;
+    }
+}
+
+fn read_bytes(input: &mut Input, place: &mut Place, slots: &mut [u8]) -> usize {
+    let len = read_count(input, place);
+    read_slots(input, place, slots, len);
+    len
+}
+
+pub fn read_uuid(input: &mut Input, place: &mut Place) -> [u8; 16] {
+    let mut uuid = [0u8; 16];
+    read_slots(input, place, &mut uuid, 16);
+    uuid
+}
+
+pub fn read_ref_name(input: &mut Input, place: &mut Place) -> RefName {
+    let mut bytes = [0u8; REF_NAME];
+    let len = read_bytes(input, place, &mut bytes);
+    RefName { bytes, len }
+}
+
+pub fn read_location(input: &mut Input, place: &mut Place) -> Text {
+    let mut bytes = [0u8; TEXT];
+    let len = read_bytes(input, place, &mut bytes);
+    Text { bytes, len }
+}
+
+pub fn read_file_name(input: &mut Input, place: &mut Place) -> Text {
+    let mut bytes = [0u8; TEXT];
+    let len = read_bytes(input, place, &mut bytes);
+    Text { bytes, len }
+}

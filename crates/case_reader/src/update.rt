@@ -1,0 +1,147 @@
+// Updates: a kind, then what that kind uses. Nothing follows an unknown kind.
+use crate::reference::read_reference;
+use crate::schema::read_schema;
+use crate::schema::read_schema_ids;
+use crate::snapshot::read_snapshot;
+use crate::snapshot::read_snapshot_ids;
+use crate::sort_order::read_sort_order;
+use crate::statistics::read_statistics_file;
+use crate::text::read_location;
+use crate::text::read_ref_name;
+use crate::text::read_uuid;
+use records::capacities::UPDATES;
+use records::counters::SchemaId;
+use records::counters::SnapshotId;
+use records::counters::SortOrderId;
+use records::update::ADD_SCHEMA;
+use records::update::ADD_SNAPSHOT;
+use records::update::ADD_SORT_ORDER;
+use records::update::ASSIGN_UUID;
+use records::update::REMOVE_PARTITION_STATISTICS;
+use records::update::REMOVE_REF;
+use records::update::REMOVE_SCHEMAS;
+use records::update::REMOVE_SNAPSHOTS;
+use records::update::REMOVE_STATISTICS;
+use records::update::SET_BRANCH_SNAPSHOT;
+use records::update::SET_CURRENT_SCHEMA;
+use records::update::SET_DEFAULT_SORT_ORDER;
+use records::update::SET_LOCATION;
+use records::update::SET_PARTITION_STATISTICS;
+use records::update::SET_REF;
+use records::update::SET_STATISTICS;
+use records::update::TableUpdate;
+use records::update::UPGRADE_FORMAT_VERSION;
+use records::update::UpdateList;
+use tokens::field::read_count;
+use tokens::field::read_i32;
+use tokens::field::read_i64;
+use tokens::field::read_u8;
+use tokens::input::Input;
+use tokens::input::Place;
+use tokens::input::is_good;
+
+// Kinds 1 to 6.
+fn read_early_kind(kind: u8, input: &mut Input, place: &mut Place) -> TableUpdate {
+    let mut u = TableUpdate::blank();
+    u.kind = kind;
+    let mut fields = u.fields;
+    let mut snapshots = u.snapshots;
+    let mut refs = u.refs;
+    match kind {
+        ASSIGN_UUID => {
+            let uuid = read_uuid(input, place);
+            fields.uuid = uuid;
+        }
+        UPGRADE_FORMAT_VERSION => fields.format_version = read_u8(input, place),
+        SET_LOCATION => fields.location = read_location(input, place),
+        ADD_SNAPSHOT => snapshots.added = read_snapshot(input, place),
+        SET_BRANCH_SNAPSHOT => {
+            refs.name = read_ref_name(input, place);
+            snapshots.added = read_snapshot(input, place);
+        }
+        REMOVE_SNAPSHOTS => snapshots.removed = read_snapshot_ids(input, place),
+        _ => {}
+    }
+    u.fields = fields;
+    u.snapshots = snapshots;
+    u.refs = refs;
+    u
+}
+
+// Kinds 7 to 13.
+fn read_late_kind(kind: u8, input: &mut Input, place: &mut Place) -> TableUpdate {
+    let mut u = TableUpdate::blank();
+    u.kind = kind;
+    let mut refs = u.refs;
+    let mut schemas = u.schemas;
+    let mut orders = u.sort_orders;
+    match kind {
+        SET_REF => {
+            refs.name = read_ref_name(input, place);
+            refs.reference = read_reference(input, place);
+        }
+        REMOVE_REF => refs.name = read_ref_name(input, place),
+        ADD_SCHEMA => schemas.added = read_schema(input, place),
+        SET_CURRENT_SCHEMA => {
+            let id = SchemaId(read_i32(input, place));
+            schemas.chosen = id;
+        }
+        REMOVE_SCHEMAS => schemas.removed = read_schema_ids(input, place),
+        ADD_SORT_ORDER => orders.added = read_sort_order(input, place),
+        SET_DEFAULT_SORT_ORDER => {
+            let id = SortOrderId(read_i64(input, place));
+            orders.chosen = id;
+        }
+        _ => {}
+    }
+    u.refs = refs;
+    u.schemas = schemas;
+    u.sort_orders = orders;
+    u
+}
+
+// Kinds 14 to 17.
+fn read_statistics_kind(kind: u8, input: &mut Input, place: &mut Place) -> TableUpdate {
+    let mut u = TableUpdate::blank();
+    u.kind = kind;
+    let mut statistics = u.statistics;
+    match kind {
+        SET_STATISTICS | SET_PARTITION_STATISTICS => {
+            statistics.file = read_statistics_file(input, place);
+        }
+        REMOVE_STATISTICS | REMOVE_PARTITION_STATISTICS => {
+            let id = SnapshotId(read_i64(input, place));
+            statistics.removed = id;
+        }
+        _ => {}
+    }
+    u.statistics = statistics;
+    u
+}
+
+fn read_update(input: &mut Input, place: &mut Place) -> TableUpdate {
+    let kind = read_u8(input, place);
+    if kind < SET_REF {
+        read_early_kind(kind, input, place)
+    } else if kind < SET_STATISTICS {
+        read_late_kind(kind, input, place)
+    } else {
+        read_statistics_kind(kind, input, place)
+    }
+}
+
+pub fn read_updates(input: &mut Input, place: &mut Place) -> UpdateList {
+    let mut list = UpdateList::blank();
+    let count = read_count(input, place);
+    let mut i = 0;
+    while i < count && is_good(place) {
+        let update = read_update(input, place);
+        let at = i;
+        i += 1;
+        if at < UPDATES {
+            list.items[at] = update;
+        }
+    }
+    list.count = count;
+    list
+}

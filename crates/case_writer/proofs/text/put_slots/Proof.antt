@@ -1,0 +1,26 @@
+-- No more bytes are written than there are slots.
+use Prim.Native.Nat.{_-_}
+use borrow.Author.Needs.{needs}
+use Rattle.case_writer.proofs.text.put_slots.Statement.{statement}
+use Rattle.case_writer.proofs.text.put_slots.Tie as tie
+
+abbrev Inv-loop : tie.InvT-loop
+Inv-loop output₀ end₀ slots len n i₀ output end i = Unit {0}
+
+abbrev μ-loop : tie.MeasureT-loop
+μ-loop output₀ end₀ slots len n i₀ output end i = n - i
+
+pub put-slots-spec : {M : Type 1} → statement M
+put-slots-spec =
+    tie.close
+    (tie.spec
+    Inv-loop
+    μ-loop
+    (λ c κs. search needs)
+    (λ c. search needs)
+    (λ c. search needs)
+    (λ c κs. search needs)
+    (λ c. search needs)
+    (λ c. search needs)
+    (λ c. search needs)
+    (λ c. search needs))

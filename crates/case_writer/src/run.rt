@@ -1,0 +1,18 @@
+// What a run answers.
+use crate::metadata::put_metadata;
+use crate::table::put_table;
+use crate::update::put_updates;
+use cards::table::OF_FILES;
+use cards::table::only_files;
+use records::run::Answer;
+use tokens::number::put_count;
+use tokens::number::put_u8;
+use tokens::output::Output;
+
+pub fn put_answer(output: &mut Output, end: &mut usize, answer: Answer) {
+    put_u8(output, end, answer.number);
+    put_count(output, end, answer.place);
+    put_metadata(output, end, answer.metadata);
+    put_updates(output, end, answer.changes);
+    put_table(output, end, only_files(answer.expired), OF_FILES);
+}

@@ -1,0 +1,84 @@
+// What each command wants.
+use crate::turn::COMMANDS;
+use crate::turn::HELP;
+use command::read_word;
+use command::word_count;
+use plaintext::name::say_name;
+use plaintext::text::say;
+use plaintext::text::say_between;
+use tokens::output::Output;
+
+// A part for each command, in the order of their numbers.
+pub fn say_help(output: &mut Output, end: &mut usize, command: usize) {
+    let parts = b"soritauba COMMAND [WORDS]\n\
+        \x20 run        what a run makes of last session's metadata, in plain words\n\
+        \x20 replay     whether a stored log leads from one metadata to another\n\
+        \x20 current    which snapshot was current at a moment, or in a day\n\
+        \x20 examples   the examples P1 to P12 of the requirements\n\
+        \x20 tour       every command on example files, each with what is asked\n\
+        \x20 cases      answers to cases, in numbers\n\
+        \x20 repeat     one case answered many times, to time it\n\
+        \x20 dates      the date of each time\n\
+        \x20 help       this list; help COMMAND, or COMMAND --help: what a command wants\n\
+        |soritauba run [FILE..]: what a run makes of last session's metadata, in plain words\n\
+        It reads runs in the case format (docs/CASES.md), any number of them: cases of kinds 1 and 9.\n\
+        For each it prints the metadata that is given, what is asked, and the answer: accepted, with what came of it, or refused, with the reason.\n\
+        Each file is read by itself, in the order given, up to the first that can not be read; without files, standard input is.\n\
+        Example: ./soritauba run crates/soritauba/data/first-session.case\n\
+        |soritauba replay [FILE..]: whether a stored log leads from a starting metadata to an ending one\n\
+        It reads questions in the case format (docs/CASES.md), any number of them: a run, whose updates are the log, then the ending metadata.\n\
+        For each it prints a line: the log leads there; or what differs first; or the refusal, with the reason.\n\
+        Each file is read by itself, in the order given, up to the first that can not be read; without files, standard input is.\n\
+        Example: ./soritauba replay crates/soritauba/data/stored-log.case\n\
+        |soritauba current [--in FILE] MOMENT..: which snapshot was current at each moment\n\
+        A moment is one of\n\
+        \x20 2025-03-12                a day in UTC: every snapshot that was current in it\n\
+        \x20 2025-03-12T10:00:00Z      a moment in UTC; seconds and Z can be left out, and .123 can follow the seconds\n\
+        \x20 2025-03-12T12:00+02:00    a moment by a clock ahead of UTC, or behind it as in -05:30\n\
+        \x20 1741773600000             milliseconds since 1970\n\
+        The metadata is in the case format (docs/CASES.md), in the file or, without one, on standard input.\n\
+        Example: ./soritauba current --in crates/soritauba/data/register.metadata 2025-03-12\n\
+        |soritauba examples [NAME..]: the examples of the requirements\n\
+        It takes names from P1 to P12 and prints a line for each; without names it prints all, each with its name. It reads nothing.\n\
+        Example: ./soritauba examples P3\n\
+        |soritauba tour [all]: every command on example files, each with what is asked\n\
+        It reads the files of crates/soritauba/data, in the folder in which it is started.\n\
+        With the word all, every other example file follows.\n\
+        |soritauba cases [FILE..]: answers of the run, the walks and the small functions, in numbers\n\
+        It reads cases in the case format (docs/CASES.md), any number of them, and prints for each a line with its answer.\n\
+        Each file is read by itself, in the order given, up to the first that can not be read; without files, standard input is.\n\
+        Example: ./soritauba cases crates/soritauba/data/small.cases\n\
+        |soritauba repeat [FILE..]: one case answered many times, to time the calls\n\
+        It reads a count and a case in the case format (docs/CASES.md): a run, a walk over ids or over records, or, as kind 0, the close of a run.\n\
+        It prints the last answer, as cases does. What stands after the case is not read.\n\
+        Example: ./soritauba repeat crates/soritauba/data/repeated.case\n\
+        |soritauba dates [FILE..]: the date of each time\n\
+        It reads times in milliseconds since 1970, any number of them, and prints for each a line: its date, and the time of that date; none outside the years 1 to 9999.\n\
+        Example: ./soritauba dates crates/soritauba/data/some.times\n";
+    say_between(output, end, parts, b'|', command);
+}
+
+// The list, and below it, as the last line, what the word at a place of the command line is.
+pub fn say_unknown(line: &[u8], at: usize, output: &mut Output, end: &mut usize) {
+    let mut word = io::buffer();
+    let len = read_word(line, at, &mut word);
+    say_help(output, end, HELP);
+    if at < word_count(line) {
+        say(output, end, b"unknown command: ");
+        say_name(output, end, &word[..len], len);
+        say(output, end, b"\n");
+    } else {
+        say(output, end, b"no command is given\n");
+    }
+}
+
+// What `help` says: of the command that its word names, or the list.
+pub fn say_help_on(command: usize, line: &[u8], output: &mut Output, end: &mut usize) {
+    if command < COMMANDS {
+        say_help(output, end, command);
+    } else if word_count(line) > 1 {
+        say_unknown(line, 1, output, end);
+    } else {
+        say_help(output, end, HELP);
+    }
+}

@@ -1,0 +1,2 @@
+-- When two records are the same, in every field and slot.
+pub mod Same

@@ -1,0 +1,33 @@
+// Texts compared: all their bytes, and how many of them count.
+ghost use mathlib.Core.Path.{_≡_};
+ghost use Rattle.rules.specs.Words.{sameBytes};
+ghost use Rattle.equality.specs.Same.{sameRefName, sameText};
+use primitives::names::same_bytes;
+use records::text::RefName;
+use records::text::Text;
+
+pub fn same_uuid(a: [u8; 16], b: [u8; 16]) -> bool
+    ensures { λ r. ⌜ r ≡ sameBytes a b ⌝ }
+{
+    same_bytes(&a, &b)
+}
+
+pub fn same_ref_name(a: RefName, b: RefName) -> bool
+    ensures { λ r. ⌜ r ≡ sameRefName a b ⌝ }
+{
+    let m = a.len;
+    let n = b.len;
+    let x = a.bytes;
+    let y = b.bytes;
+    (m == n) & same_bytes(&x, &y)
+}
+
+pub fn same_text(a: Text, b: Text) -> bool
+    ensures { λ r. ⌜ r ≡ sameText a b ⌝ }
+{
+    let m = a.len;
+    let n = b.len;
+    let x = a.bytes;
+    let y = b.bytes;
+    (m == n) & same_bytes(&x, &y)
+}

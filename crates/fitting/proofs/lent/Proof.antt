@@ -1,8 +1,0 @@
--- What has a slot is counted.
-use borrow.Author.Needs.{needs}
-use Rattle.fitting.proofs.Counted.{counted}
-use Rattle.fitting.proofs.lent.Statement.{statement}
-use Rattle.fitting.proofs.lent.Tie as tie
-
-pub lent-spec : {M : Type 1} → statement M
-lent-spec = tie.close (tie.spec (λ c κs. search needs) (λ c. counted _ _ (search needs)))

@@ -1,8 +1,0 @@
--- The bits are 0 exactly if the number is.
-use borrow.Author.Needs.{sfits-of}
-use Rattle.formed.proofs.Signs.{zero-bits}
-use Rattle.formed.proofs.bounds.schema_id_zero.Statement.{statement}
-use Rattle.formed.proofs.bounds.schema_id_zero.Tie as tie
-
-pub schema-id-zero-spec : {M : Type 1} → statement M
-schema-id-zero-spec = tie.close (tie.spec (λ c. zero-bits (c .before .args .x .0) (sfits-of (c .struct-told .given .0 .1))))

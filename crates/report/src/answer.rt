@@ -1,0 +1,42 @@
+// The answer: accepted, with this session's metadata, changes and expired metadata files; or refused, and why.
+use crate::conditions::say_removes_and_adds;
+use crate::conditions::say_with_conditions;
+use faults::fault;
+use faults::start_fault;
+use plaintext::metadata::say_files;
+use plaintext::reply::say_refusal;
+use plaintext::text::say;
+use plaintext::update::say_updates;
+use records::metadata::TableMetadata;
+use records::replies::START_NOT_FORMED;
+use records::run::Answer;
+use records::run::RunTerms;
+use tokens::output::Output;
+
+fn say_accepted(output: &mut Output, end: &mut usize, answer: Answer) {
+    say(output, end, b"accepted\nthis session's metadata\n");
+    say_with_conditions(output, end, answer.metadata);
+    say(output, end, b"what changed\n");
+    say_updates(output, end, b"change log", answer.changes);
+    say_removes_and_adds(output, end, histories::removes_and_adds(answer.changes));
+    say_files(output, end, b"expired metadata files", answer.expired);
+}
+
+// The fault of a start for which a run is refused with this number.
+pub fn fault_of(number: u8, metadata: TableMetadata, terms: RunTerms) -> u8 {
+    if number == START_NOT_FORMED {
+        return start_fault(metadata, terms);
+    }
+    fault::NONE
+}
+
+// A refused run gives back the metadata that it started from.
+pub fn say_answer(output: &mut Output, end: &mut usize, terms: RunTerms, answer: Answer) {
+    if answer.number == 0 {
+        say_accepted(output, end, answer);
+        return;
+    }
+    let found = fault_of(answer.number, answer.metadata, terms);
+    say_refusal(output, end, answer.number, answer.place, found);
+    say(output, end, b"\nthe metadata stays as it was\n");
+}

@@ -1,0 +1,128 @@
+-- Adding, choosing and removing schemas is replayed by what is logged.
+use mathlib.Core.Path.{_≡_, refl}
+use mathlib.Core.Bool.{Bool, true, false, cond, not}
+use mathlib.Core.List.{List, [], _∷_, _++_, append-nil}
+use mathlib.Core.Option.{Option, none, some}
+use lib.Dec.{leb}
+use lib.IntN.{ℤ, sucℤ}
+use lib.ListN.{length}
+use lib.Signed.{ltZ, nonNeg}
+use Rattle.rules.specs.Words.{eqZ, someWith, all, keep, isEmpty, isIn, unequal, highest, ascending}
+use Rattle.rules.specs.Replies.{currentSchemaRemoved}
+use Rattle.rules.specs.Capacities.{schemaRoom, schemaFieldRoom}
+use Rattle.rules.specs.Register.{Schema, Update, Terms, State, withSchemas, withMetadata, withCurrentSchema, onFields, logged}
+use Rattle.rules.specs.Register.Update.{AddSchema, SetCurrentSchema, RemoveSchemas}
+use Rattle.rules.specs.WellFormed.{atLeastOne, fieldIds, schemaFormed, schemaBelow, schemasFormed, updateFormed}
+use Rattle.rules.specs.SchemaUpdates.{reusedSchema, schemaIds, addedSchema, addSchemaChecks, reuseSchema, newSchema, addSchema, chosen, choiceLogged, holdsSchema, setCurrentSchemaChecks, setCurrentSchema, removeSchemasChecks, heldSchemas, removeSchemas}
+use Rattle.rules.specs.Updates.{checks, updateNumber, effect}
+use Rattle.rules.specs.Replay.{strip}
+use Rattle.rules.proofs.Checks.{parts, whole, passed}
+use Rattle.rules.proofs.Orders.{highest-nonNeg, suc-nonNeg}
+use Rattle.rules.proofs.Tables.{byKey, table-parts}
+use Rattle.rules.proofs.Sound.Metadata.{Sound}
+use Rattle.rules.proofs.Replay.Keys.{held-formed, held-not-in, held-again, others-again, none-held}
+use Rattle.rules.proofs.Sound.Updates.{accepted-form, accepted-checks}
+use Rattle.rules.proofs.Replay.Choices.{Rechosen, rechosen}
+use Rattle.rules.proofs.Replay.Steps.{withLog, accepted-if, Replays, nothing, once}
+
+-- ---- add schema
+
+-- the schema with another id
+abbrev numbered-as : ℤ → Schema → Schema
+numbered-as id s = record { id = id; fields = s .fields }
+
+renumbered-formed : (id : ℤ) (s : Schema) → nonNeg id ≡ true → schemaFormed s ≡ true → schemaFormed (numbered-as id s) ≡ true
+renumbered-formed id s n h =
+    let rest : List Bool = leb (length (s .fields)) schemaFieldRoom ∷ all atLeastOne (fieldIds s) ∷ unequal (fieldIds s) ∷ [] in
+    whole (nonNeg id) rest (n, parts (nonNeg (s .id)) rest h .1)
+
+-- neither the checks nor the search for an equal schema look at the offered id
+renumbered-accepted : (terms : Terms) (id : ℤ) (s : Schema) (st : State) → nonNeg id ≡ true → updateNumber terms (AddSchema s) st ≡ 0 → updateNumber terms (AddSchema (numbered-as id s)) st ≡ 0
+unfolding checks addSchemaChecks updateFormed
+renumbered-accepted terms id s st n e =
+    accepted-if terms (AddSchema (numbered-as id s)) st
+    (renumbered-formed id s n (accepted-form terms (AddSchema s) st e))
+    (accepted-checks terms (AddSchema s) st e)
+
+pub add-schema-replays : (terms : Terms) (s : Schema) (st : State) → updateNumber terms (AddSchema s) st ≡ 0 → Replays terms 1 st (effect terms (AddSchema s) st)
+unfolding effect addSchema strip
+add-schema-replays terms s st e = go (reusedSchema s (st .metadata .schemas)) refl
+  where
+    given : Schema
+    given = numbered-as (sucℤ (highest (schemaIds (st .metadata .schemas)))) s
+
+    fresh : updateNumber terms (AddSchema given) st ≡ 0
+    fresh = renumbered-accepted terms (sucℤ (highest (schemaIds (st .metadata .schemas)))) s st (suc-nonNeg (highest (schemaIds (st .metadata .schemas))) (highest-nonNeg (schemaIds (st .metadata .schemas)))) e
+
+    reuse : (id : ℤ) → reusedSchema s (st .metadata .schemas) ≡ some id → (t : Bool) → someWith (eqZ id) (st .added .schema) ≡ t → Replays terms 1 st (cond t st (logged (AddSchema s) (addedSchema id st)))
+    reuse id q true r = nothing terms 1 st
+    reuse id q false r = once terms (AddSchema s) st (logged (AddSchema s) (addedSchema id st)) refl e refl (λ l h. rw (q, addSchema, r))
+
+    go : (o : Option ℤ) → reusedSchema s (st .metadata .schemas) ≡ o → Replays terms 1 st (elim o [ none ↦ newSchema given st | some id ↦ reuseSchema s id st ])
+    go none q = once terms (AddSchema given) st (newSchema given st) refl fresh refl (λ l h. rw (q, addSchema))
+    go (some id) q = reuse id q (someWith (eqZ id) (st .added .schema)) refl
+
+-- ---- set schema
+
+abbrev schemaLogged : ℤ → State → ℤ
+schemaLogged id st = choiceLogged (chosen id (st .added .schema)) (st .added .schema)
+
+schema-rechosen : (terms : Terms) (id : ℤ) (st : State) → updateNumber terms (SetCurrentSchema id) st ≡ 0
+    → Rechosen id (st .added .schema) (st .metadata .fields .currentSchema) (holdsSchema (st .metadata .schemas)) (schemaLogged id st)
+unfolding checks setCurrentSchemaChecks updateFormed
+schema-rechosen terms id st e =
+    rechosen id (st .added .schema) (st .metadata .fields .currentSchema) (holdsSchema (st .metadata .schemas))
+    (accepted-form terms (SetCurrentSchema id) st e)
+    (accepted-checks terms (SetCurrentSchema id) st e)
+
+schema-accepted : (terms : Terms) (id : ℤ) (st : State) → updateNumber terms (SetCurrentSchema id) st ≡ 0 → updateNumber terms (SetCurrentSchema (schemaLogged id st)) st ≡ 0
+unfolding checks setCurrentSchemaChecks updateFormed
+schema-accepted terms id st e = accepted-if terms (SetCurrentSchema (schemaLogged id st)) st (schema-rechosen terms id st e .formed) (schema-rechosen terms id st e .passes)
+
+pub set-current-schema-replays : (terms : Terms) (id : ℤ) (st : State) → updateNumber terms (SetCurrentSchema id) st ≡ 0 → Replays terms 1 st (effect terms (SetCurrentSchema id) st)
+unfolding effect setCurrentSchema strip
+set-current-schema-replays terms id st e = go (eqZ (chosen id (st .added .schema)) (st .metadata .fields .currentSchema)) refl
+  where
+    set : State
+    set = logged (SetCurrentSchema (schemaLogged id st)) (onFields (withCurrentSchema (chosen id (st .added .schema))) st)
+
+    go : (t : Bool) → eqZ (chosen id (st .added .schema)) (st .metadata .fields .currentSchema) ≡ t → Replays terms 1 st (cond t st set)
+    go true q = nothing terms 1 st
+    go false q = once terms (SetCurrentSchema (schemaLogged id st)) st set refl (schema-accepted terms id st e) refl (λ l h. rw (schema-rechosen terms id st e .same, q))
+
+-- ---- remove schemas
+
+abbrev idOf : Schema → ℤ
+idOf s = s .id
+
+schemas-ascending : (l : List Schema) → schemasFormed l ≡ true → ascending (byKey ltZ idOf) l ≡ true
+unfolding schemasFormed
+schemas-ascending l h = table-parts schemaRoom schemaFormed schemaBelow l h .2
+
+-- the current schema is not in the list, so it is not among the held ids of the list
+held-accepted : (terms : Terms) (ids : List ℤ) (st : State) → updateNumber terms (RemoveSchemas ids) st ≡ 0 → Sound (st .metadata) → updateNumber terms (RemoveSchemas (heldSchemas ids (st .metadata .schemas))) st ≡ 0
+unfolding checks updateFormed removeSchemasChecks
+held-accepted terms ids st e k =
+    let p : isIn ids (st .metadata .fields .currentSchema) ≡ false = passed ((isIn ids (st .metadata .fields .currentSchema), currentSchemaRemoved) ∷ []) refl (accepted-checks terms (RemoveSchemas ids) st e) .0 in
+    accepted-if terms (RemoveSchemas (heldSchemas ids (st .metadata .schemas))) st
+    (held-formed idOf ids (st .metadata .schemas) (schemas-ascending (st .metadata .schemas) (k .schemas)) (accepted-form terms (RemoveSchemas ids) st e))
+    (rw (held-not-in idOf ids (st .metadata .schemas) (st .metadata .fields .currentSchema) p))
+
+pub remove-schemas-replays : (terms : Terms) (ids : List ℤ) (st : State) → updateNumber terms (RemoveSchemas ids) st ≡ 0 → Sound (st .metadata) → Replays terms 1 st (effect terms (RemoveSchemas ids) st)
+unfolding effect removeSchemas strip
+remove-schemas-replays terms ids st e k = go (isEmpty ids)
+  where
+    held : List ℤ
+    held = heldSchemas ids (st .metadata .schemas)
+
+    removed : State
+    removed = logged (RemoveSchemas held) (withMetadata (withSchemas (keep (λ s. not (isIn ids (s .id))) (st .metadata .schemas)) (st .metadata)) st)
+
+    -- with none held the entry is dropped, and nothing has changed
+    again : (t : Bool) → isEmpty held ≡ t → (l : List Update) → removeSchemas held (withLog l st) ≡ withLog (l ++ strip (RemoveSchemas held ∷ [])) removed
+    again true q l = rw (q, append-nil l, none-held idOf ids (st .metadata .schemas) q)
+    again false q l = rw (held-again idOf ids (st .metadata .schemas), q, others-again idOf ids (st .metadata .schemas))
+
+    go : (t : Bool) → Replays terms 1 st (cond t st removed)
+    go true = nothing terms 1 st
+    go false = once terms (RemoveSchemas held) st removed refl (held-accepted terms ids st e k) refl (λ l h. again (isEmpty held) refl l)

@@ -1,8 +1,0 @@
--- The code compares the bits of two numbers that fit, which are equal exactly if the numbers are.
-use borrow.Author.Needs.{sfits-of}
-use Rattle.search.proofs.Bits.{eq-bits}
-use Rattle.tables.proofs.ids.same_field.Statement.{statement}
-use Rattle.tables.proofs.ids.same_field.Tie as tie
-
-pub same-field-spec : {M : Type 1} → statement M
-same-field-spec = tie.close (tie.spec (λ c. let a = c .before .before .args in eq-bits (a .a .0) (a .b .0) (sfits-of (c .before .struct-told .given .0 .1)) (sfits-of (c .struct-told2 .given .0 .1))))

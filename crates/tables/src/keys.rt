@@ -1,0 +1,62 @@
+// Ids of each table as keys, and back.
+ghost use mathlib.Core.Path.{_≡_};
+ghost use mir.Syntax.{w32};
+ghost use mir.Val.{SFits};
+use records::counters::FieldId;
+use records::counters::SchemaId;
+use records::counters::SnapshotId;
+use records::counters::SortOrderId;
+use search::Key;
+
+pub fn snapshot_key(id: SnapshotId) -> Key
+    ensures { λ r. ⌜ r .0 ≡ id .0 ⌝ }
+{
+    let x = id.0;
+    Key(x)
+}
+
+pub fn order_key(id: SortOrderId) -> Key
+    ensures { λ r. ⌜ r .0 ≡ id .0 ⌝ }
+{
+    let x = id.0;
+    Key(x)
+}
+
+pub fn order_id(key: Key) -> SortOrderId
+    ensures { λ r. ⌜ r .0 ≡ key .0 ⌝ }
+{
+    let x = key.0;
+    SortOrderId(x)
+}
+
+pub fn schema_key(id: SchemaId) -> Key
+    ensures { λ r. ⌜ r .0 ≡ id .0 ⌝ }
+    ensures { λ r. ⌜ SFits w32 (r .0) ⌝ }
+{
+    let x = id.0;
+    Key(x as i64)
+}
+
+pub fn schema_id(key: Key) -> SchemaId
+    requires { ⌜ SFits w32 (key .0) ⌝ }
+    ensures { λ r. ⌜ r .0 ≡ key .0 ⌝ }
+{
+    let x = key.0;
+    SchemaId(x as i32)
+}
+
+pub fn field_key(id: FieldId) -> Key
+    ensures { λ r. ⌜ r .0 ≡ id .0 ⌝ }
+    ensures { λ r. ⌜ SFits w32 (r .0) ⌝ }
+{
+    let x = id.0;
+    Key(x as i64)
+}
+
+pub fn field_id(key: Key) -> FieldId
+    requires { ⌜ SFits w32 (key .0) ⌝ }
+    ensures { λ r. ⌜ r .0 ≡ key .0 ⌝ }
+{
+    let x = key.0;
+    FieldId(x as i32)
+}
