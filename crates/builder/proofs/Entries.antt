@@ -14,7 +14,7 @@ use Rattle.records.specs.declared.reference.NamedRef.{NamedRef}
 use Rattle.records.specs.declared.update.TableUpdate.{TableUpdate}
 use Rattle.rules.specs.Words.{any}
 use Rattle.rules.specs.WellFormed.{updateFormed}
-use Rattle.rules.specs.Blanks.{isZero, isZeroZ, isBlankUuid, isTidyText, isBlankText, isTidySnapshot, isBlankSnapshot, isTidySnapshotIds, isBlankSnapshotIds, isTidyRefName, isBlankRefName, isTidyReference, isBlankReference, isTidySchema, isBlankSchema, isTidySchemaIds, isBlankSchemaIds, isTidySortOrder, isBlankSortOrder, isTidyStatisticsFile, isBlankStatisticsFile}
+use Rattle.rules.specs.Blanks.{isZero, isZeroZ, isBlankUuid, isTidyText, isBlankText, isTidySnapshot, isBlankSnapshot, isTidySnapshotIds, isBlankSnapshotIds, isTidyName, isBlankName, isTidyReference, isBlankReference, isTidySchema, isBlankSchema, isTidySchemaIds, isBlankSchemaIds, isTidySortOrder, isBlankSortOrder, isTidyStatisticsFile, isBlankStatisticsFile}
 use Rattle.rules.specs.Kinds.{usedBy, fitsKinds, isTidyFieldsPart, isTidySnapshotsPart, isTidyRefsPart, isTidySchemasPart, isTidySortOrdersPart, isTidyStatisticsPart, isTidyUpdate, readKind, readUpdate, uuidKinds, versionKinds, locationKinds, snapshotKinds, snapshotIdsKinds, refNameKinds, referenceKinds, schemaKinds, schemaIdKinds, schemaIdsKinds, sortOrderKinds, sortOrderIdKinds, statisticsFileKinds, statisticsIdKinds}
 use Rattle.rules.proofs.Checks.{and-left, parts}
 use Rattle.rules.proofs.Slots.Relaid.{zero, zeroZ, blank-uuid, blank-text, blank-ref-name, blank-snapshot, blank-snapshot-ids, blank-reference, blank-schema, blank-schema-ids, blank-sort-order, blank-statistics-file}
@@ -70,9 +70,9 @@ refsBy k p = record { name = used refNameKinds k (p .name) (noRef .name); refere
 own-refs : (k : ℕ) (p : NamedRef) → isTidyRefsPart k p ≡ true → p ≡ refsBy k p
 unfolding isTidyRefsPart
 own-refs k p e =
-    let h = parts (fitsKinds refNameKinds k (isBlankRefName (p .name)) (isTidyRefName (p .name))) (fitsKinds referenceKinds k (isBlankReference (p .reference)) (isTidyReference (p .reference)) ∷ []) e in
+    let h = parts (fitsKinds refNameKinds k (isBlankName (p .name)) (isTidyName (p .name))) (fitsKinds referenceKinds k (isBlankReference (p .reference)) (isTidyReference (p .reference)) ∷ []) e in
     λ i. record {
-      name = fits-is refNameKinds k (isBlankRefName (p .name)) (isTidyRefName (p .name)) (blank-ref-name (p .name)) (h .0) i;
+      name = fits-is refNameKinds k (isBlankName (p .name)) (isTidyName (p .name)) (blank-ref-name (p .name)) (h .0) i;
       reference = fits-is referenceKinds k (isBlankReference (p .reference)) (isTidyReference (p .reference)) (blank-reference (p .reference)) (h .1 .0) i;
     }
 

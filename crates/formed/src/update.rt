@@ -2,8 +2,8 @@
 ghost use mathlib.Core.Path.{_≡_};
 ghost use Rattle.rules.specs.WellFormed.{updateFormed};
 ghost use Rattle.rules.specs.Kinds.{isTidyFieldsPart, isTidySnapshotsPart, isTidyRefsPart, isTidySchemasPart, isTidySortOrdersPart, isTidyStatisticsPart, isTidyUpdate, readKind, readUpdate};
+use crate::blanks::name_fits;
 use crate::blanks::order_fits;
-use crate::blanks::ref_name_fits;
 use crate::blanks::reference_fits;
 use crate::blanks::schema_fits;
 use crate::blanks::schema_ids_fit;
@@ -25,7 +25,7 @@ use crate::record::statistics_file_formed;
 use equality::ids::same_order;
 use equality::ids::same_schema;
 use equality::ids::same_snapshot;
-use records::capacities::REF_NAME;
+use records::capacities::NAME;
 use records::capacities::TEXT;
 use records::counters::SchemaId;
 use records::counters::SnapshotId;
@@ -77,7 +77,7 @@ fn snapshots_fit(k: u8, p: SnapshotsPart) -> bool
 fn refs_fit(k: u8, p: NamedRef) -> bool
     ensures { λ r. ⌜ r ≡ isTidyRefsPart k p ⌝ }
 {
-    ref_name_fits(
+    name_fits(
         (k == SET_BRANCH_SNAPSHOT) | ((k == SET_REF) | (k == REMOVE_REF)),
         p.name,
     )
@@ -138,10 +138,10 @@ fn used_formed(u: TableUpdate) -> bool
         UPGRADE_FORMAT_VERSION => (1 <= version) & (version <= 3),
         SET_LOCATION => location <= TEXT,
         ADD_SNAPSHOT => snapshot_formed(u.snapshots.added),
-        SET_BRANCH_SNAPSHOT => (name <= REF_NAME) & snapshot_formed(u.snapshots.added),
+        SET_BRANCH_SNAPSHOT => (name <= NAME) & snapshot_formed(u.snapshots.added),
         REMOVE_SNAPSHOTS => snapshot_ids_formed(u.snapshots.removed),
-        SET_REF => (name <= REF_NAME) & reference_formed(u.refs.reference),
-        REMOVE_REF => name <= REF_NAME,
+        SET_REF => (name <= NAME) & reference_formed(u.refs.reference),
+        REMOVE_REF => name <= NAME,
         ADD_SCHEMA => schema_formed(u.schemas.added),
         SET_CURRENT_SCHEMA => schema_choice_formed(u.schemas.chosen),
         REMOVE_SCHEMAS => schema_ids_formed(u.schemas.removed),

@@ -4,7 +4,7 @@ use lib.IntN.{pos}
 use lib.ListN.{replicate}
 use Rattle.records.specs.declared.counters.SnapshotId.{SnapshotId}
 use Rattle.records.specs.declared.counters.SchemaId.{SchemaId}
-use Rattle.records.specs.declared.text.RefName.{RefName}
+use Rattle.records.specs.declared.text.Name.{Name}
 use Rattle.records.specs.declared.text.Text.{Text}
 use Rattle.records.specs.declared.snapshot.Snapshot.{Snapshot}
 use Rattle.records.specs.declared.snapshot.Snapshots.{Snapshots}
@@ -37,8 +37,8 @@ use Rattle.records.specs.declared.update.UpdateList.{UpdateList}
 
 -- ---- texts
 
-abbrev pub noRefName : RefName
-noRefName = record { bytes = replicate 32 0; len = 0 }
+abbrev pub noName : Name
+noName = record { bytes = replicate 32 0; len = 0 }
 
 abbrev pub noText : Text
 noText = record { bytes = replicate 96 0; len = 0 }
@@ -87,7 +87,7 @@ noReference = record {
 }
 
 abbrev pub noRef : NamedRef
-noRef = record { name = noRefName; reference = noReference }
+noRef = record { name = noName; reference = noReference }
 
 unfoldable pub noRefs : Refs
 noRefs = record { items = replicate 16 noRef; count = 0 }

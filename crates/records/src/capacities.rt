@@ -19,7 +19,7 @@ pub const STATISTICS: usize = 32;
 
 pub const REMOVALS: usize = 16;
 
-pub const REF_NAME: usize = 32;
+pub const NAME: usize = 32;
 
 // A location, a file name or a path.
 pub const TEXT: usize = 96;

@@ -13,11 +13,11 @@ use Rattle.records.specs.declared.counters.Time.{Time}
 use Rattle.records.specs.declared.metadata.TableMetadata.{TableMetadata}
 use Rattle.records.specs.declared.update.TableUpdate.{TableUpdate}
 use Rattle.rules.specs.Words.{any, ascending}
-use Rattle.rules.specs.Capacities.{snapshotRoom, refRoom, snapshotLogRoom, schemaRoom, sortOrderRoom, statisticsRoom, refNameRoom, schemaFieldRoom, sortFieldRoom, locationRoom}
+use Rattle.rules.specs.Capacities.{snapshotRoom, refRoom, snapshotLogRoom, schemaRoom, sortOrderRoom, statisticsRoom, nameRoom, schemaFieldRoom, sortFieldRoom, locationRoom}
 use Rattle.rules.specs.Register as plain
 use Rattle.rules.specs.Register.{StatisticsTable, State, statisticsOf}
 use Rattle.rules.specs.Register.StatisticsTable.{Statistics, PartitionStatistics}
-use Rattle.rules.specs.WellFormed.{snapshotFormed, refFormed, schemaFormed, orderFormed, statisticsFileFormed, refNameFormed, snapshotBelow, refBelow, schemaBelow, orderBelow, statisticsBelow, snapshotsFormed, refsFormed, snapshotLogFormed, schemasFormed, ordersFormed, statisticsFormed, fieldsFormed, offeredOrderFormed, versionFormed, locationFormed, hasSchema, hasOrder, currentSchemaHeld, defaultOrderHeld}
+use Rattle.rules.specs.WellFormed.{snapshotFormed, refFormed, schemaFormed, orderFormed, statisticsFileFormed, nameFormed, snapshotBelow, refBelow, schemaBelow, orderBelow, statisticsBelow, snapshotsFormed, refsFormed, snapshotLogFormed, schemasFormed, ordersFormed, statisticsFormed, fieldsFormed, offeredOrderFormed, versionFormed, locationFormed, hasSchema, hasOrder, currentSchemaHeld, defaultOrderHeld}
 use lib.Signed.{nonNeg}
 use Rattle.rules.specs.ChangeLog.{logsMain, logsRemoval}
 use Rattle.rules.specs.Run.{started, listSum}
@@ -137,7 +137,7 @@ module _ {g : Given} {st : State} {p : Pieces} (E : Represents g st p) where
       record {
         back = rw read-refs (sym (E .tables .refs));
         fits = rw read-refs refs-fit;
-        names = rw read-refs (all-then refFormed (λ (x : plain.NamedRef). leb (length (x .name)) refNameRoom) (λ x e. and-left (refNameFormed (x .name)) _ e) (st .metadata .refs) (table-parts refRoom refFormed refBelow (st .metadata .refs) (E .sound .refs) .1));
+        names = rw read-refs (all-then refFormed (λ (x : plain.NamedRef). leb (length (x .name)) nameRoom) (λ x e. and-left (nameFormed (x .name)) _ e) (st .metadata .refs) (table-parts refRoom refFormed refBelow (st .metadata .refs) (E .sound .refs) .1));
       }
 
   pub laid-log : LaidSnapshotLog (p .held .log)

@@ -13,7 +13,7 @@ use Rattle.rules.specs.Register.{State, Reference}
 use Rattle.rules.specs.Register.Outcome.{Refused}
 use Rattle.rules.specs.WellFormed.{updateFormed}
 use Rattle.rules.specs.RefUpdates.{setRefChecks, setRef}
-use Rattle.rules.specs.Layout.{readRefName}
+use Rattle.rules.specs.Layout.{readName}
 use Rattle.rules.specs.Kinds.{setBranchSnapshotKind, readUpdate}
 use Rattle.rules.specs.Answer.{laidOutcome}
 use Rattle.builder.specs.declared.decision.Decision.{Decision}
@@ -41,7 +41,7 @@ abbrev pub updateAt : Given → ℕ → TableUpdate
 updateAt g i = getD (g .updates .items) i nothing
 
 abbrev pub nameAt : Given → ℕ → List ℕ
-nameAt g i = readRefName (updateAt g i .refs .name)
+nameAt g i = readName (updateAt g i .refs .name)
 
 -- the run is refused with a number, at a place
 abbrev pub RefusedWith : Given → ℕ → ℕ → Type 0

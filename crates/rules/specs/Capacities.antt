@@ -33,8 +33,8 @@ statisticsRoom = 32
 abbrev pub removalRoom : ℕ
 removalRoom = 16
 
-abbrev pub refNameRoom : ℕ
-refNameRoom = 32
+abbrev pub nameRoom : ℕ
+nameRoom = 32
 
 -- the slots of a location, a file name or a path; which of them may be used is said next
 abbrev pub textRoom : ℕ

@@ -25,7 +25,7 @@ use Rattle.rules.specs.Register.StatisticsTable.{Statistics, PartitionStatistic
 use Rattle.rules.specs.WellFormed.{updateFormed, snapshotBelow}
 use Rattle.rules.specs.SnapshotUpdates.{addSnapshotChecks}
 use Rattle.rules.specs.Run.{weight, listSum}
-use Rattle.rules.specs.Layout.{pad, readSnapshot, laidSnapshot, laidSnapshots, readSnapshotIds, readRefName}
+use Rattle.rules.specs.Layout.{pad, readSnapshot, laidSnapshot, laidSnapshots, readSnapshotIds, readName}
 use Rattle.rules.specs.Kinds.{isTidyUpdate, readUpdate, readUpdates, addSnapshotKind, setBranchSnapshotKind, setRefKind, addSchemaKind, readKind}
 use Rattle.close.specs.Answers.{HistoryOf}
 use Rattle.rules.proofs.Checks.{and-left, and-right, by-either, neither}
@@ -653,7 +653,7 @@ loop2-again-12 c =
     let T = s .stands .tables in
     let q = t .if12 .taken in
     waits-now (deciding e) (refs-decided s (readUpdate (u e)) (at (deciding e)) (one (deciding e)) (formed e) (c .before .remove-ref .ensures (terms e) (s .state) (T .builder) (T .refs)) (is-ref-removal (u e) (formed e) q)
-    (λ z. refs-left (s .stands) (readUpdate (u e)) (readRefName (u e .refs .name)) (read-remove-ref (u e) (formed e) q) (c .without2 .ensures)))
+    (λ z. refs-left (s .stands) (readUpdate (u e)) (readName (u e .refs .name)) (read-remove-ref (u e) (formed e) q) (c .without2 .ensures)))
 
 loop2-again-13 : tie.Need-loop2-again-13 Inv-loop μ-loop Inv-loop2 μ-loop2
 loop2-again-13 c =

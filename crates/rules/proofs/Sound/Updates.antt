@@ -7,7 +7,7 @@ use Rattle.rules.specs.Words.{firstOf}
 use Rattle.rules.specs.Replies.{updateNotFormed}
 use Rattle.rules.specs.Register.{Update, Terms, State}
 use Rattle.rules.specs.Register.Update.{AssignUuid, UpgradeFormatVersion, SetLocation, AddSnapshot, SetBranchSnapshot, RemoveSnapshots, SetRef, RemoveRef, AddSchema, SetCurrentSchema, RemoveSchemas, AddSortOrder, SetDefaultSortOrder, SetStatistics, RemoveStatistics, NotFormed}
-use Rattle.rules.specs.WellFormed.{refNameFormed, snapshotFormed, updateFormed}
+use Rattle.rules.specs.WellFormed.{nameFormed, snapshotFormed, updateFormed}
 use Rattle.rules.specs.Updates.{checks, updateNumber, effect}
 use Rattle.rules.proofs.Checks.{and-left, and-right, passed, passed-before, passed-after}
 use Rattle.rules.proofs.Sound.Metadata.{Sound}
@@ -34,7 +34,7 @@ checked-sound terms (AssignUuid uuid) st f e s = assign-uuid-sound st s uuid
 checked-sound terms (UpgradeFormatVersion v) st f e s = upgrade-format-version-sound st s v f
 checked-sound terms (SetLocation l) st f e s = set-location-sound st s l f
 checked-sound terms (AddSnapshot x) st f e s = add-snapshot-sound (terms .tolerance) x st f e s
-checked-sound terms (SetBranchSnapshot name x) st f e s = set-branch-snapshot-sound terms name x st (and-left (refNameFormed name) (snapshotFormed x) f) (and-right (refNameFormed name) (snapshotFormed x) f) e s
+checked-sound terms (SetBranchSnapshot name x) st f e s = set-branch-snapshot-sound terms name x st (and-left (nameFormed name) (snapshotFormed x) f) (and-right (nameFormed name) (snapshotFormed x) f) e s
 checked-sound terms (RemoveSnapshots ids) st f e s = remove-snapshots-sound ids st s
 checked-sound terms (SetRef name r) st f e s = set-ref-sound terms name r st f e s
 checked-sound terms (RemoveRef name) st f e s = remove-ref-sound name st s

@@ -1,11 +1,11 @@
 -- The code compares what the definition compares.
 use borrow.Author.Needs.{needs}
-use Rattle.equality.specs.Same.{sameRefName}
-use Rattle.equality.proofs.text.same_ref_name.Statement.{statement}
-use Rattle.equality.proofs.text.same_ref_name.Tie as tie
+use Rattle.equality.specs.Same.{sameName}
+use Rattle.equality.proofs.text.same_whole_name.Statement.{statement}
+use Rattle.equality.proofs.text.same_whole_name.Tie as tie
 
 pub same-ref-name-spec : {M : Type 1} → statement M
-unfolding sameRefName
+unfolding sameName
 same-ref-name-spec =
     tie.close
     (tie.spec
