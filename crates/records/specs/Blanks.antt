@@ -17,6 +17,7 @@ use Rattle.records.specs.declared.reference.Refs.{Refs}
 use Rattle.records.specs.declared.schema.SchemaField.{SchemaField}
 use Rattle.records.specs.declared.schema.Schema.{Schema}
 use Rattle.records.specs.declared.schema.Schemas.{Schemas}
+use Rattle.records.specs.declared.schema.SchemaOffer.{SchemaOffer}
 use Rattle.records.specs.declared.schema.SchemaIds.{SchemaIds}
 use Rattle.records.specs.declared.«sort_order».SortField.{SortField}
 use Rattle.records.specs.declared.«sort_order».SortOrder.{SortOrder}
@@ -106,6 +107,9 @@ noSchemas = record { items = replicate 16 noSchema; count = 0 }
 abbrev pub noSchemaId : SchemaId
 noSchemaId = record { 0 = pos 0 }
 
+abbrev pub noSchemaOffer : SchemaOffer
+noSchemaOffer = record { «schema_id» = noSchemaId; at = 0; count = 0 }
+
 abbrev pub noSchemaIds : SchemaIds
 noSchemaIds = record { items = replicate 16 noSchemaId; count = 0 }
 
@@ -174,7 +178,7 @@ unfoldable pub noSnapshotsPart : SnapshotsPart
 noSnapshotsPart = record { added = noSnapshot; removed = noSnapshotIds }
 
 unfoldable pub noSchemasPart : SchemasPart
-noSchemasPart = record { added = noSchema; chosen = noSchemaId; removed = noSchemaIds }
+noSchemasPart = record { added = noSchemaOffer; chosen = noSchemaId; removed = noSchemaIds }
 
 unfoldable pub noSortOrdersPart : SortOrdersPart
 noSortOrdersPart = record { added = noSortOrder; chosen = record { 0 = pos 0 } }

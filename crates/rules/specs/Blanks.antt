@@ -21,6 +21,7 @@ use Rattle.records.specs.declared.reference.Refs.{Refs}
 use Rattle.records.specs.declared.schema.SchemaField.{SchemaField}
 use Rattle.records.specs.declared.schema.Schema.{Schema}
 use Rattle.records.specs.declared.schema.Schemas.{Schemas}
+use Rattle.records.specs.declared.schema.SchemaOffer.{SchemaOffer}
 use Rattle.records.specs.declared.schema.SchemaIds.{SchemaIds}
 use Rattle.records.specs.declared.«sort_order».SortField.{SortField}
 use Rattle.records.specs.declared.«sort_order».SortOrder.{SortOrder}
@@ -148,6 +149,9 @@ isBlankSchema s = isZeroZ (s .«schema_id» .0) && noneUsed schemaFieldRoom isBl
 
 unfoldable pub isTidySchemas : Schemas → Bool
 isTidySchemas t = tidySlots schemaRoom isTidySchema isBlankSchema (t .items) (t .count)
+
+abbrev pub isBlankSchemaOffer : SchemaOffer → Bool
+isBlankSchemaOffer o = isZeroZ (o .«schema_id» .0) && isZero (o .at) && isZero (o .count)
 
 abbrev pub isBlankSchemaId : SchemaId → Bool
 isBlankSchemaId i = isZeroZ (i .0)

@@ -23,6 +23,7 @@ use Rattle.records.specs.declared.reference.NamedRef.{NamedRef}
 use Rattle.records.specs.declared.reference.Refs.{Refs}
 use Rattle.records.specs.declared.schema.SchemaField.{SchemaField}
 use Rattle.records.specs.declared.schema.Schema.{Schema}
+use Rattle.records.specs.declared.schema.SchemaOffer.{SchemaOffer}
 use Rattle.records.specs.declared.schema.Schemas.{Schemas}
 use Rattle.records.specs.declared.schema.SchemaIds.{SchemaIds}
 use Rattle.records.specs.declared.«sort_order».SortField.{SortField}
@@ -181,6 +182,12 @@ readSchemas t = map readSchema (counted noSchema (t .items) (t .count))
 
 unfoldable pub laidSchemas : List plain.Schema → Schemas
 laidSchemas l = record { items = pad schemaRoom noSchema (map laidSchema l); count = length l }
+
+abbrev pub readSchemaOffer : SchemaOffer → plain.SchemaOffer
+readSchemaOffer o = record { id = o .«schema_id» .0; at = o .at; count = o .count }
+
+abbrev pub laidSchemaOffer : plain.SchemaOffer → SchemaOffer
+laidSchemaOffer o = record { «schema_id» = record { 0 = o .id }; at = o .at; count = o .count }
 
 abbrev pub readSchemaIds : SchemaIds → List ℤ
 readSchemaIds t = map (λ (i : SchemaId). i .0) (counted noSchemaId (t .items) (t .count))

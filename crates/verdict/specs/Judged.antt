@@ -22,7 +22,7 @@ judged a ending =
     }
 
 unfoldable pub verdict : TableMetadata → UpdateList → RunTerms → List ℕ → TableMetadata → Verdict
-verdict m us terms limit ending = judged (answer m us terms limit) ending
+verdict m us terms lent ending = judged (answer m us terms lent) ending
 
 -- the run is accepted, and nothing differs
 abbrev pub leadsThere : Verdict → Bool
