@@ -4,7 +4,7 @@ use mathlib.Core.Path.{_≡_}
 use mathlib.Core.Bool.{Bool, true}
 use mathlib.Core.List.{List, [], _∷_}
 use Rattle.records.specs.declared.update.TableUpdate.{TableUpdate}
-use Rattle.rules.specs.Blanks.{isZeroZ, isTidySnapshot, isBlankSnapshot, isTidySnapshotIds, isBlankSnapshotIds, isTidyName, isBlankName, isTidyReference, isBlankReference, isTidySchema, isBlankSchema, isTidySchemaIds, isBlankSchemaIds, isTidySortOrder, isBlankSortOrder, isTidyStatisticsFile, isBlankStatisticsFile}
+use Rattle.rules.specs.Blanks.{isZeroZ, isTidySnapshot, isBlankSnapshot, isTidySnapshotIds, isBlankSnapshotIds, isTidyName, isBlankName, isTidyReference, isBlankReference, isBlankSchemaOffer, isTidySchemaIds, isBlankSchemaIds, isTidySortOrder, isBlankSortOrder, isTidyStatisticsFile, isBlankStatisticsFile}
 use Rattle.rules.specs.Kinds.{usedBy, fitsKinds, isTidyFieldsPart, isTidySnapshotsPart, isTidyRefsPart, isTidySchemasPart, isTidySortOrdersPart, isTidyStatisticsPart, isTidyUpdate, snapshotKinds, snapshotIdsKinds, refNameKinds, referenceKinds, schemaKinds, schemaIdKinds, schemaIdsKinds, sortOrderKinds, statisticsFileKinds}
 use Rattle.rules.proofs.Checks.{and-left, and-right, parts}
 
@@ -44,13 +44,9 @@ module _ (u : TableUpdate) (e : isTidyUpdate u ≡ true) where
   unfolding isTidyRefsPart
   reference-tidy = is-tidy referenceKinds (u .kind) (isBlankReference (u .refs .reference)) (isTidyReference (u .refs .reference)) (and-right (fitsKinds refNameKinds (u .kind) (isBlankName (u .refs .name)) (isTidyName (u .refs .name))) _ (tidy-parts u e .refs))
 
-  pub schema-tidy : isTidySchema (u .schemas .added) ≡ true
-  unfolding isTidySchemasPart
-  schema-tidy = is-tidy schemaKinds (u .kind) (isBlankSchema (u .schemas .added)) (isTidySchema (u .schemas .added)) (parts (fitsKinds schemaKinds (u .kind) (isBlankSchema (u .schemas .added)) (isTidySchema (u .schemas .added))) (usedBy schemaIdKinds (u .kind) (isZeroZ (u .schemas .chosen .0)) ∷ fitsKinds schemaIdsKinds (u .kind) (isBlankSchemaIds (u .schemas .removed)) (isTidySchemaIds (u .schemas .removed)) ∷ []) (tidy-parts u e .schemas) .0)
-
   pub schema-ids-tidy : isTidySchemaIds (u .schemas .removed) ≡ true
   unfolding isTidySchemasPart
-  schema-ids-tidy = is-tidy schemaIdsKinds (u .kind) (isBlankSchemaIds (u .schemas .removed)) (isTidySchemaIds (u .schemas .removed)) (parts (fitsKinds schemaKinds (u .kind) (isBlankSchema (u .schemas .added)) (isTidySchema (u .schemas .added))) (usedBy schemaIdKinds (u .kind) (isZeroZ (u .schemas .chosen .0)) ∷ fitsKinds schemaIdsKinds (u .kind) (isBlankSchemaIds (u .schemas .removed)) (isTidySchemaIds (u .schemas .removed)) ∷ []) (tidy-parts u e .schemas) .1 .1 .0)
+  schema-ids-tidy = is-tidy schemaIdsKinds (u .kind) (isBlankSchemaIds (u .schemas .removed)) (isTidySchemaIds (u .schemas .removed)) (parts (usedBy schemaKinds (u .kind) (isBlankSchemaOffer (u .schemas .added))) (usedBy schemaIdKinds (u .kind) (isZeroZ (u .schemas .chosen .0)) ∷ fitsKinds schemaIdsKinds (u .kind) (isBlankSchemaIds (u .schemas .removed)) (isTidySchemaIds (u .schemas .removed)) ∷ []) (tidy-parts u e .schemas) .1 .1 .0)
 
   pub order-tidy : isTidySortOrder (u .«sort_orders» .added) ≡ true
   unfolding isTidySortOrdersPart

@@ -1,12 +1,13 @@
 // Well-formed updates: in each part a record is tidy where the kind uses it and blank where it does not, and what the kind uses keeps its bounds.
+// Whether what an update offers is well formed is asked where it is added, by its bytes.
 ghost use mathlib.Core.Path.{_≡_};
 ghost use Rattle.rules.specs.WellFormed.{updateFormed};
 ghost use Rattle.rules.specs.Kinds.{isTidyFieldsPart, isTidySnapshotsPart, isTidyRefsPart, isTidySchemasPart, isTidySortOrdersPart, isTidyStatisticsPart, isTidyUpdate, readKind, readUpdate};
 use crate::blanks::name_fits;
 use crate::blanks::order_fits;
 use crate::blanks::reference_fits;
-use crate::blanks::schema_fits;
 use crate::blanks::schema_ids_fit;
+use crate::blanks::schema_offer_is_blank;
 use crate::blanks::snapshot_fits;
 use crate::blanks::snapshot_ids_fit;
 use crate::blanks::statistics_file_fits;
@@ -14,10 +15,10 @@ use crate::blanks::text_fits;
 use crate::blanks::zeros_from;
 use crate::bounds::order_choice_formed;
 use crate::bounds::schema_choice_formed;
+use crate::bounds::schema_id_formed;
 use crate::bounds::snapshot_id_formed;
 use crate::record::offered_order_formed;
 use crate::record::reference_formed;
-use crate::record::schema_formed;
 use crate::record::schema_ids_formed;
 use crate::record::snapshot_formed;
 use crate::record::snapshot_ids_formed;
@@ -87,7 +88,7 @@ fn refs_fit(k: u8, p: NamedRef) -> bool
 fn schemas_fit(k: u8, p: SchemasPart) -> bool
     ensures { λ r. ⌜ r ≡ isTidySchemasPart k p ⌝ }
 {
-    schema_fits(k == ADD_SCHEMA, p.added)
+    ((k == ADD_SCHEMA) | schema_offer_is_blank(p.added))
         & ((k == SET_CURRENT_SCHEMA) | same_schema(p.chosen, SchemaId(0)))
         & schema_ids_fit(k == REMOVE_SCHEMAS, p.removed)
 }
@@ -142,7 +143,7 @@ fn used_formed(u: TableUpdate) -> bool
         REMOVE_SNAPSHOTS => snapshot_ids_formed(u.snapshots.removed),
         SET_REF => (name <= NAME) & reference_formed(u.refs.reference),
         REMOVE_REF => name <= NAME,
-        ADD_SCHEMA => schema_formed(u.schemas.added),
+        ADD_SCHEMA => schema_id_formed(u.schemas.added.schema_id),
         SET_CURRENT_SCHEMA => schema_choice_formed(u.schemas.chosen),
         REMOVE_SCHEMAS => schema_ids_formed(u.schemas.removed),
         ADD_SORT_ORDER => offered_order_formed(u.sort_orders.added),

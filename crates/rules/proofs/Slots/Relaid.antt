@@ -11,11 +11,12 @@ use lib.Signed.{nonNeg}
 use lib.ListN.{length, set, take, drop, replicate, length-append, length-replicate, length-take, length-drop, length-map, take-append-drop}
 use lib.Seq.{set-at}
 use borrow.Author.Tests.{eqb-true, leb-true, not-true}
-use Rattle.records.specs.Blanks.{noName, noText, noSnapshotId, noSnapshot, noSnapshotIds, noLogEntry, noReference, noRef, noSchemaField, noSchema, noSchemaId, noSchemaIds, noSortField, noSortOrder, noStatisticsFile, noMetadataLogEntry}
+use Rattle.records.specs.Blanks.{noName, noText, noSnapshotId, noSnapshot, noSnapshotIds, noLogEntry, noReference, noRef, noSchemaField, noSchema, noSchemaOffer, noSchemaId, noSchemaIds, noSortField, noSortOrder, noStatisticsFile, noMetadataLogEntry}
 use Rattle.records.specs.declared.counters.RowId.{RowId}
 use Rattle.records.specs.declared.counters.SnapshotId.{SnapshotId}
 use Rattle.records.specs.declared.counters.SchemaId.{SchemaId}
 use Rattle.records.specs.declared.snapshot.SnapshotIds.{SnapshotIds}
+use Rattle.records.specs.declared.schema.SchemaOffer.{SchemaOffer}
 use Rattle.records.specs.declared.schema.SchemaIds.{SchemaIds}
 use Rattle.records.specs.declared.text.Name.{Name}
 use Rattle.records.specs.declared.text.Text.{Text}
@@ -41,7 +42,7 @@ use Rattle.records.specs.declared.snapshot.Snapshots.{Snapshots}
 use Rattle.rules.specs.Words.{isSome, orElse, all, unequal, ascending}
 use Rattle.rules.specs.Capacities.{snapshotRoom, refRoom, snapshotLogRoom, metadataLogRoom, schemaRoom, schemaFieldRoom, sortOrderRoom, sortFieldRoom, statisticsRoom, removalRoom, nameRoom, textRoom}
 use Rattle.rules.specs.WellFormed.{snapshotFormed, refFormed, nameFormed, fileNameFormed, schemaFormed, orderFormed, offeredOrderFormed, sortFieldFormed, statisticsFileFormed, removalFormed, atLeastOne, versionFormed, locationFormed, fieldIds, snapshotBelow, refBelow, schemaBelow, orderBelow, statisticsBelow, snapshotsFormed, refsFormed, snapshotLogFormed, metadataLogFormed, schemasFormed, ordersFormed, statisticsFormed, fieldsFormed, refsHeld, mainAgrees, currentSchemaHeld, defaultOrderHeld, metadataFormed}
-use Rattle.rules.specs.Blanks.{isZero, isZeroZ, restBlank, tidySlots, noneUsed, isBlankUuid, isTidyName, isBlankName, isTidyText, isBlankText, isTidySnapshot, isBlankSnapshot, isTidySnapshots, isBlankSnapshotId, isTidySnapshotIds, isBlankSnapshotIds, isBlankLogEntry, isTidySnapshotLog, isTidyReference, isBlankReference, isTidyRef, isBlankRef, isTidyRefs, isBlankSchemaField, isTidySchema, isBlankSchema, isTidySchemas, isBlankSchemaId, isTidySchemaIds, isBlankSchemaIds, isBlankSortField, isTidySortOrder, isBlankSortOrder, isTidySortOrders, isTidyStatisticsFile, isBlankStatisticsFile, isTidyStatistics, isTidyMetadataLogEntry, isBlankMetadataLogEntry, isTidyMetadataLog, isTidyFields, isTidyMetadata}
+use Rattle.rules.specs.Blanks.{isZero, isZeroZ, restBlank, tidySlots, noneUsed, isBlankUuid, isTidyName, isBlankName, isTidyText, isBlankText, isTidySnapshot, isBlankSnapshot, isTidySnapshots, isBlankSnapshotId, isTidySnapshotIds, isBlankSnapshotIds, isBlankLogEntry, isTidySnapshotLog, isTidyReference, isBlankReference, isTidyRef, isBlankRef, isTidyRefs, isBlankSchemaField, isTidySchema, isBlankSchema, isTidySchemas, isBlankSchemaOffer, isBlankSchemaId, isTidySchemaIds, isBlankSchemaIds, isBlankSortField, isTidySortOrder, isBlankSortOrder, isTidySortOrders, isTidyStatisticsFile, isBlankStatisticsFile, isTidyStatistics, isTidyMetadataLogEntry, isBlankMetadataLogEntry, isTidyMetadataLog, isTidyFields, isTidyMetadata}
 use Rattle.rules.specs.Layout.{counted, pad, given, firstRow, addedRows, readName, laidName, readText, laidText, readSnapshot, laidSnapshot, readSnapshots, laidSnapshots, readSnapshotIds, laidSnapshotIds, readLogEntry, laidLogEntry, readSnapshotLog, laidSnapshotLog, readReference, laidReference, readRef, laidRef, readRefs, laidRefs, readSchemaField, laidSchemaField, readSchema, laidSchema, readSchemas, laidSchemas, readSchemaIds, laidSchemaIds, readSortField, laidSortField, readSortOrder, laidSortOrder, readSortOrders, laidSortOrders, readStatisticsFile, laidStatisticsFile, readStatistics, laidStatistics, readMetadataLogEntry, laidMetadataLogEntry, readMetadataLog, laidMetadataLog, readFields, laidFields, readMetadata, laidMetadata}
 use Rattle.rules.specs.Register as plain
 use Rattle.rules.proofs.Orders.{eqZ-equal}
@@ -321,6 +322,11 @@ back-schema s e f =
     let k = parts (nonNeg (s .«schema_id» .0)) (leb (length (readSchema s .fields)) schemaFieldRoom ∷ all atLeastOne (fieldIds (readSchema s)) ∷ unequal (fieldIds (readSchema s)) ∷ []) f in
     let r = fields-back noSchemaField isBlankSchemaField blank-schema-field readSchemaField laidSchemaField (λ x. refl) schemaFieldRoom (s .count) (s .items) e (k .1 .0) in
     λ i. record { «schema_id» = s .«schema_id»; items = r .0 i; count = r .1 i }
+
+pub blank-schema-offer : (o : SchemaOffer) → isBlankSchemaOffer o ≡ true → o ≡ noSchemaOffer
+blank-schema-offer o e =
+    let h = parts (isZeroZ (o .«schema_id» .0)) (isZero (o .at) ∷ isZero (o .count) ∷ []) e in
+    λ i. record { «schema_id» = record { 0 = zeroZ (o .«schema_id» .0) (h .0) i }; at = zero (o .at) (h .1 .0) i; count = zero (o .count) (h .1 .1 .0) i }
 
 blank-schema-id : (x : SchemaId) → isBlankSchemaId x ≡ true → x ≡ noSchemaId
 blank-schema-id x e = λ i. record { 0 = zeroZ (x .0) e i }

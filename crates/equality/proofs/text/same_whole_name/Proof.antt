@@ -4,9 +4,9 @@ use Rattle.equality.specs.Same.{sameName}
 use Rattle.equality.proofs.text.same_whole_name.Statement.{statement}
 use Rattle.equality.proofs.text.same_whole_name.Tie as tie
 
-pub same-ref-name-spec : {M : Type 1} → statement M
+pub same-whole-name-spec : {M : Type 1} → statement M
 unfolding sameName
-same-ref-name-spec =
+same-whole-name-spec =
     tie.close
     (tie.spec
     (λ c. search needs)

@@ -7,8 +7,8 @@ use Rattle.formed.proofs.Unused.{from-place}
 use Rattle.formed.proofs.blanks.name_fits.Statement.{statement}
 use Rattle.formed.proofs.blanks.name_fits.Tie as tie
 
-pub ref-name-fits-spec : {M : Type 1} → statement M
-ref-name-fits-spec =
+pub name-fits-spec : {M : Type 1} → statement M
+name-fits-spec =
     tie.close
     (tie.spec
     (λ c κs. search needs)

@@ -15,4 +15,4 @@ refs-fit-spec =
     (λ c κs. search needs)
     (λ c κs. search needs)
     (λ c. let a = c .before .before .args in
-    rw (fits refNameKinds (a .k) (three-kinds (a .k) setBranchSnapshotKind setRefKind removeRefKind) (none-rest nameRoom isZero (a .p .name .bytes) (a .p .name .len)) (c .before .ref-name-fits .ensures), fits referenceKinds (a .k) (one-kind (a .k) setRefKind) (blank-reference-tidy (a .p .reference)) (c .reference-fits .ensures))))
+    rw (fits refNameKinds (a .k) (three-kinds (a .k) setBranchSnapshotKind setRefKind removeRefKind) (none-rest nameRoom isZero (a .p .name .bytes) (a .p .name .len)) (c .before .name-fits .ensures), fits referenceKinds (a .k) (one-kind (a .k) setRefKind) (blank-reference-tidy (a .p .reference)) (c .reference-fits .ensures))))
