@@ -131,9 +131,9 @@ module _ {g : Given} {st : State} {p : Pieces} (E : Represents g st p) where
   files-fit = within (tidy-metadata-log files-laid)
 
   -- the metadata log, under the limit that is given, with so many gone
-  module _ {limit gone : ℕ} (e : limit ≡ limitOf (g .text)) (k : gone ≡ cond (g .terms .«has_file») (g .metadata .«metadata_log» .count + 1) (g .metadata .«metadata_log» .count) - limit) where
+  module _ {limit gone : ℕ} (e : limit ≡ limitOf (g .lent .text)) (k : gone ≡ cond (g .terms .«has_file») (g .metadata .«metadata_log» .count + 1) (g .metadata .«metadata_log» .count) - limit) where
     filed : Filed (termsOf g) (st .metadata) (g .metadata .«metadata_log») (g .terms) (g .metadata .fields .«last_updated_ms») limit
-    filed = record { laid = files-laid; entries = sym (E .since .files); name = refl; time = sym (E .since .old); most = e; least = rw e (limit-least (g .text)) }
+    filed = record { laid = files-laid; entries = sym (E .since .files); name = refl; time = sym (E .since .old); most = e; least = rw e (limit-least (g .lent .text)) }
 
     pub gone-fits : gone ≤ g .metadata .«metadata_log» .count
     gone-fits = rw k (gone-within filed)

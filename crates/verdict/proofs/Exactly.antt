@@ -49,5 +49,5 @@ unfolding verdict
 leads-exactly m us terms lent ending = (judged-ends (answer m us terms lent) ending, ends-judged (answer m us terms lent) ending)
 
 -- a call of `judge`, and a verdict that its contract allows
-pub judge-leads-exactly : (κs : Lfts 1) (a : Dens κs ps) (v : Verdict) (s : AtExit (endedOf 1 ps r) κs) → Post κs a v s → Exactly v (answer (a .0) (a .1 .0) (a .1 .1 .0) (now (a .1 .1 .1 .0))) (a .1 .1 .1 .1 .0)
-judge-leads-exactly κs a v s p = rw p (leads-exactly (a .0) (a .1 .0) (a .1 .1 .0) (now (a .1 .1 .1 .0)) (a .1 .1 .1 .1 .0))
+pub judge-leads-exactly : (κs : Lfts 2) (a : Dens κs ps) (v : Verdict) (s : AtExit (endedOf 2 ps r) κs) → Post κs a v s → Exactly v (answer (a .0) (a .1 .0) (a .1 .1 .0) (record { text = now (a .1 .1 .1 .0); offers = now (a .1 .1 .1 .1 .0) })) (a .1 .1 .1 .1 .1 .0)
+judge-leads-exactly κs a v s p = rw p (leads-exactly (a .0) (a .1 .0) (a .1 .1 .0) (record { text = now (a .1 .1 .1 .0); offers = now (a .1 .1 .1 .1 .0) }) (a .1 .1 .1 .1 .1 .0))

@@ -68,15 +68,15 @@ and-second a b e h = rw e at h
 
 -- the sum of the updates passed, and of the rest of a list that is not too long, make the list's sum
 abbrev Inv-loop : tie.InvT-loop
-Inv-loop metadata terms text updates first clock listed added main-targets adds mains removal sum₀ number entries builder decision snapshots ids refs log last schemas orders statistics partitions count place₀ waits half begun sum place =
+Inv-loop metadata terms text offers updates first clock listed added main-targets adds mains removal sum₀ number entries builder decision snapshots ids refs log last schemas orders statistics partitions count place₀ waits half begun sum place =
     (place ≤ 64) × (sum ≤ 2 * place) × (listed ≤ 64 → (place ≤ listed) × (sum + total weight (drop place (readUpdates updates)) ≡ listSum (readUpdates updates)))
 
 abbrev μ-loop : tie.MeasureT-loop
-μ-loop metadata terms text updates first clock listed added main-targets adds mains removal sum₀ number entries builder decision snapshots ids refs log last schemas orders statistics partitions count place₀ waits half begun sum place = 64 - place
+μ-loop metadata terms text offers updates first clock listed added main-targets adds mains removal sum₀ number entries builder decision snapshots ids refs log last schemas orders statistics partitions count place₀ waits half begun sum place = 64 - place
 
 abbrev Inv-loop2 : tie.InvT-loop2
-Inv-loop2 metadata terms text updates first clock listed added₀ main-targets₀ adds₀ mains₀ removal₀ sum number₀ entries₀ builder₀ decision₀ snapshots₀ ids₀ refs₀ log₀ last₀ schemas₀ orders₀ statistics₀ partitions₀ count₀ place₀ waits₀ half₀ begun₀ added main-targets adds mains removal number entries builder decision snapshots ids refs log last schemas orders statistics partitions count place waits half begun =
-    Turn (record { metadata = metadata; updates = updates; terms = terms; text = text }) number place waits half
+Inv-loop2 metadata terms text offers updates first clock listed added₀ main-targets₀ adds₀ mains₀ removal₀ sum number₀ entries₀ builder₀ decision₀ snapshots₀ ids₀ refs₀ log₀ last₀ schemas₀ orders₀ statistics₀ partitions₀ count₀ place₀ waits₀ half₀ begun₀ added main-targets adds mains removal number entries builder decision snapshots ids refs log last schemas orders statistics partitions count place waits half begun =
+    Turn (record { metadata = metadata; updates = updates; terms = terms; lent = record { text = text; offers = offers } }) number place waits half
     (record {
       held = record { builder = builder; snapshots = snapshots; ids = ids; refs = refs; log = log; last = last; ownTables = record { schemas = schemas; orders = orders; statistics = statistics; partitionStatistics = partitions } };
       changes = record { entries = entries; count = count; added = added; adds = adds; mainTargets = main-targets; mains = mains; removal = removal };
@@ -84,7 +84,7 @@ Inv-loop2 metadata terms text updates first clock listed added₀ main-targets�
     decision
 
 abbrev μ-loop2 : tie.MeasureT-loop2
-μ-loop2 metadata terms text updates first clock listed added₀ main-targets₀ adds₀ mains₀ removal₀ sum number₀ entries₀ builder₀ decision₀ snapshots₀ ids₀ refs₀ log₀ last₀ schemas₀ orders₀ statistics₀ partitions₀ count₀ place₀ waits₀ half₀ begun₀ added main-targets adds mains removal number entries builder decision snapshots ids refs log last schemas orders statistics partitions count place waits half begun =
+μ-loop2 metadata terms text offers updates first clock listed added₀ main-targets₀ adds₀ mains₀ removal₀ sum number₀ entries₀ builder₀ decision₀ snapshots₀ ids₀ refs₀ log₀ last₀ schemas₀ orders₀ statistics₀ partitions₀ count₀ place₀ waits₀ half₀ begun₀ added main-targets adds mains removal number entries builder decision snapshots ids refs log last schemas orders statistics partitions count place waits half begun =
     cond (eqb number 0) (4 * (listed - place) + turns waits half) 0
 
 -- ---- before the loops
@@ -94,7 +94,7 @@ begin c = c .before .before .before .before .before .before .before .before .bef
 
 -- what the run is given
 abbrev G : tie.After-partition-statistics Inv-loop μ-loop Inv-loop2 μ-loop2 → Given
-G c = record { metadata = begin c .args .metadata; updates = begin c .args .t2; terms = begin c .args .terms; text = begin c .args .text .now }
+G c = record { metadata = begin c .args .metadata; updates = begin c .args .t2; terms = begin c .args .terms; lent = record { text = begin c .args .text .now; offers = begin c .args .offers .now } }
 
 long : (c : tie.After-partition-statistics Inv-loop μ-loop Inv-loop2 μ-loop2) → length (G c .updates .items) ≡ 64
 long c = sym (length-map (G c .updates .items) _) ∙ begin c .good .1 .0 .1 .1 .0 .1 .0 .1
@@ -510,7 +510,7 @@ loop2-holds c =
     record {
       within = omega arith;
       short = λ z. start-short g (sym n ∙ z);
-      refused = λ z. refused-start (g .metadata) (g .updates) (g .terms) (g .text) _ (sym n) z;
+      refused = λ z. refused-start (g .metadata) (g .updates) (g .terms) (g .lent) _ (sym n) z;
       stands = λ z _. whole (standing-start g (sym n ∙ z) (orders .before .before .before .before .before .before .before .before .new-from-metadata .ensures) (orders .before .before .before .before .before .ids-of .ensures (start-snapshots g (sym n ∙ z))) (orders .before .before .last-time .ensures (start-log g (sym n ∙ z))) (orders .before .before .before .before .before .before .before .before .before .before .before .blank .ensures));
       waits = λ _ f. absurd (false≢true f);
     }
@@ -662,8 +662,8 @@ loop2-again-13 c =
     let s = shaped t in
     let T = s .stands .tables in
     let D = c .before .decide2 .ensures in
-    own e s ofSchemas (is-schemas (u e) (formed e) (beyond (t .before)) (t .if13 .taken)) (D .answers (terms e) (s .state) (T .builder) (T .ownTables .schemas))
-    (λ z. c .after2 .ensures ∙ D .table (terms e) (s .state) (T .ownTables .schemas) z)
+    own e s ofSchemas (is-schemas (u e) (formed e) (beyond (t .before)) (t .if13 .taken)) (D .answers (terms e) (s .state) refl (T .builder) (T .ownTables .schemas))
+    (λ z. c .after2 .ensures ∙ D .table (terms e) (s .state) refl (T .ownTables .schemas) z)
 
 loop2-again-14 : tie.Need-loop2-again-14 Inv-loop μ-loop Inv-loop2 μ-loop2
 loop2-again-14 c =

@@ -1,29 +1,26 @@
 -- Adding, choosing and removing schemas is replayed by what is logged.
-use Prim.Native.Nat.{ℕ}
 use mathlib.Core.Path.{_≡_, refl}
 use mathlib.Core.Bool.{Bool, true, false, cond, not}
 use mathlib.Core.List.{List, [], _∷_, _++_, append-nil}
 use mathlib.Core.Option.{Option, none, some}
-use lib.Dec.{leb}
 use lib.IntN.{ℤ, sucℤ}
-use lib.ListN.{length}
 use lib.Signed.{ltZ, nonNeg}
-use Rattle.rules.specs.Words.{eqZ, someWith, all, keep, isEmpty, isIn, unequal, highest, ascending, firstOf, Check}
+use Rattle.rules.specs.Words.{eqZ, someWith, keep, isEmpty, isIn, highest, ascending, firstOf, Check}
 use Rattle.rules.specs.Replies.{currentSchemaRemoved}
-use Rattle.rules.specs.Capacities.{schemaRoom, schemaFieldRoom}
+use Rattle.rules.specs.Capacities.{schemaRoom}
 use Rattle.rules.specs.Register.{Schema, SchemaOffer, Update, Terms, State, withSchemas, withMetadata, withCurrentSchema, onFields, logged}
 use Rattle.rules.specs.Register.Update.{AddSchema, SetCurrentSchema, RemoveSchemas}
-use Rattle.rules.specs.WellFormed.{atLeastOne, fieldIds, schemaFormed, schemaBelow, schemasFormed, updateFormed}
-use Rattle.rules.specs.Offers.{offeredSchema, isTidyOffer, offerFormed}
+use Rattle.rules.specs.WellFormed.{schemaFormed, schemaBelow, schemasFormed, updateFormed}
+use Rattle.rules.specs.Offers.{offeredSchema}
 use Rattle.rules.specs.SchemaUpdates.{offeredAs, reusedSchema, schemaIds, addedSchema, addSchemaChecks, reuseSchema, newSchema, addSchema, chosen, choiceLogged, holdsSchema, setCurrentSchemaChecks, setCurrentSchema, removeSchemasChecks, heldSchemas, removeSchemas}
 use Rattle.rules.specs.Updates.{checks, updateNumber, effect}
 use Rattle.rules.specs.Replay.{strip}
-use Rattle.rules.proofs.Checks.{both, and-left, and-right, parts, whole, passed, passed-after}
+use Rattle.rules.proofs.Checks.{passed, passed-after}
 use Rattle.rules.proofs.Orders.{highest-nonNeg, suc-nonNeg}
 use Rattle.rules.proofs.Tables.{byKey, table-parts}
 use Rattle.rules.proofs.Sound.Metadata.{Sound}
 use Rattle.rules.proofs.Replay.Keys.{held-formed, held-not-in, held-again, others-again, none-held}
-use Rattle.rules.proofs.Sound.Schemas.{offer-check, offer-passed}
+use Rattle.rules.proofs.Sound.Schemas.{offer-check, offer-passed, reoffered-formed}
 use Rattle.rules.proofs.Sound.Updates.{accepted-form, accepted-checks}
 use Rattle.rules.proofs.Replay.Choices.{Rechosen, rechosen}
 use Rattle.rules.proofs.Replay.Steps.{withLog, accepted-if, Replays, nothing, once}
@@ -33,18 +30,6 @@ use Rattle.rules.proofs.Replay.Steps.{withLog, accepted-if, Replays, no
 -- the schema with another id
 abbrev numbered-as : ℤ → Schema → Schema
 numbered-as id s = record { id = id; fields = s .fields }
-
-renumbered-formed : (id : ℤ) (s : Schema) → nonNeg id ≡ true → schemaFormed s ≡ true → schemaFormed (numbered-as id s) ≡ true
-renumbered-formed id s n h =
-    let rest : List Bool = leb (length (s .fields)) schemaFieldRoom ∷ all atLeastOne (fieldIds s) ∷ unequal (fieldIds s) ∷ [] in
-    whole (nonNeg id) rest (n, parts (nonNeg (s .id)) rest h .1)
-
--- the bytes of an offer do not say its id
-reoffered-formed : (offers : List ℕ) (id : ℤ) (o : SchemaOffer) → nonNeg id ≡ true → offerFormed offers o ≡ true → offerFormed offers (offeredAs id o) ≡ true
-unfolding offerFormed isTidyOffer offeredSchema
-reoffered-formed offers id o n h =
-    both (and-left (isTidyOffer offers o) (schemaFormed (offeredSchema offers o)) h)
-    (renumbered-formed id (offeredSchema offers o) n (and-right (isTidyOffer offers o) (schemaFormed (offeredSchema offers o)) h))
 
 -- neither the checks nor the search for an equal schema look at the offered id
 renumbered-accepted : (terms : Terms) (id : ℤ) (o : SchemaOffer) (st : State) → nonNeg id ≡ true → updateNumber terms (AddSchema o) st ≡ 0 → updateNumber terms (AddSchema (offeredAs id o)) st ≡ 0

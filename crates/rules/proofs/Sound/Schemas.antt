@@ -15,8 +15,8 @@ use Rattle.rules.specs.Capacities.{schemaRoom, schemaFieldRoom}
 use Rattle.rules.specs.Register.{Schema, SchemaOffer, Metadata, State, withSchemas, withLastColumn}
 use Rattle.rules.specs.WellFormed.{atLeastOne, fieldIds, schemaFormed, schemaBelow, schemasFormed, fieldsFormed, currentSchemaHeld, hasSchema}
 use Rattle.rules.specs.Offers.{offeredSchema, isTidyOffer, offerFormed}
-use Rattle.rules.specs.SchemaUpdates.{reusedSchema, schemaIds, addSchemaChecks, newSchema, addSchema, chosen, choiceChecks, holdsSchema, setCurrentSchemaChecks, setCurrentSchema, removeSchemasChecks, removeSchemas}
-use Rattle.rules.proofs.Checks.{by-test, by-option, and-right, parts, whole, passed, passed-unless, passed-before}
+use Rattle.rules.specs.SchemaUpdates.{reusedSchema, schemaIds, addSchemaChecks, offeredAs, newSchema, addSchema, chosen, choiceChecks, holdsSchema, setCurrentSchemaChecks, setCurrentSchema, removeSchemasChecks, removeSchemas}
+use Rattle.rules.proofs.Checks.{by-test, by-option, both, and-left, and-right, parts, whole, passed, passed-unless, passed-before}
 use Rattle.rules.proofs.Orders.{numbers-ordered, numbers-told, highest-nonNeg, suc-nonNeg}
 use Rattle.rules.proofs.Tables.{any-put, any-keep, table-put, table-keep}
 use Rattle.rules.proofs.Sound.Metadata.{Sound, SoundState, with-fields, with-current-schema, with-schemas}
@@ -42,6 +42,13 @@ schema-named : (s : Schema) (id : ℤ) → nonNeg id ≡ true → schemaFormed s
 schema-named s id h k =
     let more : List Bool = leb (length (s .fields)) schemaFieldRoom ∷ all atLeastOne (fieldIds s) ∷ unequal (fieldIds s) ∷ [] in
     whole (nonNeg id) more (h, parts (nonNeg (s .id)) more k .1)
+
+-- the bytes of an offer do not say its id
+pub reoffered-formed : (offers : List ℕ) (id : ℤ) (o : SchemaOffer) → nonNeg id ≡ true → offerFormed offers o ≡ true → offerFormed offers (offeredAs id o) ≡ true
+unfolding offerFormed isTidyOffer offeredSchema
+reoffered-formed offers id o n h =
+    both (and-left (isTidyOffer offers o) (schemaFormed (offeredSchema offers o)) h)
+    (schema-named (offeredSchema offers o) id n (and-right (isTidyOffer offers o) (schemaFormed (offeredSchema offers o)) h))
 
 new-schema-sound : (o : SchemaOffer) (s : Schema) (st : State) → schemaFormed s ≡ true → length (st .metadata .schemas) < schemaRoom → Sound (st .metadata) → Sound (newSchema o s st .metadata)
 unfolding schemasFormed fieldsFormed currentSchemaHeld
