@@ -238,7 +238,9 @@ pub fn run(
             continue;
         }
         if kind <= SET_DEFAULT_SORT_ORDER {
-            decision = order_family::decide(builder, schemas, orders, update);
+            let fields = builder.fields;
+            let schema = tables::schemas::get(schemas, fields.current_schema_id);
+            decision = order_family::decide(builder, schema, orders, update);
             orders = order_family::after(orders, update, decision);
             continue;
         }
@@ -267,7 +269,8 @@ pub fn run(
     let stored = metadata.metadata_log.count;
     let gone = surplus(stored, terms.has_file, most);
     let overfull = is_overfull(stored, terms.has_file, gone);
-    number = close_number(history, fields, refs, schemas, orders, overfull);
+    let schema = tables::schemas::get(schemas, fields.current_schema_id);
+    number = close_number(history, fields, refs, schema, orders, overfull);
     if number != ACCEPTED {
         return refused(metadata, number, listed);
     }

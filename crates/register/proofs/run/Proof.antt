@@ -42,7 +42,7 @@ use Rattle.start.proofs.Started.{refused-start}
 use Rattle.refinement.specs.Standing.{Given, termsOf, Pieces, Represents, Standing, OwnTable, Slots, withTable, ownLists, laidOf}
 use Rattle.refinement.specs.Standing.OwnTable.{ofSchemas, ofOrders, ofStatistics}
 use Rattle.refinement.specs.Turns.{nothing, updateAt, nameAt, Midway, Stands, Decided, Turn}
-use Rattle.refinement.proofs.Beginning.{start-snapshots, start-log, start-short, standing-start, laid-snapshots, laid-refs, laid-log, laid-schemas, laid-orders, laid-statistics, statistics-ascend, location-fits, snapshots-ascend, schemas-ascend, refs-ascend, orders-formed, schema-held, order-held}
+use Rattle.refinement.proofs.Beginning.{start-snapshots, start-log, start-short, standing-start, laid-snapshots, laid-refs, laid-log, laid-schemas, laid-orders, laid-statistics, statistics-ascend, location-fits, snapshots-ascend, schemas-ascend, refs-ascend, orders-formed, schema-held, current-is, order-held}
 use Rattle.refinement.proofs.Closed.{held-ids, held-ascend, held-fits, held-within, held-slice, adds-within, added-slice, mains-within, main-slice, adds-most, mains-most, told, handed, files-laid, files-fit, gone-fits, overfull-is, joins-fit, stay-is, gone-is, checks, close-refused, close-accepted}
 use Rattle.refinement.proofs.Moving.{fits, ends}
 use Rattle.refinement.proofs.Deciding.{whole, not-formed-decided, fields-decided, refs-decided, refs-left, tabled, numberOf, own-decided}
@@ -490,12 +490,12 @@ module _ (c : tie.After-surplus Inv-loop μ-loop Inv-loop2 μ-loop2) where
 
 module _ (c : tie.After-close-number Inv-loop μ-loop Inv-loop2 μ-loop2) where
   abbrev filing : tie.After-surplus Inv-loop μ-loop Inv-loop2 μ-loop2
-  filing = c .before .before
+  filing = c .before .before .before
 
   numbered : c .close-number .result ≡ firstOf (checks (E filing))
   numbered =
-      c .close-number .ensures (termsOf (given (end-at (closing filing)))) (end (closing filing) .state .log) (end (closing filing) .state .metadata) (history filing) (handed (E filing))
-      (overfull-is (E filing) (filing .before .limit .ensures) (filing .surplus .ensures) (c .before .is-overfull .ensures))
+      c .close-number .ensures (termsOf (given (end-at (closing filing)))) (end (closing filing) .state .log) (end (closing filing) .state .metadata) (history filing) (handed (E filing) (current-is (E filing) (c .before .get2 .ensures .0)))
+      (overfull-is (E filing) (filing .before .limit .ensures) (filing .surplus .ensures) (c .before .before .is-overfull .ensures))
 
 loop-holds : tie.Need-loop-holds Inv-loop μ-loop Inv-loop2 μ-loop2
 unfolding listSum
@@ -667,12 +667,12 @@ loop2-again-13 c =
 
 loop2-again-14 : tie.Need-loop2-again-14 Inv-loop μ-loop Inv-loop2 μ-loop2
 loop2-again-14 c =
-    let t = c .before .before in
+    let t = c .before .before .before in
     let e = ordering t in
     let s = ordered t in
     let T = s .stands .tables in
     let D = c .before .decide3 .ensures in
-    own e s ofOrders (is-orders (u e) (formed e) (t .before .if13 .left) (t .if14 .taken)) (D .answers (terms e) (s .state) (T .builder) (T .ownTables .schemas) (T .ownTables .orders))
+    own e s ofOrders (is-orders (u e) (formed e) (t .before .if13 .left) (t .if14 .taken)) (D .answers (terms e) (s .state) (T .builder) (current-is (s .stands) (c .before .before .get .ensures .0)) (T .ownTables .orders))
     (λ z. c .after3 .ensures ∙ D .table (terms e) (s .state) (T .ownTables .orders) z)
 
 loop2-again-15 : tie.Need-loop2-again-15 Inv-loop μ-loop Inv-loop2 μ-loop2
@@ -820,9 +820,10 @@ run-spec =
     (λ c κs. (laid-schemas (shaped (c .before) .stands), c .decide2 .ensures .next))
     (λ c. turn-less (deciding (shaping (c .before .before))))
     loop2-again-13
-    (λ c κs. let e = ordering c in let E = ordered c .stands in (laid-schemas E, (schema-held E, (laid-orders E, (orders-formed E, (tidy e, (by-kind e, (omega (arith, c .before .if13 .left), c .if14 .taken))))))))
-    (λ c κs. (laid-orders (ordered (c .before) .stands), c .decide3 .ensures .new))
-    (λ c. turn-less (deciding (ordering (c .before .before))))
+    (λ c κs. let E = ordered c .stands in (laid-schemas E, schema-held E))
+    (λ c κs. let t = c .before in let e = ordering t in let E = ordered t .stands in (c .get .ensures .1, (laid-orders E, (orders-formed E, (tidy e, (by-kind e, (omega (arith, t .before .if13 .left), t .if14 .taken)))))))
+    (λ c κs. (laid-orders (ordered (c .before .before) .stands), c .decide3 .ensures .new))
+    (λ c. turn-less (deciding (ordering (c .before .before .before))))
     loop2-again-14
     (λ c κs. let e = filing-at c in (laid-statistics (filed c .stands) Statistics, (tidy e, by-kind e)))
     (λ c κs. let E = filed (c .before) .stands in (laid-statistics E Statistics, (statistics-ascend E Statistics, c .decide4 .ensures .new)))
@@ -844,7 +845,8 @@ run-spec =
     (λ c κs. search needs)
     (λ c κs. files-fit (end (c .before .before .before .before .before .before) .stands))
     (λ c κs. (files-fit (E c), gone-within c))
-    (λ c κs. let e = E (c .before) in (c .before .before .before .close-log .ensures .1, (laid-refs e, (laid-schemas e, (laid-orders e, (schema-held e, order-held e))))))
+    (λ c κs. let e = E (c .before) in (laid-schemas e, schema-held e))
+    (λ c κs. let e = E (c .before .before) in (c .before .before .before .before .close-log .ensures .1, (laid-refs e, (c .get2 .ensures .1, (laid-orders e, order-held e)))))
     (λ c κs. search needs)
     (λ c. let n = c .before .before in let e = closing (filing n) in c .refused2 .ensures ∙ close-refused (E (filing n)) _ (numbered n) (c .before .if17 .taken) ∙ ends (end e) (passed e))
     (λ c κs. let f = filing (c .before) in (files-laid (E f), (search needs, gone-within f)))

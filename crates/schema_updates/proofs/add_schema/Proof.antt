@@ -44,24 +44,26 @@ module _ (s : tie.Start) where
 returns : tie.Need-returns
 unfolding checks effect
 returns c =
-    let s = c .before .before .before in
-    let n : offerFormed (bytes s) (offer s) ≡ false = sym (c .before .before .schema .ensures .formed) ∙ not-true (c .before .before .schema .result .formed) (c .before .if1 .taken) in
+    let k = c .before .before .before in
+    let s = k .before .before .before .before in
+    let n : offerFormed (bytes s) (offer s) ≡ false = sym (k .schema .ensures .formed) ∙ not-true (k .schema .result .formed) (c .before .if1 .taken) in
     let d : c .decided .result .number ≡ 3 = ap (λ (x : Decision). x .number) (c .decided .ensures) in
-    let z : {A : Type 0} → c .decided .result .number ≡ 0 → A = λ e. absurd (let y : _≡_ {A = ℕ} 3 0 = sym d ∙ e in omega arith) in
+    let z : c .decided .result .number ≡ 0 → ⊥ = λ e. (let y : _≡_ {A = ℕ} 3 0 = sym d ∙ e in omega arith) in
     record {
-      answers = λ terms st h p q. rw (read s, h, n) (d, λ e. z e);
-      table = λ terms st h q e. z e;
+      answers = λ terms st h p q. rw (read s, h, n) (d, λ e. absurd (z e));
+      table = λ terms st h q e. absurd (z e);
       new = λ g. absurd (false≢true (sym (ap (λ (x : Decision). x .grows) (c .decided .ensures)) ∙ g));
     }
 
 returns-2 : tie.Need-returns-2
 unfolding checks effect laidSchema offeredSchema
 returns-2 c =
-    let x = c .before .before in
+    let x = c .before .before .before in
     let f = x .before in
-    let s = f .before .before in
+    let k = f .before .before in
+    let s = k .before .before .before .before in
     let a = x .schema-addition in
-    let b = f .before .schema in
+    let b = k .schema in
     let w : b .result .formed ≡ true = not-false (b .result .formed) (f .if1 .left) in
     let y : offerFormed (bytes s) (offer s) ≡ true = sym (b .ensures .formed) ∙ w in
     let l : b .result .schema ≡ laidSchema (offeredSchema (bytes s) (offer s)) = b .ensures .says w in
@@ -75,4 +77,4 @@ returns-2 c =
     }
 
 pub add-schema-spec : {M : Type 1} → statement M
-add-schema-spec = tie.close (tie.spec (λ c κs. search needs) (λ c κs. search needs) returns (λ c κs. (c .before .before .before .pre .0, c .before .before .schema .ensures .laid)) returns-2)
+add-schema-spec = tie.close (tie.spec (λ c κs. search needs) (λ c κs. search needs) returns (λ c κs. let k = c .before .before in (k .before .before .before .before .pre .0, k .schema .ensures .laid)) returns-2)

@@ -13,7 +13,7 @@ use Rattle.schema_updates.proofs.schemas_after.Tie as tie
 
 module _ (c : tie.After-schema) where
   abbrev s : tie.Start
-  s = c .before .before
+  s = c .before .before .before
 
   abbrev offer : plain.SchemaOffer
   offer = readSchemaOffer (s .args .d .entry .schemas .added)

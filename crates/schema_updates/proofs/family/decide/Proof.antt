@@ -15,12 +15,12 @@ use Rattle.schema_updates.proofs.family.decide.Tie as tie
 apart : (k : ℕ) {a b : ℕ} → k ≡ a → k ≡ b → (a ≡ b → ⊥) → {A : Type 0} → A
 apart k p q n = absurd (n (sym p ∙ q))
 
-removes : (c : tie.Else2) → c .before .before .args .u .kind ≡ removeSchemasKind
-removes c = let s = c .before .before in omega (arith, s .pre .1 .1 .1 .1 .0, s .pre .1 .1 .1 .1 .1, c .before .if1 .left, c .if2 .left)
+removes : (c : tie.Else2) → c .before .before .before .args .u .kind ≡ removeSchemasKind
+removes c = let s = c .before .before .before in omega (arith, s .pre .1 .1 .1 .1 .0, s .pre .1 .1 .1 .1 .1, c .before .if1 .left, c .if2 .left)
 
 returns : tie.Need-returns
 returns c =
-    let s = c .before .before in
+    let s = c .before .before .before in
     let k = c .before .if1 .taken in
     let D = c .add-schema .ensures in
     record {
@@ -31,7 +31,7 @@ returns c =
 
 returns-2 : tie.Need-returns-2
 returns-2 c =
-    let s = c .before .before .before in
+    let s = c .before .before .before .before in
     let k = c .before .if2 .taken in
     record {
       answers = λ terms st _. c .set-current-schema .ensures terms st;
@@ -42,7 +42,7 @@ returns-2 c =
 returns-3 : tie.Need-returns-3
 unfolding updateFormed
 returns-3 c =
-    let s = c .before .before .before in
+    let s = c .before .before .before .before in
     let u = s .args .u in
     let k = removes (c .before) in
     record {
@@ -55,9 +55,9 @@ pub decide-spec : {M : Type 1} → statement M
 decide-spec =
     tie.close
     (tie.spec
-    (λ c κs. let s = c .before in (s .pre .0, (s .pre .1 .1 .0, c .if1 .taken)))
+    (λ c κs. let s = c .before .before in (s .pre .0, (s .pre .1 .1 .0, c .if1 .taken)))
     returns
-    (λ c κs. let s = c .before .before in (s .pre .0, (s .pre .1 .1 .0, c .if2 .taken)))
+    (λ c κs. let s = c .before .before .before in (s .pre .0, (s .pre .1 .1 .0, c .if2 .taken)))
     returns-2
-    (λ c κs. let s = c .before .before in (s .pre .0, (s .pre .1 .0, (s .pre .1 .1 .0, (s .pre .1 .1 .1 .0, removes c)))))
+    (λ c κs. let s = c .before .before .before in (s .pre .0, (s .pre .1 .0, (s .pre .1 .1 .0, (s .pre .1 .1 .1 .0, removes c)))))
     returns-3)
