@@ -203,8 +203,8 @@ module _ {g : Given} {st : State} {p : Pieces} (E : Represents g st p) where
   schema-held = rw (read-schemas, ap (λ (x : plain.SingleFields). x .currentSchema) read-fields) (E .sound .schemaHeld)
 
   -- what is held under the id of the builder is the current schema
-  pub current-is : {s : Schema} → first (hasSchema (p .held .builder .fields .«current_schema_id» .0)) (readSchemas (p .held .ownTables .schemas)) ≡ some (readSchema s) → IsCurrent (st .metadata) s
-  current-is e = rw (read-schemas, ap (λ (x : plain.SingleFields). x .currentSchema) read-fields) at e
+  pub current-is : (s : Schema) → first (hasSchema (p .held .builder .fields .«current_schema_id» .0)) (readSchemas (p .held .ownTables .schemas)) ≡ some (readSchema s) → IsCurrent (st .metadata) s
+  current-is s e = rw (read-schemas, ap (λ (x : plain.SingleFields). x .currentSchema) read-fields) at e
 
   pub order-held : any (hasOrder (p .held .builder .fields .«default_sort_order_id» .0)) (readSortOrders (p .held .ownTables .orders)) ≡ true
   unfolding defaultOrderHeld

@@ -118,8 +118,8 @@ module _ {g : Given} {st : State} {p : Pieces} (E : Represents g st p) where
         removes = E .logs .removal;
       }
 
-  pub handed : {s : Schema} → IsCurrent (st .metadata) s → Handed (st .metadata) (p .held .builder .fields) (p .held .refs) s (p .held .ownTables .orders)
-  handed c = record { single = read-fields E; named = read-refs E; current = c; sorts = read-orders E }
+  pub handed : (s : Schema) → IsCurrent (st .metadata) s → Handed (st .metadata) (p .held .builder .fields) (p .held .refs) s (p .held .ownTables .orders)
+  handed s c = record { single = read-fields E; named = read-refs E; current = c; sorts = read-orders E }
 
   pub files-laid : LaidMetadataLog (g .metadata .«metadata_log»)
   unfolding metadataLogFormed

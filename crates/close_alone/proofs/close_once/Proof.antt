@@ -51,7 +51,7 @@ module _ (c : tie.After-close-number) where
   numbered =
       let s = start filing in
       let e = E s in
-      c .close-number .ensures (termsOf (asked (s .args .m) (s .args .terms) (s .args .text .now))) removal (now-state s .metadata) (filing .before .before .close-log .ensures .0 removal (now-state s .metadata) (told s)) (handed e (current-is e (c .before .get .ensures .0)))
+      c .close-number .ensures (termsOf (asked (s .args .m) (s .args .terms) (s .args .text .now))) removal (now-state s .metadata) (filing .before .before .close-log .ensures .0 removal (now-state s .metadata) (told s)) (handed e (c .before .get .result) (current-is e (c .before .get .result) (c .before .get .ensures .0)))
       (overfull-is e (filing .before .limit .ensures) (filing .surplus .ensures) (c .before .before .is-overfull .ensures))
 
 pub close-once-spec : {M : Type 1} → statement M

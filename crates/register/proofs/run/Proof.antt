@@ -494,7 +494,7 @@ module _ (c : tie.After-close-number Inv-loop μ-loop Inv-loop2 μ-loop2) where
 
   numbered : c .close-number .result ≡ firstOf (checks (E filing))
   numbered =
-      c .close-number .ensures (termsOf (given (end-at (closing filing)))) (end (closing filing) .state .log) (end (closing filing) .state .metadata) (history filing) (handed (E filing) (current-is (E filing) (c .before .get2 .ensures .0)))
+      c .close-number .ensures (termsOf (given (end-at (closing filing)))) (end (closing filing) .state .log) (end (closing filing) .state .metadata) (history filing) (handed (E filing) (c .before .get2 .result) (current-is (E filing) (c .before .get2 .result) (c .before .get2 .ensures .0)))
       (overfull-is (E filing) (filing .before .limit .ensures) (filing .surplus .ensures) (c .before .before .is-overfull .ensures))
 
 loop-holds : tie.Need-loop-holds Inv-loop μ-loop Inv-loop2 μ-loop2
@@ -672,7 +672,7 @@ loop2-again-14 c =
     let s = ordered t in
     let T = s .stands .tables in
     let D = c .before .decide3 .ensures in
-    own e s ofOrders (is-orders (u e) (formed e) (t .before .if13 .left) (t .if14 .taken)) (D .answers (terms e) (s .state) (T .builder) (current-is (s .stands) (c .before .before .get .ensures .0)) (T .ownTables .orders))
+    own e s ofOrders (is-orders (u e) (formed e) (t .before .if13 .left) (t .if14 .taken)) (D .answers (terms e) (s .state) (T .builder) (current-is (s .stands) (c .before .before .get .result) (c .before .before .get .ensures .0)) (T .ownTables .orders))
     (λ z. c .after3 .ensures ∙ D .table (terms e) (s .state) (T .ownTables .orders) z)
 
 loop2-again-15 : tie.Need-loop2-again-15 Inv-loop μ-loop Inv-loop2 μ-loop2
