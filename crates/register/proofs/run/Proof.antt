@@ -90,7 +90,7 @@ abbrev μ-loop2 : tie.MeasureT-loop2
 -- ---- before the loops
 
 abbrev begin : tie.After-partition-statistics Inv-loop μ-loop Inv-loop2 μ-loop2 → tie.Start Inv-loop μ-loop Inv-loop2 μ-loop2
-begin c = c .before .before .before .before .before .before .before .before .before .before .before .before .before .before .before
+begin c = c .before .before .before .before .before .before .before .before .before .before .before .before .before .before .before .before
 
 -- what the run is given
 abbrev G : tie.After-partition-statistics Inv-loop μ-loop Inv-loop2 μ-loop2 → Given
@@ -667,7 +667,7 @@ loop2-again-13 c =
 
 loop2-again-14 : tie.Need-loop2-again-14 Inv-loop μ-loop Inv-loop2 μ-loop2
 loop2-again-14 c =
-    let t = c .before .before .before in
+    let t = c .before .before .before .before in
     let e = ordering t in
     let s = ordered t in
     let T = s .stands .tables in
@@ -820,10 +820,10 @@ run-spec =
     (λ c κs. (laid-schemas (shaped (c .before) .stands), c .decide2 .ensures .next))
     (λ c. turn-less (deciding (shaping (c .before .before))))
     loop2-again-13
-    (λ c κs. let E = ordered c .stands in (laid-schemas E, schema-held E))
-    (λ c κs. let t = c .before in let e = ordering t in let E = ordered t .stands in (c .get .ensures .1, (laid-orders E, (orders-formed E, (tidy e, (by-kind e, (omega (arith, t .before .if13 .left), t .if14 .taken)))))))
-    (λ c κs. (laid-orders (ordered (c .before .before) .stands), c .decide3 .ensures .new))
-    (λ c. turn-less (deciding (ordering (c .before .before .before))))
+    (λ c κs. let E = ordered (c .before) .stands in (laid-schemas E, schema-held E))
+    (λ c κs. let t = c .before .before in let e = ordering t in let E = ordered t .stands in (c .get .ensures .1, (laid-orders E, (orders-formed E, (tidy e, (by-kind e, (omega (arith, t .before .if13 .left), t .if14 .taken)))))))
+    (λ c κs. (laid-orders (ordered (c .before .before .before) .stands), c .decide3 .ensures .new))
+    (λ c. turn-less (deciding (ordering (c .before .before .before .before))))
     loop2-again-14
     (λ c κs. let e = filing-at c in (laid-statistics (filed c .stands) Statistics, (tidy e, by-kind e)))
     (λ c κs. let E = filed (c .before) .stands in (laid-statistics E Statistics, (statistics-ascend E Statistics, c .decide4 .ensures .new)))
