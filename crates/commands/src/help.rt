@@ -8,6 +8,7 @@ use command::word_count;
 use plaintext::name::say_name;
 use plaintext::text::say;
 use plaintext::text::say_between;
+use plaintext::text::say_line;
 use tokens::output::Output;
 
 // A part for each command, in the order of their numbers.
@@ -70,13 +71,13 @@ pub fn next_help(mut turn: Turn, output: &mut Output, end: &mut usize) -> Turn {
 fn say_word(line: &[u8], at: usize, output: &mut Output, end: &mut usize) {
     let mut word = io::buffer();
     let len = read_word(line, at, &mut word);
-    if at < word_count(line) {
-        say(output, end, b"unknown command: ");
+    let is_given = at < word_count(line);
+    let words = b"no command is given\nunknown command: \n";
+    say_line(output, end, words, is_given as usize);
+    if is_given {
         say_name(output, end, &word[..len], len);
-        say(output, end, b"\n");
-    } else {
-        say(output, end, b"no command is given\n");
     }
+    say(output, end, b"\n");
 }
 
 // The list, and below it the word that is no command.

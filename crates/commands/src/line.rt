@@ -32,10 +32,11 @@ const ALL_LINES: usize = 34;
 
 // The program's own line, or the tour, with the word `all` whole.
 pub fn begin() -> Turn {
-    if command_at(b"", 0) != TOUR || asks_for_help(b"") {
+    let own = b"";
+    if command_at(own, 0) != TOUR || asks_for_help(own) {
         return start_of_lines(NONE, NONE + 2);
     }
-    if which_word(b"", 1, b"all\n") == 0 {
+    if which_word(own, 1, b"all\n") == 0 {
         return start_of_lines(0, ALL_LINES);
     }
     start_of_lines(0, TOUR_LINES)

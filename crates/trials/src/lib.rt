@@ -35,11 +35,11 @@ pub fn answer(
         WALK_OVER_IDS => walks::ids(times, input, place, output, end),
         WALK_OVER_RECORDS => walks::records(times, input, place, output, end),
         4 => leaf::limit(input, place, output, end),
-        5 => leaf::window(input, place, output, end),
+        5 => leaf::window(false, input, place, output, end),
         6 => leaf::row_ids(input, place, output, end),
         7 => leaf::trim(input, place, output, end),
         8 => moments::current_at(input, place, output, end),
-        10 => leaf::window_given_tolerance(input, place, output, end),
+        10 => leaf::window(true, input, place, output, end),
         11 => rows::rows_apart(input, place, output, end),
         _ => spoil(place, CASE, KINDS),
     }
