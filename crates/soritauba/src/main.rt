@@ -71,7 +71,7 @@ fn run_times(
     answer
 }
 
-// The run, or the close by itself.
+// The run, or the close by itself. One run is asked apart from many, so that less stack is needed.
 fn ask(wanted: usize, times: u64, run: Run) -> Answer {
     let text = run.limit;
     let bytes = text.bytes;
@@ -79,6 +79,9 @@ fn ask(wanted: usize, times: u64, run: Run) -> Answer {
     let len = lent(slots, text.len);
     if wanted == CLOSED {
         return close_alone::close(times, run.metadata, run.terms, &slots[..len]);
+    }
+    if times == 1 {
+        return register::run(run.metadata, run.updates, run.terms, &slots[..len]);
     }
     run_times(times, run.metadata, run.updates, run.terms, &slots[..len])
 }
