@@ -1,5 +1,6 @@
 // The answer: accepted, with this session's metadata, changes and expired metadata files; or refused, and why.
-use crate::conditions::say_removes_and_adds;
+use crate::conditions::REMOVES_AND_ADDS;
+use crate::conditions::say_condition;
 use crate::conditions::say_with_conditions;
 use faults::fault;
 use faults::start_fault;
@@ -18,7 +19,8 @@ fn say_accepted(output: &mut Output, end: &mut usize, answer: Answer) {
     say_with_conditions(output, end, answer.metadata);
     say(output, end, b"what changed\n");
     say_updates(output, end, b"change log", answer.changes);
-    say_removes_and_adds(output, end, histories::removes_and_adds(answer.changes));
+    let both = histories::removes_and_adds(answer.changes);
+    say_condition(output, end, REMOVES_AND_ADDS, both);
     say_files(output, end, b"expired metadata files", answer.expired);
 }
 
@@ -34,9 +36,9 @@ pub fn fault_of(number: u8, metadata: TableMetadata, terms: RunTerms) -> u8 {
 pub fn say_answer(output: &mut Output, end: &mut usize, terms: RunTerms, answer: Answer) {
     if answer.number == 0 {
         say_accepted(output, end, answer);
-        return;
+    } else {
+        let found = fault_of(answer.number, answer.metadata, terms);
+        say_refusal(output, end, answer.number, answer.place, found);
+        say(output, end, b"\nthe metadata stays as it was\n");
     }
-    let found = fault_of(answer.number, answer.metadata, terms);
-    say_refusal(output, end, answer.number, answer.place, found);
-    say(output, end, b"\nthe metadata stays as it was\n");
 }

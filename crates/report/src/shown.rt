@@ -5,7 +5,7 @@ use crate::example::FILES;
 use crate::example::HISTORY;
 use cards::card::Card;
 use cards::record::file;
-use plaintext::number::say_i64;
+use cards::record::log_entry;
 use plaintext::table::say_comma;
 use plaintext::table::say_none;
 use plaintext::template::say_part;
@@ -43,14 +43,12 @@ pub fn say_label(output: &mut Output, end: &mut usize, step: usize) {
     say_line(output, end, labels, step);
 }
 
+// The braces of JSON stand outside of the template, where they would be marks.
 fn say_entry(output: &mut Output, end: &mut usize, at: usize, entry: SnapshotLogEntry) {
-    if at > 0 {
-        say(output, end, b",");
-    }
-    say(output, end, b"{\"snapshot-id\":");
-    say_i64(output, end, entry.snapshot_id.0);
-    say(output, end, b",\"timestamp-ms\":");
-    say_i64(output, end, entry.timestamp_ms.0);
+    let starts = b"{\n,{\n";
+    let template = b"\"snapshot-id\":#0,\"timestamp-ms\":#1";
+    say_line(output, end, starts, (at > 0) as usize);
+    say_part(output, end, template, 0, 0, log_entry(entry));
     say(output, end, b"}");
 }
 

@@ -6,18 +6,14 @@ use case_reader::run::read_ending;
 use case_reader::run::read_run;
 use commands::advance;
 use commands::begin;
-use commands::tell::is_in_words;
 use commands::tell::put_answer_of;
-use commands::tell::tell_example;
 use commands::turn::ASKED;
 use commands::turn::CLOSED;
 use commands::turn::END;
 use commands::turn::JUDGED;
+use commands::turn::RUN;
 use commands::turn::SHOWN;
 use commands::turn::Turn;
-use commands::turn::first_of;
-use commands::turn::step_of;
-use commands::turn::times_of;
 use records::metadata::MetadataLog;
 use records::metadata::TableMetadata;
 use records::run::Answer;
@@ -31,7 +27,9 @@ use report::example::form_of;
 use report::example::run_of;
 use report::judged::Judged;
 use report::judged::say_judged;
+use report::shown::say_shown;
 use slot_bounds::lent;
+use std::num::wrapping_sub_usize;
 use tokens::input::Input;
 use tokens::input::Place;
 use tokens::input::empty_input;
@@ -73,28 +71,35 @@ fn run_times(
     answer
 }
 
-fn ask(times: u64, run: Run) -> Answer {
+// The run, or the close by itself. One run is asked apart from many, so that less stack is needed.
+fn ask(wanted: usize, times: u64, run: Run) -> Answer {
     let text = run.limit;
     let bytes = text.bytes;
     let slots: &[u8] = &bytes;
     let len = lent(slots, text.len);
+    if wanted == CLOSED {
+        return close_alone::close(times, run.metadata, run.terms, &slots[..len]);
+    }
     if times == 1 {
         return register::run(run.metadata, run.updates, run.terms, &slots[..len]);
     }
     run_times(times, run.metadata, run.updates, run.terms, &slots[..len])
 }
 
+fn say_run(number: usize, run: Run, output: &mut Output, end: &mut usize) {
+    say_asked(output, end, number, run);
+    say_answer(output, end, run.terms, ask(ASKED, 1, run));
+}
+
 // Nothing is said before the whole run is read, so that no part of its answer stands above `bad input`.
-fn run(turn: &Turn, input: &mut Input, place: &mut Place, output: &mut Output, end: &mut usize) {
-    let run = read_run(first_of(turn), input, place);
-    if !is_good(place) {
-        return;
-    }
-    if is_in_words(turn) {
-        say_asked(output, end, piece_of(place), run);
-        say_answer(output, end, run.terms, ask(1, run));
-    } else {
-        put_answer_of(output, end, run.given, ask(times_of(turn), run));
+fn run(turn: Turn, input: &mut Input, place: &mut Place, output: &mut Output, end: &mut usize) {
+    let run = read_run(turn.first, input, place);
+    if is_good(place) {
+        if turn.command == RUN {
+            say_run(piece_of(place), run, output, end);
+        } else {
+            put_answer_of(output, end, run.given, ask(turn.wanted, turn.times, run));
+        }
     }
 }
 
@@ -122,8 +127,8 @@ fn read_judged(first: u64, input: &mut Input, place: &mut Place) -> Judged {
     }
 }
 
-fn replay(turn: &Turn, input: &mut Input, place: &mut Place, output: &mut Output, end: &mut usize) {
-    let judged = read_judged(first_of(turn), input, place);
+fn replay(turn: Turn, input: &mut Input, place: &mut Place, output: &mut Output, end: &mut usize) {
+    let judged = read_judged(turn.first, input, place);
     if is_good(place) {
         say_judged(output, end, judged);
     }
@@ -133,42 +138,24 @@ fn replay(turn: &Turn, input: &mut Input, place: &mut Place, output: &mut Output
 fn answer_of(step: usize) -> Answer {
     let mut run = run_of(step);
     if form_of(step) == CHANGES_OF_REPLAY {
-        let first = ask(1, run);
+        let first = ask(ASKED, 1, run);
         let changes = first.changes;
         run.updates = changes;
     }
-    ask(1, run)
+    ask(ASKED, 1, run)
 }
 
-fn close_of(times: u64, run: Run) -> Answer {
-    let text = run.limit;
-    let bytes = text.bytes;
-    let slots: &[u8] = &bytes;
-    let len = lent(slots, text.len);
-    close_alone::close(times, run.metadata, run.terms, &slots[..len])
-}
-
-fn close(turn: &Turn, input: &mut Input, place: &mut Place, output: &mut Output, end: &mut usize) {
-    let run = read_run(first_of(turn), input, place);
-    if is_good(place) {
-        put_answer_of(output, end, run.given, close_of(times_of(turn), run));
-    }
+fn show(step: usize, output: &mut Output, end: &mut usize) {
+    say_shown(output, end, form_of(step), answer_of(step));
 }
 
 // What a step wants of the run.
-fn answer(
-    wanted: usize,
-    turn: &mut Turn,
-    input: &mut Input,
-    place: &mut Place,
-    output: &mut Output,
-    end: &mut usize,
-) {
+fn answer(turn: Turn, input: &mut Input, place: &mut Place, output: &mut Output, end: &mut usize) {
+    let wanted = turn.wanted;
     match wanted {
-        ASKED => run(turn, input, place, output, end),
+        ASKED | CLOSED => run(turn, input, place, output, end),
         JUDGED => replay(turn, input, place, output, end),
-        SHOWN => tell_example(turn, output, end, answer_of(step_of(turn))),
-        CLOSED => close(turn, input, place, output, end),
+        SHOWN => show(wrapping_sub_usize(turn.step, 1), output, end),
         _ => {}
     }
 }
@@ -182,17 +169,9 @@ fn main() {
     let mut output = empty_output();
     let mut end: usize = 0;
     let mut left = u64::MAX;
-    let mut wanted = advance(&mut turn, &mut input, &mut place, &mut output, &mut end);
-    while left > 0 && wanted != END {
-        answer(
-            wanted,
-            &mut turn,
-            &mut input,
-            &mut place,
-            &mut output,
-            &mut end,
-        );
-        wanted = advance(&mut turn, &mut input, &mut place, &mut output, &mut end);
+    while left > 0 && turn.wanted != END {
+        answer(turn, &mut input, &mut place, &mut output, &mut end);
+        turn = advance(turn, &mut input, &mut place, &mut output, &mut end);
         left -= 1;
     }
     flush(&output, end);
