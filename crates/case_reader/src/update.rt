@@ -1,6 +1,7 @@
 // Updates: a kind, then what that kind uses. Nothing follows an unknown kind.
+use crate::offer::place_of;
+use crate::offer::read_schema_offer;
 use crate::reference::read_reference;
-use crate::schema::read_schema;
 use crate::schema::read_schema_ids;
 use crate::snapshot::read_snapshot;
 use crate::snapshot::read_snapshot_ids;
@@ -69,7 +70,13 @@ fn read_early_kind(kind: u8, input: &mut Input, place: &mut Place) -> TableUpdat
 }
 
 // Kinds 7 to 13.
-fn read_late_kind(kind: u8, input: &mut Input, place: &mut Place) -> TableUpdate {
+fn read_late_kind(
+    kind: u8,
+    input: &mut Input,
+    place: &mut Place,
+    offers: &mut [u8],
+    at: usize,
+) -> TableUpdate {
     let mut u = TableUpdate::blank();
     u.kind = kind;
     let mut refs = u.refs;
@@ -81,7 +88,7 @@ fn read_late_kind(kind: u8, input: &mut Input, place: &mut Place) -> TableUpdate
             refs.reference = read_reference(input, place);
         }
         REMOVE_REF => refs.name = read_ref_name(input, place),
-        ADD_SCHEMA => schemas.added = read_schema(input, place),
+        ADD_SCHEMA => schemas.added = read_schema_offer(input, place, offers, at),
         SET_CURRENT_SCHEMA => {
             let id = SchemaId(read_i32(input, place));
             schemas.chosen = id;
@@ -119,23 +126,24 @@ fn read_statistics_kind(kind: u8, input: &mut Input, place: &mut Place) -> Table
     u
 }
 
-fn read_update(input: &mut Input, place: &mut Place) -> TableUpdate {
+// What it offers is put among the offers, from a place of its own on.
+fn read_update(input: &mut Input, place: &mut Place, offers: &mut [u8], at: usize) -> TableUpdate {
     let kind = read_u8(input, place);
     if kind < SET_REF {
         read_early_kind(kind, input, place)
     } else if kind < SET_STATISTICS {
-        read_late_kind(kind, input, place)
+        read_late_kind(kind, input, place, offers, at)
     } else {
         read_statistics_kind(kind, input, place)
     }
 }
 
-pub fn read_updates(input: &mut Input, place: &mut Place) -> UpdateList {
+pub fn read_updates(input: &mut Input, place: &mut Place, offers: &mut [u8]) -> UpdateList {
     let mut list = UpdateList::blank();
     let count = read_count(input, place);
     let mut i = 0;
     while i < count && is_good(place) {
-        let update = read_update(input, place);
+        let update = read_update(input, place, offers, place_of(i));
         let at = i;
         i += 1;
         if at < UPDATES {

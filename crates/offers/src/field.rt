@@ -9,9 +9,6 @@ ghost use Rattle.rules.specs.Layout.{laidSchemaField};
 use records::counters::FieldId;
 use records::schema::SchemaField;
 
-// How many bytes a field has, used or not.
-pub const FIELD_BYTES: usize = 38;
-
 // The largest id of 32 bits.
 const LARGEST_FIELD_ID: u64 = i32::MAX as u64;
 

@@ -92,12 +92,7 @@ pub struct OrderAdded {
     pub builder: TableMetadataBuilder,
 }
 
-fn order_addition(
-    b: TableMetadataBuilder,
-    t: SortOrders,
-    s: Schema,
-    o: SortOrder,
-) -> OrderAdded
+fn order_addition(b: TableMetadataBuilder, t: SortOrders, s: Schema, o: SortOrder) -> OrderAdded
     requires { ⌜ LaidOrders t ⌝ }
     requires { ⌜ ordersFormed (readSortOrders t) ≡ true ⌝ }
     requires { ⌜ LaidSchema s ⌝ }
@@ -172,12 +167,7 @@ fn order_choice(b: TableMetadataBuilder, t: SortOrders, id: SortOrderId) -> Orde
 
 // ---- the updates of a list
 
-pub fn add_sort_order(
-    b: TableMetadataBuilder,
-    s: Schema,
-    t: SortOrders,
-    u: TableUpdate,
-) -> Decision
+pub fn add_sort_order(b: TableMetadataBuilder, s: Schema, t: SortOrders, u: TableUpdate) -> Decision
     requires { ⌜ LaidSchema s ⌝ }
     requires { ⌜ LaidOrders t ⌝ }
     requires { ⌜ ordersFormed (readSortOrders t) ≡ true ⌝ }

@@ -14,11 +14,11 @@ use records::run::Answer;
 use records::run::RunTerms;
 use tokens::output::Output;
 
-fn say_accepted(output: &mut Output, end: &mut usize, answer: Answer) {
+fn say_accepted(output: &mut Output, end: &mut usize, answer: Answer, offers: &[u8]) {
     say(output, end, b"accepted\nthis session's metadata\n");
     say_with_conditions(output, end, answer.metadata);
     say(output, end, b"what changed\n");
-    say_updates(output, end, b"change log", answer.changes);
+    say_updates(output, end, b"change log", answer.changes, offers);
     let both = histories::removes_and_adds(answer.changes);
     say_condition(output, end, REMOVES_AND_ADDS, both);
     say_files(output, end, b"expired metadata files", answer.expired);
@@ -33,9 +33,16 @@ pub fn fault_of(number: u8, metadata: TableMetadata, terms: RunTerms) -> u8 {
 }
 
 // A refused run gives back the metadata that it started from.
-pub fn say_answer(output: &mut Output, end: &mut usize, terms: RunTerms, answer: Answer) {
+// The offers are those of the run: the change log names them.
+pub fn say_answer(
+    output: &mut Output,
+    end: &mut usize,
+    terms: RunTerms,
+    answer: Answer,
+    offers: &[u8],
+) {
     if answer.number == 0 {
-        say_accepted(output, end, answer);
+        say_accepted(output, end, answer, offers);
     } else {
         let found = fault_of(answer.number, answer.metadata, terms);
         say_refusal(output, end, answer.number, answer.place, found);

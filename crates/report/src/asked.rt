@@ -48,10 +48,10 @@ fn say_terms(output: &mut Output, end: &mut usize, terms: Card) {
     say_part(output, end, template, 0, 0, terms);
 }
 
-pub fn say_asked(output: &mut Output, end: &mut usize, number: usize, run: Run) {
+pub fn say_asked(output: &mut Output, end: &mut usize, number: usize, run: Run, offers: &[u8]) {
     let heading = b"run %0\nlast session's metadata\n";
     say_part(output, end, heading, 0, 0, counted(number, 0));
     say_with_conditions(output, end, run.metadata);
     say_terms(output, end, terms_card(run.terms, limit_of(run.limit)));
-    say_updates(output, end, b"updates", run.updates);
+    say_updates(output, end, b"updates", run.updates, offers);
 }

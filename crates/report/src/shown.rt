@@ -76,6 +76,7 @@ fn say_files(output: &mut Output, end: &mut usize, log: MetadataLog) {
     }
 }
 
+// No example offers anything.
 fn say_changes(output: &mut Output, end: &mut usize, changes: UpdateList) {
     let n = with_slots(changes.count, UPDATES);
     say_none(output, end, n);
@@ -83,7 +84,7 @@ fn say_changes(output: &mut Output, end: &mut usize, changes: UpdateList) {
     while i < n {
         let update = changes.items[i];
         say_comma(output, end, i);
-        say_update(output, end, update);
+        say_update(output, end, update, b"");
         i += 1;
     }
 }

@@ -14,6 +14,7 @@ use commands::turn::JUDGED;
 use commands::turn::RUN;
 use commands::turn::SHOWN;
 use commands::turn::Turn;
+use records::capacities::OFFERS;
 use records::metadata::MetadataLog;
 use records::metadata::TableMetadata;
 use records::run::Answer;
@@ -61,18 +62,19 @@ fn run_times(
     us: UpdateList,
     terms: RunTerms,
     limit: &[u8],
+    offers: &[u8],
 ) -> Answer {
     let mut answer = unasked(m);
     let mut left = times;
     while left > 0 {
-        answer = register::run(m, us, terms, limit);
+        answer = register::run(m, us, terms, limit, offers);
         left -= 1;
     }
     answer
 }
 
 // The run, or the close by itself. One run is asked apart from many, so that less stack is needed.
-fn ask(wanted: usize, times: u64, run: Run) -> Answer {
+fn ask(wanted: usize, times: u64, run: Run, offers: &[u8]) -> Answer {
     let text = run.limit;
     let bytes = text.bytes;
     let slots: &[u8] = &bytes;
@@ -81,40 +83,57 @@ fn ask(wanted: usize, times: u64, run: Run) -> Answer {
         return close_alone::close(times, run.metadata, run.terms, &slots[..len]);
     }
     if times == 1 {
-        return register::run(run.metadata, run.updates, run.terms, &slots[..len]);
+        return register::run(run.metadata, run.updates, run.terms, &slots[..len], offers);
     }
-    run_times(times, run.metadata, run.updates, run.terms, &slots[..len])
+    run_times(
+        times,
+        run.metadata,
+        run.updates,
+        run.terms,
+        &slots[..len],
+        offers,
+    )
 }
 
-fn say_run(number: usize, run: Run, output: &mut Output, end: &mut usize) {
-    say_asked(output, end, number, run);
-    say_answer(output, end, run.terms, ask(ASKED, 1, run));
+fn say_run(number: usize, run: Run, offers: &[u8], output: &mut Output, end: &mut usize) {
+    say_asked(output, end, number, run, offers);
+    say_answer(output, end, run.terms, ask(ASKED, 1, run, offers), offers);
 }
 
 // Nothing is said before the whole run is read, so that no part of its answer stands above `bad input`.
 fn run(turn: Turn, input: &mut Input, place: &mut Place, output: &mut Output, end: &mut usize) {
-    let run = read_run(turn.first, input, place);
+    let mut offers = [0u8; OFFERS];
+    let run = read_run(turn.first, input, place, &mut offers);
     if is_good(place) {
         if turn.command == RUN {
-            say_run(piece_of(place), run, output, end);
+            say_run(piece_of(place), run, &offers, output, end);
         } else {
-            put_answer_of(output, end, run.given, ask(turn.wanted, turn.times, run));
+            let answer = ask(turn.wanted, turn.times, run, &offers);
+            put_answer_of(output, end, run.given, answer, &offers);
         }
     }
 }
 
-fn judge(text: LimitText, run: Run, ending: TableMetadata) -> Verdict {
+fn judge(text: LimitText, run: Run, offers: &[u8], ending: TableMetadata) -> Verdict {
     let bytes = text.bytes;
     let slots: &[u8] = &bytes;
     let len = lent(slots, text.len);
-    verdict::judge(run.metadata, run.updates, run.terms, &slots[..len], ending)
+    verdict::judge(
+        run.metadata,
+        run.updates,
+        run.terms,
+        &slots[..len],
+        offers,
+        ending,
+    )
 }
 
 // What was read of a bad question is judged too, and its verdict is not said.
 fn read_judged(first: u64, input: &mut Input, place: &mut Place) -> Judged {
-    let run = read_run(first, input, place);
+    let mut offers = [0u8; OFFERS];
+    let run = read_run(first, input, place, &mut offers);
     let ending = read_ending(run.given, input, place);
-    let verdict = judge(run.limit, run, ending);
+    let verdict = judge(run.limit, run, &offers, ending);
     let fault = fault_of(verdict.number, run.metadata, run.terms);
     let difference = verdict.difference;
     let tolerance_ms = run.terms.tolerance_ms;
@@ -134,15 +153,15 @@ fn replay(turn: Turn, input: &mut Input, place: &mut Place, output: &mut Output,
     }
 }
 
-// Of P10 the changes of the run are run too.
+// Of P10 the changes of the run are run too. No example offers anything.
 fn answer_of(step: usize) -> Answer {
     let mut run = run_of(step);
     if form_of(step) == CHANGES_OF_REPLAY {
-        let first = ask(ASKED, 1, run);
+        let first = ask(ASKED, 1, run, b"");
         let changes = first.changes;
         run.updates = changes;
     }
-    ask(ASKED, 1, run)
+    ask(ASKED, 1, run, b"")
 }
 
 fn show(step: usize, output: &mut Output, end: &mut usize) {
