@@ -40,8 +40,7 @@ fn signed(number: u64) -> i64
     requires { ⌜ number < 4294967296 ⌝ }
 {
     if number > 2147483647 {
-        let lacks = 4294967296 - number;
-        return 0 - (lacks as i64);
+        return number as i64 - 4294967296;
     }
     number as i64
 }

@@ -1,4 +1,5 @@
 // What an update offers, as bytes that are lent to a run: the fields of a schema stand one after the other, from a place on that is the update's own.
+use cards::card::wide;
 use records::capacities::FIELD_BYTES;
 use records::capacities::SCHEMA_FIELDS;
 use records::capacities::UPDATES;
@@ -42,7 +43,7 @@ fn put_number(offers: &mut [u8], at: usize, number: u64) {
 
 // A number below 0 is put as what it lacks to 2^32: no field has such an id.
 fn put_id(offers: &mut [u8], at: usize, id: i32) {
-    let magnitude = absolute(id as i64);
+    let magnitude = absolute(wide(id));
     if id < 0 {
         put_number(offers, at, wrapping_sub_u64(4294967296, magnitude));
     } else {

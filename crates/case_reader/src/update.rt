@@ -69,14 +69,8 @@ fn read_early_kind(kind: u8, input: &mut Input, place: &mut Place) -> TableUpdat
     u
 }
 
-// Kinds 7 to 13.
-fn read_late_kind(
-    kind: u8,
-    input: &mut Input,
-    place: &mut Place,
-    offers: &mut [u8],
-    at: usize,
-) -> TableUpdate {
+// Kinds 7 to 13, but for 9.
+fn read_late_kind(kind: u8, input: &mut Input, place: &mut Place) -> TableUpdate {
     let mut u = TableUpdate::blank();
     u.kind = kind;
     let mut refs = u.refs;
@@ -88,7 +82,6 @@ fn read_late_kind(
             refs.reference = read_reference(input, place);
         }
         REMOVE_REF => refs.name = read_ref_name(input, place),
-        ADD_SCHEMA => schemas.added = read_schema_offer(input, place, offers, at),
         SET_CURRENT_SCHEMA => {
             let id = SchemaId(read_i32(input, place));
             schemas.chosen = id;
@@ -126,16 +119,33 @@ fn read_statistics_kind(kind: u8, input: &mut Input, place: &mut Place) -> Table
     u
 }
 
-// What it offers is put among the offers, from a place of its own on.
+// Kind 9. What it offers is put among the offers, from a place of its own on.
+fn read_offering(
+    input: &mut Input,
+    place: &mut Place,
+    offers: &mut [u8],
+    at: usize,
+) -> TableUpdate {
+    let mut u = TableUpdate::blank();
+    u.kind = ADD_SCHEMA;
+    let mut schemas = u.schemas;
+    schemas.added = read_schema_offer(input, place, offers, at);
+    u.schemas = schemas;
+    u
+}
+
 fn read_update(input: &mut Input, place: &mut Place, offers: &mut [u8], at: usize) -> TableUpdate {
     let kind = read_u8(input, place);
-    if kind < SET_REF {
-        read_early_kind(kind, input, place)
-    } else if kind < SET_STATISTICS {
-        read_late_kind(kind, input, place, offers, at)
-    } else {
-        read_statistics_kind(kind, input, place)
+    if kind == ADD_SCHEMA {
+        return read_offering(input, place, offers, at);
     }
+    if kind < SET_REF {
+        return read_early_kind(kind, input, place);
+    }
+    if kind < SET_STATISTICS {
+        return read_late_kind(kind, input, place);
+    }
+    read_statistics_kind(kind, input, place)
 }
 
 pub fn read_updates(input: &mut Input, place: &mut Place, offers: &mut [u8]) -> UpdateList {
