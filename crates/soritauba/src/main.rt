@@ -101,15 +101,21 @@ fn say_run(number: usize, run: Run, offers: &[u8], output: &mut Output, end: &mu
 }
 
 // Nothing is said before the whole run is read, so that no part of its answer stands above `bad input`.
-fn run(turn: Turn, input: &mut Input, place: &mut Place, output: &mut Output, end: &mut usize) {
-    let mut offers = [0u8; OFFERS];
-    let run = read_run(turn.first, input, place, &mut offers);
+fn run(
+    turn: Turn,
+    input: &mut Input,
+    place: &mut Place,
+    offers: &mut [u8],
+    output: &mut Output,
+    end: &mut usize,
+) {
+    let run = read_run(turn.first, input, place, offers);
     if is_good(place) {
         if turn.command == RUN {
-            say_run(piece_of(place), run, &offers, output, end);
+            say_run(piece_of(place), run, &offers[..], output, end);
         } else {
-            let answer = ask(turn.wanted, turn.times, run, &offers);
-            put_answer_of(output, end, run.given, answer, &offers);
+            let answer = ask(turn.wanted, turn.times, run, &offers[..]);
+            put_answer_of(output, end, run.given, answer, &offers[..]);
         }
     }
 }
@@ -129,11 +135,10 @@ fn judge(text: LimitText, run: Run, offers: &[u8], ending: TableMetadata) -> Ver
 }
 
 // What was read of a bad question is judged too, and its verdict is not said.
-fn read_judged(first: u64, input: &mut Input, place: &mut Place) -> Judged {
-    let mut offers = [0u8; OFFERS];
-    let run = read_run(first, input, place, &mut offers);
+fn read_judged(first: u64, input: &mut Input, place: &mut Place, offers: &mut [u8]) -> Judged {
+    let run = read_run(first, input, place, offers);
     let ending = read_ending(run.given, input, place);
-    let verdict = judge(run.limit, run, &offers, ending);
+    let verdict = judge(run.limit, run, &offers[..], ending);
     let fault = fault_of(verdict.number, run.metadata, run.terms);
     let difference = verdict.difference;
     let tolerance_ms = run.terms.tolerance_ms;
@@ -146,8 +151,15 @@ fn read_judged(first: u64, input: &mut Input, place: &mut Place) -> Judged {
     }
 }
 
-fn replay(turn: Turn, input: &mut Input, place: &mut Place, output: &mut Output, end: &mut usize) {
-    let judged = read_judged(turn.first, input, place);
+fn replay(
+    turn: Turn,
+    input: &mut Input,
+    place: &mut Place,
+    offers: &mut [u8],
+    output: &mut Output,
+    end: &mut usize,
+) {
+    let judged = read_judged(turn.first, input, place, offers);
     if is_good(place) {
         say_judged(output, end, judged);
     }
@@ -169,11 +181,18 @@ fn show(step: usize, output: &mut Output, end: &mut usize) {
 }
 
 // What a step wants of the run.
-fn answer(turn: Turn, input: &mut Input, place: &mut Place, output: &mut Output, end: &mut usize) {
+fn answer(
+    turn: Turn,
+    input: &mut Input,
+    place: &mut Place,
+    offers: &mut [u8],
+    output: &mut Output,
+    end: &mut usize,
+) {
     let wanted = turn.wanted;
     match wanted {
-        ASKED | CLOSED => run(turn, input, place, output, end),
-        JUDGED => replay(turn, input, place, output, end),
+        ASKED | CLOSED => run(turn, input, place, offers, output, end),
+        JUDGED => replay(turn, input, place, offers, output, end),
         SHOWN => show(wrapping_sub_usize(turn.step, 1), output, end),
         _ => {}
     }
@@ -185,11 +204,19 @@ fn main() {
     let mut turn = begin();
     let mut input = empty_input();
     let mut place = start(0);
+    let mut offers = [0u8; OFFERS];
     let mut output = empty_output();
     let mut end: usize = 0;
     let mut left = u64::MAX;
     while left > 0 && turn.wanted != END {
-        answer(turn, &mut input, &mut place, &mut output, &mut end);
+        answer(
+            turn,
+            &mut input,
+            &mut place,
+            &mut offers,
+            &mut output,
+            &mut end,
+        );
         turn = advance(turn, &mut input, &mut place, &mut output, &mut end);
         left -= 1;
     }
