@@ -73,17 +73,22 @@ fn run_times(
     answer
 }
 
-// The run, or the close by itself. One run is asked apart from many, so that less stack is needed.
-fn ask(wanted: usize, times: u64, run: Run, offers: &[u8]) -> Answer {
+fn ask(run: Run, offers: &[u8]) -> Answer {
+    let text = run.limit;
+    let bytes = text.bytes;
+    let slots: &[u8] = &bytes;
+    let len = lent(slots, text.len);
+    register::run(run.metadata, run.updates, run.terms, &slots[..len], offers)
+}
+
+// The run, or the close by itself, again and again.
+fn ask_again(wanted: usize, times: u64, run: Run, offers: &[u8]) -> Answer {
     let text = run.limit;
     let bytes = text.bytes;
     let slots: &[u8] = &bytes;
     let len = lent(slots, text.len);
     if wanted == CLOSED {
         return close_alone::close(times, run.metadata, run.terms, &slots[..len]);
-    }
-    if times == 1 {
-        return register::run(run.metadata, run.updates, run.terms, &slots[..len], offers);
     }
     run_times(
         times,
@@ -95,9 +100,23 @@ fn ask(wanted: usize, times: u64, run: Run, offers: &[u8]) -> Answer {
     )
 }
 
+fn put_run(turn: Turn, run: Run, offers: &[u8], output: &mut Output, end: &mut usize) {
+    if turn.times == 1 && turn.wanted == ASKED {
+        put_answer_of(output, end, run.given, ask(run, offers), offers);
+    } else {
+        put_answer_of(
+            output,
+            end,
+            run.given,
+            ask_again(turn.wanted, turn.times, run, offers),
+            offers,
+        );
+    }
+}
+
 fn say_run(number: usize, run: Run, offers: &[u8], output: &mut Output, end: &mut usize) {
     say_asked(output, end, number, run, offers);
-    say_answer(output, end, run.terms, ask(ASKED, 1, run, offers), offers);
+    say_answer(output, end, run.terms, ask(run, offers), offers);
 }
 
 // Nothing is said before the whole run is read, so that no part of its answer stands above `bad input`.
@@ -114,8 +133,7 @@ fn run(
         if turn.command == RUN {
             say_run(piece_of(place), run, &offers[..], output, end);
         } else {
-            let answer = ask(turn.wanted, turn.times, run, &offers[..]);
-            put_answer_of(output, end, run.given, answer, &offers[..]);
+            put_run(turn, run, &offers[..], output, end);
         }
     }
 }
@@ -169,11 +187,11 @@ fn replay(
 fn answer_of(step: usize) -> Answer {
     let mut run = run_of(step);
     if form_of(step) == CHANGES_OF_REPLAY {
-        let first = ask(ASKED, 1, run, b"");
+        let first = ask(run, b"");
         let changes = first.changes;
         run.updates = changes;
     }
-    ask(ASKED, 1, run, b"")
+    ask(run, b"")
 }
 
 fn show(step: usize, output: &mut Output, end: &mut usize) {

@@ -4,10 +4,10 @@ use Rattle.soritauba.proofs.main.Statement.{statement}
 use Rattle.soritauba.proofs.main.Tie as tie
 
 abbrev Inv-loop : tie.InvT-loop
-Inv-loop turn₀ input₀ place₀ output₀ end₀ left₀ turn input place output end left = Unit {0}
+Inv-loop turn₀ input₀ place₀ offers₀ output₀ end₀ left₀ turn input place offers output end left = Unit {0}
 
 abbrev μ-loop : tie.MeasureT-loop
-μ-loop turn₀ input₀ place₀ output₀ end₀ left₀ turn input place output end left = left
+μ-loop turn₀ input₀ place₀ offers₀ output₀ end₀ left₀ turn input place offers output end left = left
 
 pub main-spec : {M : Type 1} → statement M
 main-spec =
