@@ -850,9 +850,11 @@ examples =
     ∷ RemoveStatistics Statistics (pos 0)
     ∷ []))
     gives Tests (replicate 17 true))
-    -- offers: as many fields as there may be, the largest id, no field, none past the last byte; and one more field, no id, an id twice, an id past the largest, a byte that is not there
+    -- offers: as many fields as there may be, the largest id, no field, none past the last byte; and one more field, no id, an id twice, an id past the largest, a byte that is not there, a schema id below 0
     ∷ (OfTests (map (offerFormed offers) (offerFrom 0 32 0 ∷ offerFrom 42 1 0 ∷ offerFrom 44 0 0 ∷ offerFrom 40 2 7 ∷ [])) gives Tests (replicate 4 true))
-    ∷ (OfTests (map (offerFormed offers) (offerFrom 0 33 0 ∷ offerFrom 33 1 0 ∷ offerFrom 34 3 0 ∷ offerFrom 43 1 0 ∷ offerFrom 44 1 0 ∷ offerFrom 45 0 0 ∷ [])) gives Tests (replicate 6 false))
+    ∷ (OfTests (map (offerFormed offers) (offerFrom 0 33 0 ∷ offerFrom 33 1 0 ∷ offerFrom 34 3 0 ∷ offerFrom 43 1 0 ∷ offerFrom 44 1 0 ∷ offerFrom 45 0 0 ∷ record { id = negsuc 0; at = 0; count = 1 } ∷ [])) gives Tests (replicate 7 false))
+    -- an offered id of four bytes
+    ∷ (OfRun AtColumn terms three (AddSchema (offerFrom 42 1 0) ∷ []) gives Column (pos 2147483647))
     -- an offer that is not well formed is 3, also where a table is full
     ∷ (OfRun AtLog terms (crowded 1 0 0 0 16 1 1 1 0 0) (AddSchema (offerFrom 33 1 0) ∷ []) gives Refusal 3 0)
     -- out of bounds: one more, or one less
