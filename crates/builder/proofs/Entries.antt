@@ -14,10 +14,10 @@ use Rattle.records.specs.declared.reference.NamedRef.{NamedRef}
 use Rattle.records.specs.declared.update.TableUpdate.{TableUpdate}
 use Rattle.rules.specs.Words.{any}
 use Rattle.rules.specs.WellFormed.{updateFormed}
-use Rattle.rules.specs.Blanks.{isZero, isZeroZ, isBlankUuid, isTidyText, isBlankText, isTidySnapshot, isBlankSnapshot, isTidySnapshotIds, isBlankSnapshotIds, isTidyRefName, isBlankRefName, isTidyReference, isBlankReference, isTidySchema, isBlankSchema, isTidySchemaIds, isBlankSchemaIds, isTidySortOrder, isBlankSortOrder, isTidyStatisticsFile, isBlankStatisticsFile}
+use Rattle.rules.specs.Blanks.{isZero, isZeroZ, isBlankUuid, isTidyText, isBlankText, isTidySnapshot, isBlankSnapshot, isTidySnapshotIds, isBlankSnapshotIds, isTidyName, isBlankName, isTidyReference, isBlankReference, isBlankSchemaOffer, isTidySchemaIds, isBlankSchemaIds, isTidySortOrder, isBlankSortOrder, isTidyStatisticsFile, isBlankStatisticsFile}
 use Rattle.rules.specs.Kinds.{usedBy, fitsKinds, isTidyFieldsPart, isTidySnapshotsPart, isTidyRefsPart, isTidySchemasPart, isTidySortOrdersPart, isTidyStatisticsPart, isTidyUpdate, readKind, readUpdate, uuidKinds, versionKinds, locationKinds, snapshotKinds, snapshotIdsKinds, refNameKinds, referenceKinds, schemaKinds, schemaIdKinds, schemaIdsKinds, sortOrderKinds, sortOrderIdKinds, statisticsFileKinds, statisticsIdKinds}
 use Rattle.rules.proofs.Checks.{and-left, parts}
-use Rattle.rules.proofs.Slots.Relaid.{zero, zeroZ, blank-uuid, blank-text, blank-ref-name, blank-snapshot, blank-snapshot-ids, blank-reference, blank-schema, blank-schema-ids, blank-sort-order, blank-statistics-file}
+use Rattle.rules.proofs.Slots.Relaid.{zero, zeroZ, blank-uuid, blank-text, blank-ref-name, blank-snapshot, blank-snapshot-ids, blank-reference, blank-schema-offer, blank-schema-ids, blank-sort-order, blank-statistics-file}
 use Rattle.builder.proofs.Parts.{tidy-parts}
 
 -- ---- by the kind
@@ -70,9 +70,9 @@ refsBy k p = record { name = used refNameKinds k (p .name) (noRef .name); refere
 own-refs : (k : ℕ) (p : NamedRef) → isTidyRefsPart k p ≡ true → p ≡ refsBy k p
 unfolding isTidyRefsPart
 own-refs k p e =
-    let h = parts (fitsKinds refNameKinds k (isBlankRefName (p .name)) (isTidyRefName (p .name))) (fitsKinds referenceKinds k (isBlankReference (p .reference)) (isTidyReference (p .reference)) ∷ []) e in
+    let h = parts (fitsKinds refNameKinds k (isBlankName (p .name)) (isTidyName (p .name))) (fitsKinds referenceKinds k (isBlankReference (p .reference)) (isTidyReference (p .reference)) ∷ []) e in
     λ i. record {
-      name = fits-is refNameKinds k (isBlankRefName (p .name)) (isTidyRefName (p .name)) (blank-ref-name (p .name)) (h .0) i;
+      name = fits-is refNameKinds k (isBlankName (p .name)) (isTidyName (p .name)) (blank-ref-name (p .name)) (h .0) i;
       reference = fits-is referenceKinds k (isBlankReference (p .reference)) (isTidyReference (p .reference)) (blank-reference (p .reference)) (h .1 .0) i;
     }
 
@@ -82,9 +82,9 @@ schemasBy k p = record { added = used schemaKinds k (p .added) (noSchemasPart .a
 own-schemas : (k : ℕ) (p : SchemasPart) → isTidySchemasPart k p ≡ true → p ≡ schemasBy k p
 unfolding isTidySchemasPart noSchemasPart
 own-schemas k p e =
-    let h = parts (fitsKinds schemaKinds k (isBlankSchema (p .added)) (isTidySchema (p .added))) (usedBy schemaIdKinds k (isZeroZ (p .chosen .0)) ∷ fitsKinds schemaIdsKinds k (isBlankSchemaIds (p .removed)) (isTidySchemaIds (p .removed)) ∷ []) e in
+    let h = parts (usedBy schemaKinds k (isBlankSchemaOffer (p .added))) (usedBy schemaIdKinds k (isZeroZ (p .chosen .0)) ∷ fitsKinds schemaIdsKinds k (isBlankSchemaIds (p .removed)) (isTidySchemaIds (p .removed)) ∷ []) e in
     λ i. record {
-      added = fits-is schemaKinds k (isBlankSchema (p .added)) (isTidySchema (p .added)) (blank-schema (p .added)) (h .0) i;
+      added = used-is schemaKinds k (isBlankSchemaOffer (p .added)) (blank-schema-offer (p .added)) (h .0) i;
       chosen = used-is schemaIdKinds k (isZeroZ (p .chosen .0)) (λ z. λ j. record { 0 = zeroZ (p .chosen .0) z j }) (h .1 .0) i;
       removed = fits-is schemaIdsKinds k (isBlankSchemaIds (p .removed)) (isTidySchemaIds (p .removed)) (blank-schema-ids (p .removed)) (h .1 .1 .0) i;
     }

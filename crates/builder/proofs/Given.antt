@@ -10,14 +10,14 @@ use lib.Signed.{nonNeg}
 use lib.ListN.{length}
 use Rattle.records.specs.declared.update.TableUpdate.{TableUpdate}
 use Rattle.rules.specs.Words.{all, unequal}
-use Rattle.rules.specs.Capacities.{locationRoom, schemaFieldRoom, sortFieldRoom, removalRoom}
-use Rattle.rules.specs.WellFormed.{atLeastOne, fieldIds, schemaFormed, sortFieldFormed, offeredOrderFormed, statisticsFileFormed, removalFormed, locationFormed}
-use Rattle.rules.specs.Layout.{readText, readSnapshotIds, readSchema, readSchemaIds, readSortOrder, readStatisticsFile}
+use Rattle.rules.specs.Capacities.{locationRoom, sortFieldRoom, removalRoom}
+use Rattle.rules.specs.WellFormed.{sortFieldFormed, offeredOrderFormed, statisticsFileFormed, removalFormed, locationFormed}
+use Rattle.rules.specs.Layout.{readText, readSnapshotIds, readSchemaIds, readSortOrder, readStatisticsFile}
 use Rattle.rules.specs.Kinds.{isTidyUpdate}
 use Rattle.rules.proofs.Checks.{and-left, parts}
-use Rattle.rules.proofs.Slots.Relaid.{length-counted, back-snapshot-ids, back-schema, back-schema-ids, back-sort-order, back-statistics-file}
-use Rattle.tables.specs.Laid.{LaidSnapshotIds, LaidSchema, LaidOrder, LaidStatisticsFile, LaidSchemaIds}
-use Rattle.builder.proofs.Parts.{snapshot-ids-tidy, schema-tidy, schema-ids-tidy, order-tidy, statistics-file-tidy}
+use Rattle.rules.proofs.Slots.Relaid.{length-counted, back-snapshot-ids, back-schema-ids, back-sort-order, back-statistics-file}
+use Rattle.tables.specs.Laid.{LaidSnapshotIds, LaidOrder, LaidStatisticsFile, LaidSchemaIds}
+use Rattle.builder.proofs.Parts.{snapshot-ids-tidy, schema-ids-tidy, order-tidy, statistics-file-tidy}
 
 pub given-location : (u : TableUpdate) → locationFormed (readText (u .fields .location)) ≡ true → u .fields .location .len ≤ locationRoom
 given-location u f = omega (arith, leb-true (length (readText (u .fields .location))) locationRoom f, length-counted 0 (u .fields .location .bytes) (u .fields .location .len))
@@ -25,12 +25,6 @@ given-location u f = omega (arith, leb-true (length (readText (u .fields .locati
 module _ (u : TableUpdate) (e : isTidyUpdate u ≡ true) where
   pub given-snapshot-ids : removalFormed (readSnapshotIds (u .snapshots .removed)) ≡ true → LaidSnapshotIds (u .snapshots .removed)
   given-snapshot-ids f = record { back = back-snapshot-ids (u .snapshots .removed) (snapshot-ids-tidy u e) f; fits = leb-true _ _ (and-left (leb (length (readSnapshotIds (u .snapshots .removed))) removalRoom) _ f) }
-
-  pub given-schema : schemaFormed (readSchema (u .schemas .added)) ≡ true → LaidSchema (u .schemas .added)
-  given-schema f =
-      let s = readSchema (u .schemas .added) in
-      let k = parts (nonNeg (s .id)) (leb (length (s .fields)) schemaFieldRoom ∷ all atLeastOne (fieldIds s) ∷ unequal (fieldIds s) ∷ []) f in
-      record { back = back-schema (u .schemas .added) (schema-tidy u e) f; fits = leb-true _ _ (k .1 .0) }
 
   pub given-schema-ids : removalFormed (readSchemaIds (u .schemas .removed)) ≡ true → LaidSchemaIds (u .schemas .removed)
   given-schema-ids f = record { back = back-schema-ids (u .schemas .removed) (schema-ids-tidy u e) f; fits = leb-true _ _ (and-left (leb (length (readSchemaIds (u .schemas .removed))) removalRoom) _ f) }

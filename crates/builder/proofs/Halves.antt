@@ -6,13 +6,13 @@ use borrow.Author.Tests.{eqb-true}
 use lib.Dec.{eqb}
 use lib.ListN.{length}
 use Rattle.records.specs.Blanks.{noRef, noSnapshotsPart}
-use Rattle.records.specs.declared.text.RefName.{RefName}
+use Rattle.records.specs.declared.text.Name.{Name}
 use Rattle.records.specs.declared.snapshot.Snapshot.{Snapshot}
 use Rattle.records.specs.declared.reference.SnapshotReference.{SnapshotReference}
 use Rattle.records.specs.declared.update.TableUpdate.{TableUpdate}
-use Rattle.rules.specs.Capacities.{refNameRoom}
+use Rattle.rules.specs.Capacities.{nameRoom}
 use Rattle.rules.specs.Register.{AddSnapshot, SetRef}
-use Rattle.rules.specs.Layout.{readRefName, readSnapshot, readReference, laidReference}
+use Rattle.rules.specs.Layout.{readName, readSnapshot, readReference, laidReference}
 use Rattle.rules.specs.Kinds.{addSnapshotKind, setBranchSnapshotKind, setRefKind, isTidyUpdate, ofKind, withSnapshotsPart, withRefsPart, withSnapshot, withReference, laidUpdate}
 use Rattle.rules.proofs.Checks.{by-either}
 use Rattle.rules.proofs.Slots.Relaid.{back-ref-name, back-snapshot}
@@ -35,13 +35,13 @@ module _ (u : TableUpdate) (e : isTidyUpdate u ≡ true) where
       (λ t. ap entry (of-kind u e setBranchSnapshotKind (eqb-true (u .kind) setBranchSnapshotKind t)) ∙ laid)
 
   -- what a setting logs is laid out from its name and the ref
-  pub set : (r : SnapshotReference) → length (readRefName (u .refs .name)) ≤ refNameRoom → laidReference (readReference r) ≡ r
+  pub set : (r : SnapshotReference) → length (readName (u .refs .name)) ≤ nameRoom → laidReference (readReference r) ≡ r
       → (eqb (u .kind) setBranchSnapshotKind || eqb (u .kind) setRefKind) ≡ true
-      → withRefsPart (withReference r (u .refs)) (withSnapshotsPart noSnapshotsPart (withKind setRefKind u)) ≡ laidUpdate (SetRef (readRefName (u .refs .name)) (readReference r))
+      → withRefsPart (withReference r (u .refs)) (withSnapshotsPart noSnapshotsPart (withKind setRefKind u)) ≡ laidUpdate (SetRef (readName (u .refs .name)) (readReference r))
   unfolding laidUpdate
   set r h b =
       let entry : TableUpdate → TableUpdate = λ u. withRefsPart (withReference r (u .refs)) (withSnapshotsPart noSnapshotsPart (withKind setRefKind u)) in
-      let laid = ap₂ (λ (n : RefName) (r : SnapshotReference). withRefsPart (record { name = n; reference = r }) (ofKind setRefKind)) (sym (back-ref-name (u .refs .name) (ref-name-tidy u e) h)) (sym b) in
+      let laid = ap₂ (λ (n : Name) (r : SnapshotReference). withRefsPart (record { name = n; reference = r }) (ofKind setRefKind)) (sym (back-ref-name (u .refs .name) (ref-name-tidy u e) h)) (sym b) in
       by-either (eqb (u .kind) setBranchSnapshotKind) (eqb (u .kind) setRefKind)
       (λ t. ap entry (of-kind u e setBranchSnapshotKind (eqb-true (u .kind) setBranchSnapshotKind t)) ∙ laid)
       (λ t. ap entry (of-kind u e setRefKind (eqb-true (u .kind) setRefKind t)) ∙ laid)

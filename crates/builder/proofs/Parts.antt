@@ -4,7 +4,7 @@ use mathlib.Core.Path.{_≡_}
 use mathlib.Core.Bool.{Bool, true}
 use mathlib.Core.List.{List, [], _∷_}
 use Rattle.records.specs.declared.update.TableUpdate.{TableUpdate}
-use Rattle.rules.specs.Blanks.{isZeroZ, isTidySnapshot, isBlankSnapshot, isTidySnapshotIds, isBlankSnapshotIds, isTidyRefName, isBlankRefName, isTidyReference, isBlankReference, isTidySchema, isBlankSchema, isTidySchemaIds, isBlankSchemaIds, isTidySortOrder, isBlankSortOrder, isTidyStatisticsFile, isBlankStatisticsFile}
+use Rattle.rules.specs.Blanks.{isZeroZ, isTidySnapshot, isBlankSnapshot, isTidySnapshotIds, isBlankSnapshotIds, isTidyName, isBlankName, isTidyReference, isBlankReference, isBlankSchemaOffer, isTidySchemaIds, isBlankSchemaIds, isTidySortOrder, isBlankSortOrder, isTidyStatisticsFile, isBlankStatisticsFile}
 use Rattle.rules.specs.Kinds.{usedBy, fitsKinds, isTidyFieldsPart, isTidySnapshotsPart, isTidyRefsPart, isTidySchemasPart, isTidySortOrdersPart, isTidyStatisticsPart, isTidyUpdate, snapshotKinds, snapshotIdsKinds, refNameKinds, referenceKinds, schemaKinds, schemaIdKinds, schemaIdsKinds, sortOrderKinds, statisticsFileKinds}
 use Rattle.rules.proofs.Checks.{and-left, and-right, parts}
 
@@ -36,21 +36,17 @@ module _ (u : TableUpdate) (e : isTidyUpdate u ≡ true) where
   unfolding isTidySnapshotsPart
   snapshot-ids-tidy = is-tidy snapshotIdsKinds (u .kind) (isBlankSnapshotIds (u .snapshots .removed)) (isTidySnapshotIds (u .snapshots .removed)) (and-right (fitsKinds snapshotKinds (u .kind) (isBlankSnapshot (u .snapshots .added)) (isTidySnapshot (u .snapshots .added))) _ (tidy-parts u e .snapshots))
 
-  pub ref-name-tidy : isTidyRefName (u .refs .name) ≡ true
+  pub ref-name-tidy : isTidyName (u .refs .name) ≡ true
   unfolding isTidyRefsPart
-  ref-name-tidy = is-tidy refNameKinds (u .kind) (isBlankRefName (u .refs .name)) (isTidyRefName (u .refs .name)) (and-left (fitsKinds refNameKinds (u .kind) (isBlankRefName (u .refs .name)) (isTidyRefName (u .refs .name))) _ (tidy-parts u e .refs))
+  ref-name-tidy = is-tidy refNameKinds (u .kind) (isBlankName (u .refs .name)) (isTidyName (u .refs .name)) (and-left (fitsKinds refNameKinds (u .kind) (isBlankName (u .refs .name)) (isTidyName (u .refs .name))) _ (tidy-parts u e .refs))
 
   pub reference-tidy : isTidyReference (u .refs .reference) ≡ true
   unfolding isTidyRefsPart
-  reference-tidy = is-tidy referenceKinds (u .kind) (isBlankReference (u .refs .reference)) (isTidyReference (u .refs .reference)) (and-right (fitsKinds refNameKinds (u .kind) (isBlankRefName (u .refs .name)) (isTidyRefName (u .refs .name))) _ (tidy-parts u e .refs))
-
-  pub schema-tidy : isTidySchema (u .schemas .added) ≡ true
-  unfolding isTidySchemasPart
-  schema-tidy = is-tidy schemaKinds (u .kind) (isBlankSchema (u .schemas .added)) (isTidySchema (u .schemas .added)) (parts (fitsKinds schemaKinds (u .kind) (isBlankSchema (u .schemas .added)) (isTidySchema (u .schemas .added))) (usedBy schemaIdKinds (u .kind) (isZeroZ (u .schemas .chosen .0)) ∷ fitsKinds schemaIdsKinds (u .kind) (isBlankSchemaIds (u .schemas .removed)) (isTidySchemaIds (u .schemas .removed)) ∷ []) (tidy-parts u e .schemas) .0)
+  reference-tidy = is-tidy referenceKinds (u .kind) (isBlankReference (u .refs .reference)) (isTidyReference (u .refs .reference)) (and-right (fitsKinds refNameKinds (u .kind) (isBlankName (u .refs .name)) (isTidyName (u .refs .name))) _ (tidy-parts u e .refs))
 
   pub schema-ids-tidy : isTidySchemaIds (u .schemas .removed) ≡ true
   unfolding isTidySchemasPart
-  schema-ids-tidy = is-tidy schemaIdsKinds (u .kind) (isBlankSchemaIds (u .schemas .removed)) (isTidySchemaIds (u .schemas .removed)) (parts (fitsKinds schemaKinds (u .kind) (isBlankSchema (u .schemas .added)) (isTidySchema (u .schemas .added))) (usedBy schemaIdKinds (u .kind) (isZeroZ (u .schemas .chosen .0)) ∷ fitsKinds schemaIdsKinds (u .kind) (isBlankSchemaIds (u .schemas .removed)) (isTidySchemaIds (u .schemas .removed)) ∷ []) (tidy-parts u e .schemas) .1 .1 .0)
+  schema-ids-tidy = is-tidy schemaIdsKinds (u .kind) (isBlankSchemaIds (u .schemas .removed)) (isTidySchemaIds (u .schemas .removed)) (parts (usedBy schemaKinds (u .kind) (isBlankSchemaOffer (u .schemas .added))) (usedBy schemaIdKinds (u .kind) (isZeroZ (u .schemas .chosen .0)) ∷ fitsKinds schemaIdsKinds (u .kind) (isBlankSchemaIds (u .schemas .removed)) (isTidySchemaIds (u .schemas .removed)) ∷ []) (tidy-parts u e .schemas) .1 .1 .0)
 
   pub order-tidy : isTidySortOrder (u .«sort_orders» .added) ≡ true
   unfolding isTidySortOrdersPart

@@ -7,9 +7,11 @@ use lib.IntN.{ℤ, pos}
 use lib.Signed.{ltZ}
 use Rattle.records.specs.declared.update.TableUpdate.{TableUpdate}
 use Rattle.records.specs.declared.metadata.SingleFields.{SingleFields}
-use Rattle.rules.specs.Words.{isSome, orElse, ifSome, lastOf}
-use Rattle.rules.specs.Register.{Snapshot, LogEntry, Update, State}
-use Rattle.rules.specs.Layout.{laidFields}
+use Rattle.records.specs.declared.schema.Schema.{Schema}
+use Rattle.rules.specs.Words.{isSome, orElse, ifSome, first, lastOf}
+use Rattle.rules.specs.Register.{Snapshot, LogEntry, Metadata, Update, State}
+use Rattle.rules.specs.WellFormed.{hasSchema}
+use Rattle.rules.specs.Layout.{laidFields, readSchema}
 use Rattle.rules.specs.Kinds.{laidUpdate}
 use Rattle.builder.specs.declared.builder.TableMetadataBuilder.{TableMetadataBuilder}
 
@@ -53,3 +55,7 @@ pub record Took (st st′ : State) (b : TableMetadataBuilder) (entry : TableUpda
 pub record Stepped (st st′ : State) (logs : Bool) (b : TableMetadataBuilder) (entry : TableUpdate) : Type 0 where
   pub took : logs ≡ true → Took st st′ b entry
   pub left : logs ≡ false → st′ ≡ st
+
+-- the record is the current schema
+abbrev pub IsCurrent : Metadata → Schema → Type 0
+IsCurrent m s = first (hasSchema (m .fields .currentSchema)) (m .schemas) ≡ some (readSchema s)

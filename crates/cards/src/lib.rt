@@ -3,6 +3,7 @@
 // Whoever writes a record, for a program or for people, writes its card: one function with an output instead of one a record.
 pub mod card;
 pub mod item;
+pub mod offer;
 pub mod record;
 pub mod table;
 pub mod update;

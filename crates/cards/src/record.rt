@@ -18,7 +18,7 @@ use records::snapshot::SnapshotIds;
 use records::snapshot::SnapshotLogEntry;
 use records::sort_order::SortOrder;
 use records::statistics::StatisticsFile;
-use records::text::RefName;
+use records::text::Name;
 use slot_bounds::with_slots;
 
 // id, has_parent, parent, sequence, time, has_rows; first row, added rows
@@ -55,7 +55,7 @@ pub fn reference(r: SnapshotReference) -> Card {
     )
 }
 
-pub fn ref_name(name: RefName) -> Text {
+pub fn ref_name(name: Name) -> Text {
     let bytes = name.bytes;
     text_of(&bytes, name.len)
 }

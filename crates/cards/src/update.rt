@@ -1,12 +1,12 @@
-// An update as the card of what its kind uses. That of an unknown kind is the kind.
+// An update as the card of what its kind uses, and of what it offers. That of an unknown kind is the kind.
 use crate::card::Card;
 use crate::card::text_of;
 use crate::card::wide;
+use crate::offer::schema_offer;
 use crate::record::chosen;
 use crate::record::location;
 use crate::record::ref_name;
 use crate::record::reference;
-use crate::record::schema;
 use crate::record::schema_ids;
 use crate::record::snapshot;
 use crate::record::snapshot_ids;
@@ -56,12 +56,12 @@ fn early(u: TableUpdate) -> Card {
 }
 
 // Kinds 7 to 17.
-fn late(u: TableUpdate) -> Card {
+fn late(u: TableUpdate, offers: &[u8]) -> Card {
     let kind = u.kind;
     match kind {
         SET_REF => reference(u.refs.reference).with_text(ref_name(u.refs.name)),
         REMOVE_REF => Card::of_number(0).with_text(ref_name(u.refs.name)),
-        ADD_SCHEMA => schema(u.schemas.added),
+        ADD_SCHEMA => schema_offer(u.schemas.added, offers),
         SET_CURRENT_SCHEMA => chosen(wide(u.schemas.chosen.0)),
         REMOVE_SCHEMAS => Card::of_number(0).with_list(schema_ids(u.schemas.removed)),
         ADD_SORT_ORDER => sort_order(u.sort_orders.added),
@@ -72,14 +72,18 @@ fn late(u: TableUpdate) -> Card {
     }
 }
 
-pub fn update(u: TableUpdate) -> Card {
-    let card = if u.kind < SET_REF { early(u) } else { late(u) };
+pub fn update(u: TableUpdate, offers: &[u8]) -> Card {
+    let card = if u.kind < SET_REF {
+        early(u)
+    } else {
+        late(u, offers)
+    };
     card.with_kind(u.kind)
 }
 
 // Past the slots it is that of the last.
-pub fn update_at(list: UpdateList, i: usize) -> Card {
+pub fn update_at(list: UpdateList, i: usize, offers: &[u8]) -> Card {
     let at = with_slots(i, UPDATES - 1);
     let u = list.items[at];
-    update(u)
+    update(u, offers)
 }

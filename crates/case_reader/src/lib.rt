@@ -7,6 +7,7 @@ pub mod ids;
 pub mod limit_text;
 pub mod metadata;
 pub mod more;
+pub mod offer;
 pub mod reference;
 pub mod run;
 pub mod schema;

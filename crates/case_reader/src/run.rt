@@ -93,12 +93,13 @@ fn read_version(first: u64, input: &mut Input, place: &mut Place) -> u8 {
 }
 
 // The run that starts with this number, which is read already.
-pub fn read_run(first: u64, input: &mut Input, place: &mut Place) -> Run {
+// What its updates offer is put among the offers.
+pub fn read_run(first: u64, input: &mut Input, place: &mut Place, offers: &mut [u8]) -> Run {
     let version = read_version(first, input, place);
     let mut metadata = read_metadata_of(version, input, place);
     let mut terms = read_terms(input, place);
     let limit = read_limit_text(input, place);
-    let updates = read_updates(input, place);
+    let updates = read_updates(input, place, offers);
     let more = read_more_of(first, input, place);
     let tolerance_ms = more.tolerance_ms;
     let statistics = more.statistics;

@@ -1,7 +1,7 @@
 // Bytes: a length, then that many numbers from 0 to 255. The slots there are hold the first of them, and the length is kept as it came.
-use records::capacities::REF_NAME;
+use records::capacities::NAME;
 use records::capacities::TEXT;
-use records::text::RefName;
+use records::text::Name;
 use records::text::Text;
 use slot_bounds::store_byte;
 use tokens::field::read_count;
@@ -31,10 +31,10 @@ pub fn read_uuid(input: &mut Input, place: &mut Place) -> [u8; 16] {
     uuid
 }
 
-pub fn read_ref_name(input: &mut Input, place: &mut Place) -> RefName {
-    let mut bytes = [0u8; REF_NAME];
+pub fn read_ref_name(input: &mut Input, place: &mut Place) -> Name {
+    let mut bytes = [0u8; NAME];
     let len = read_bytes(input, place, &mut bytes);
-    RefName { bytes, len }
+    Name { bytes, len }
 }
 
 pub fn read_location(input: &mut Input, place: &mut Place) -> Text {

@@ -1,6 +1,7 @@
 // Updates: a kind, then what that kind uses. Nothing follows an unknown kind.
+use crate::offer::place_of;
+use crate::offer::read_schema_offer;
 use crate::reference::read_reference;
-use crate::schema::read_schema;
 use crate::schema::read_schema_ids;
 use crate::snapshot::read_snapshot;
 use crate::snapshot::read_snapshot_ids;
@@ -68,7 +69,7 @@ fn read_early_kind(kind: u8, input: &mut Input, place: &mut Place) -> TableUpdat
     u
 }
 
-// Kinds 7 to 13.
+// Kinds 7 to 13, but for 9.
 fn read_late_kind(kind: u8, input: &mut Input, place: &mut Place) -> TableUpdate {
     let mut u = TableUpdate::blank();
     u.kind = kind;
@@ -81,7 +82,6 @@ fn read_late_kind(kind: u8, input: &mut Input, place: &mut Place) -> TableUpdate
             refs.reference = read_reference(input, place);
         }
         REMOVE_REF => refs.name = read_ref_name(input, place),
-        ADD_SCHEMA => schemas.added = read_schema(input, place),
         SET_CURRENT_SCHEMA => {
             let id = SchemaId(read_i32(input, place));
             schemas.chosen = id;
@@ -119,23 +119,41 @@ fn read_statistics_kind(kind: u8, input: &mut Input, place: &mut Place) -> Table
     u
 }
 
-fn read_update(input: &mut Input, place: &mut Place) -> TableUpdate {
-    let kind = read_u8(input, place);
-    if kind < SET_REF {
-        read_early_kind(kind, input, place)
-    } else if kind < SET_STATISTICS {
-        read_late_kind(kind, input, place)
-    } else {
-        read_statistics_kind(kind, input, place)
-    }
+// Kind 9. What it offers is put among the offers, from a place of its own on.
+fn read_offering(
+    input: &mut Input,
+    place: &mut Place,
+    offers: &mut [u8],
+    at: usize,
+) -> TableUpdate {
+    let mut u = TableUpdate::blank();
+    u.kind = ADD_SCHEMA;
+    let mut schemas = u.schemas;
+    schemas.added = read_schema_offer(input, place, offers, at);
+    u.schemas = schemas;
+    u
 }
 
-pub fn read_updates(input: &mut Input, place: &mut Place) -> UpdateList {
+fn read_update(input: &mut Input, place: &mut Place, offers: &mut [u8], at: usize) -> TableUpdate {
+    let kind = read_u8(input, place);
+    if kind == ADD_SCHEMA {
+        return read_offering(input, place, offers, at);
+    }
+    if kind < SET_REF {
+        return read_early_kind(kind, input, place);
+    }
+    if kind < SET_STATISTICS {
+        return read_late_kind(kind, input, place);
+    }
+    read_statistics_kind(kind, input, place)
+}
+
+pub fn read_updates(input: &mut Input, place: &mut Place, offers: &mut [u8]) -> UpdateList {
     let mut list = UpdateList::blank();
     let count = read_count(input, place);
     let mut i = 0;
     while i < count && is_good(place) {
-        let update = read_update(input, place);
+        let update = read_update(input, place, offers, place_of(i));
         let at = i;
         i += 1;
         if at < UPDATES {

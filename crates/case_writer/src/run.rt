@@ -9,10 +9,11 @@ use tokens::number::put_count;
 use tokens::number::put_u8;
 use tokens::output::Output;
 
-pub fn put_answer(output: &mut Output, end: &mut usize, answer: Answer) {
+// The offers are those of the run: the change log names them.
+pub fn put_answer(output: &mut Output, end: &mut usize, answer: Answer, offers: &[u8]) {
     put_u8(output, end, answer.number);
     put_count(output, end, answer.place);
     put_metadata(output, end, answer.metadata);
-    put_updates(output, end, answer.changes);
+    put_updates(output, end, answer.changes, offers);
     put_table(output, end, only_files(answer.expired), OF_FILES);
 }

@@ -33,14 +33,14 @@ fn put_update(output: &mut Output, end: &mut usize, card: Card) {
     put_card(output, end, layouts, card.kind as usize, card);
 }
 
-pub fn put_updates(output: &mut Output, end: &mut usize, list: UpdateList) {
+pub fn put_updates(output: &mut Output, end: &mut usize, list: UpdateList, offers: &[u8]) {
     let count = list.count;
     put_count(output, end, count);
     let n = with_slots(count, UPDATES);
     let mut i = 0;
     while i < n {
         let u = list.items[i];
-        put_update(output, end, update(u));
+        put_update(output, end, update(u, offers));
         i += 1;
     }
 }

@@ -8,10 +8,11 @@ ghost use lib.ListN.{length};
 ghost use Rattle.rules.specs.Capacities.{metadataLogRoom};
 ghost use Rattle.rules.specs.Words.{any, firstOf};
 ghost use Rattle.rules.specs.Register.{Metadata, Update, Terms};
-ghost use Rattle.rules.specs.WellFormed.{hasSchema, hasOrder};
-ghost use Rattle.rules.specs.Layout.{readFields, readSnapshotLog, readSchemas, readSortOrders};
+ghost use Rattle.rules.specs.WellFormed.{hasOrder};
+ghost use Rattle.rules.specs.Layout.{readFields, readSnapshotLog, readSortOrders};
 ghost use Rattle.rules.specs.Close.{isDefaultUnfit, staying, closeChecks};
-ghost use Rattle.tables.specs.Laid.{LaidSnapshotLog, LaidRefs, LaidSchemas, LaidOrders};
+ghost use Rattle.tables.specs.Laid.{LaidSnapshotLog, LaidRefs, LaidSchema, LaidOrders};
+ghost use Rattle.builder.specs.Pieces.{IsCurrent};
 ghost use Rattle.close.specs.Answers.{HistoryOf, Handed, endsOff};
 use equality::ids::same_snapshot;
 use history::History;
@@ -22,21 +23,19 @@ use records::replies::DEFAULT_ORDER_UNFIT;
 use records::replies::LOG_ENDS_ELSEWHERE;
 use records::replies::MAIN_DISAGREES;
 use records::replies::TOO_MANY_FILES;
-use records::schema::Schemas;
+use records::schema::Schema;
 use records::sort_order::SortOrders;
 
 pub mod files;
 pub mod history;
 
 // The default order names a field that is not in the current schema.
-fn is_default_unfit(f: SingleFields, schemas: Schemas, orders: SortOrders) -> bool
-    requires { ⌜ LaidSchemas schemas ⌝ }
+fn is_default_unfit(f: SingleFields, s: Schema, orders: SortOrders) -> bool
+    requires { ⌜ LaidSchema s ⌝ }
     requires { ⌜ LaidOrders orders ⌝ }
-    requires { ⌜ any (hasSchema (f .«current_schema_id» .0)) (readSchemas schemas) ≡ true ⌝ }
     requires { ⌜ any (hasOrder (f .«default_sort_order_id» .0)) (readSortOrders orders) ≡ true ⌝ }
-    ensures { λ r. ⌜ ((p : Metadata) → readFields f ≡ p .fields → readSchemas schemas ≡ p .schemas → readSortOrders orders ≡ p .orders → r ≡ isDefaultUnfit p) ⌝ }
+    ensures { λ r. ⌜ ((p : Metadata) → readFields f ≡ p .fields → IsCurrent p s → readSortOrders orders ≡ p .orders → r ≡ isDefaultUnfit p) ⌝ }
 {
-    let s = tables::schemas::get(schemas, f.current_schema_id);
     let o = tables::sort_orders::get(orders, f.default_sort_order_id);
     tables::sort_orders::is_unfit(o, s)
 }
@@ -65,23 +64,23 @@ fn ends_elsewhere(h: History, f: SingleFields) -> bool
     !same_snapshot(id, current)
 }
 
-// 20, 21, 22 or 23, the first that fails; 0 where none does. 23 is that more files would stay than the metadata log has room for.
+// 20, 21, 22 or 23, the first that fails; 0 where none does. The schema is the current one. 23 is that more files would stay than the metadata log has room for.
 pub fn close_number(
     h: History,
     f: SingleFields,
     refs: Refs,
-    schemas: Schemas,
+    schema: Schema,
     orders: SortOrders,
     overfull: bool,
 ) -> u8
     requires { ⌜ LaidSnapshotLog (h .log) ⌝ }
     requires { ⌜ LaidRefs refs ⌝ }
-    requires { ⌜ LaidSchemas schemas ⌝ }
+    requires { ⌜ LaidSchema schema ⌝ }
     requires { ⌜ LaidOrders orders ⌝ }
-    requires { ⌜ (any (hasSchema (f .«current_schema_id» .0)) (readSchemas schemas) ≡ true) × (any (hasOrder (f .«default_sort_order_id» .0)) (readSortOrders orders) ≡ true) ⌝ }
-    ensures { λ r. ⌜ ((t : Terms) (l : List Update) (p : Metadata) → HistoryOf l p h → Handed p f refs schemas orders → overfull ≡ ltb metadataLogRoom (length (staying t p)) → r ≡ firstOf (closeChecks t l p)) ⌝ }
+    requires { ⌜ any (hasOrder (f .«default_sort_order_id» .0)) (readSortOrders orders) ≡ true ⌝ }
+    ensures { λ r. ⌜ ((t : Terms) (l : List Update) (p : Metadata) → HistoryOf l p h → Handed p f refs schema orders → overfull ≡ ltb metadataLogRoom (length (staying t p)) → r ≡ firstOf (closeChecks t l p)) ⌝ }
 {
-    if is_default_unfit(f, schemas, orders) {
+    if is_default_unfit(f, schema, orders) {
         return DEFAULT_ORDER_UNFIT;
     }
     if ends_elsewhere(h, f) {

@@ -37,7 +37,7 @@ last-told (x ∷ l) {n} e = rw (lt-ltb 0 n (omega arith))
 
 module _ (m : TableMetadata) (terms : RunTerms) (text : List ℕ) where
   abbrev pub asked : Given
-  asked = record { metadata = m; updates = noUpdates; terms = terms; text = text }
+  asked = record { metadata = m; updates = noUpdates; terms = terms; lent = record { text = text; offers = [] } }
 
   abbrev pub builder : TableMetadataBuilder
   builder = record { fields = m .fields; «has_own» = false; own = record { 0 = pos 0 }; «has_schema» = false; «last_added_schema_id» = record { 0 = pos 0 }; «has_order» = false; «last_added_order_id» = record { 0 = pos 0 } }

@@ -82,7 +82,8 @@ fn close_once(m: TableMetadata, ids: &[i64], none: &[i64], terms: RunTerms, text
     let stored = m.metadata_log.count;
     let gone = surplus(stored, terms.has_file, most);
     let overfull = is_overfull(stored, terms.has_file, gone);
-    let number = close_number(history, first, m.refs, m.schemas, m.sort_orders, overfull);
+    let schema = tables::schemas::get(m.schemas, first.current_schema_id);
+    let number = close_number(history, first, m.refs, schema, m.sort_orders, overfull);
     if number != ACCEPTED {
         return unchanged(number, m);
     }

@@ -1,18 +1,14 @@
 // The files of a command, each read by itself, up to the first that can not be read. What can not be read ends the command with a line that says where.
-use crate::turn::AT;
 use crate::turn::CASES;
-use crate::turn::COMMAND;
-use crate::turn::FILE;
 use crate::turn::FILES;
-use crate::turn::GO_ON;
-use crate::turn::LAST;
 use crate::turn::LINES;
+use crate::turn::OPENED;
 use crate::turn::PIECES;
-use crate::turn::REPLAY;
-use crate::turn::RUN;
-use crate::turn::STAGE;
+use crate::turn::SPOILT;
 use crate::turn::Turn;
 use crate::words::read_name;
+use command::read_part;
+use libc::STDIN_FILENO;
 use plaintext::fault::say_fault;
 use plaintext::fault::say_unopened;
 use plaintext::text::say;
@@ -20,93 +16,75 @@ use std::num::wrapping_add_usize;
 use tokens::input::Place;
 use tokens::input::is_good;
 use tokens::input::start;
-use tokens::number::absolute;
 use tokens::output::Output;
 use tokens::output::flush;
 use tokens::output::flush_aside;
 
-// No file has a descriptor from here on.
-const DESCRIPTORS: usize = 1 << 31;
-
-fn source_of(descriptor: i32) -> usize {
-    absolute(descriptor as i64) as usize
-}
-
-fn close(source: usize) {
-    if source < DESCRIPTORS {
-        libc::close(source as i32);
-    }
-}
-
-// A file that is open is read from its beginning.
-fn begin_file(turn: &mut Turn, place: &mut Place, descriptor: i32) {
-    *place = start(descriptor);
-    turn[FILE] = source_of(descriptor);
-    turn[STAGE] = PIECES;
-}
-
-pub fn next_file(
-    turn: &mut Turn,
-    place: &mut Place,
-    output: &mut Output,
-    end: &mut usize,
-) -> usize {
+pub fn next_file(mut turn: Turn, output: &mut Output, end: &mut usize) -> Turn {
     let mut name = io::buffer();
-    let at = turn[AT];
-    turn[STAGE] = LINES;
-    if at < turn[LAST] {
-        turn[AT] = wrapping_add_usize(at, 1);
-        turn[FILE] = 1;
+    turn.stage = LINES;
+    if turn.at < turn.last {
+        turn.name = turn.at;
+        turn.at = wrapping_add_usize(turn.at, 1);
         let len = read_name(turn, &mut name);
         let descriptor = os::open_read(&name[..len]);
         if descriptor < 0 {
             say_unopened(output, end, &name[..len]);
         } else {
-            begin_file(turn, place, descriptor);
+            turn.file = descriptor;
+            turn.stage = OPENED;
         }
     }
-    GO_ON
+    turn
 }
 
-// What an input of a command is made of, as a line of `bad input` counts it.
-fn say_bad_input(command: usize, name: &[u8], place: &Place, output: &mut Output, end: &mut usize) {
-    match command {
-        RUN => say_fault(output, end, name, b"run", place),
-        REPLAY => say_fault(output, end, name, b"question", place),
-        _ => say_fault(output, end, name, b"case", place),
+// What is open is read from its beginning.
+pub fn begin_file(mut turn: Turn, place: &mut Place) -> Turn {
+    *place = start(turn.file);
+    turn.first = 0;
+    turn.stage = PIECES;
+    turn
+}
+
+// At the end of an input, or where it is bad.
+pub fn leave(mut turn: Turn, place: &Place) -> Turn {
+    if turn.file > STDIN_FILENO {
+        libc::close(turn.file);
     }
+    turn.stage = SPOILT;
+    if is_good(place) {
+        turn.stage = FILES;
+    }
+    turn
 }
 
-// The case format has two words for it; where and why go to standard error, so that answers can be compared line by line.
-fn say_bad_case(name: &[u8], place: &Place, output: &mut Output, end: &mut usize) {
+// In the words of the case format.
+fn say_bad_case(output: &mut Output, end: &mut usize) {
     say(output, end, b"bad case\n");
     flush(output, *end);
     *end = 0;
-    say_fault(output, end, name, b"case", place);
-    flush_aside(output, *end);
-    *end = 0;
 }
 
-fn say_bad(turn: &Turn, place: &Place, output: &mut Output, end: &mut usize) {
+fn say_where(turn: Turn, place: &Place, output: &mut Output, end: &mut usize) {
     let mut name = io::buffer();
+    let mut piece = [0u8; 8];
+    // What an input is made of, by the number of the command.
+    let pieces = b"\nrun\nquestion\n\n\n\ncase\n";
     let len = read_name(turn, &mut name);
-    let command = turn[COMMAND];
-    if command == CASES {
-        say_bad_case(&name[..len], place, output, end);
-    } else {
-        say_bad_input(command, &name[..len], place, output, end);
-    }
+    let word = read_part(pieces, b'\n', 0, turn.command, &mut piece);
+    say_fault(output, end, &name[..len], &piece[..word], place);
 }
 
-// At the end of an input, or where it is bad: the next file, or none.
-pub fn leave(turn: &mut Turn, place: &Place, output: &mut Output, end: &mut usize) {
-    if is_good(place) {
-        turn[STAGE] = FILES;
+// Of a case, where and why go to standard error, so that answers can be compared line by line. What is bad ends the command.
+pub fn say_bad(mut turn: Turn, place: &Place, output: &mut Output, end: &mut usize) -> Turn {
+    turn.stage = LINES;
+    if turn.command == CASES {
+        say_bad_case(output, end);
+        say_where(turn, place, output, end);
+        flush_aside(output, *end);
+        *end = 0;
     } else {
-        turn[STAGE] = LINES;
-        say_bad(turn, place, output, end);
+        say_where(turn, place, output, end);
     }
-    if turn[FILE] > 0 {
-        close(turn[FILE]);
-    }
+    turn
 }

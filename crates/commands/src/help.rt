@@ -1,15 +1,18 @@
 // What each command wants.
-use crate::turn::COMMANDS;
 use crate::turn::HELP;
+use crate::turn::LINES;
+use crate::turn::Turn;
+use crate::words::read_tour;
 use command::read_word;
 use command::word_count;
 use plaintext::name::say_name;
 use plaintext::text::say;
 use plaintext::text::say_between;
+use plaintext::text::say_line;
 use tokens::output::Output;
 
 // A part for each command, in the order of their numbers.
-pub fn say_help(output: &mut Output, end: &mut usize, command: usize) {
+fn say_help(output: &mut Output, end: &mut usize, command: usize) {
     let parts = b"soritauba COMMAND [WORDS]\n\
         \x20 run        what a run makes of last session's metadata, in plain words\n\
         \x20 replay     whether a stored log leads from one metadata to another\n\
@@ -58,27 +61,31 @@ pub fn say_help(output: &mut Output, end: &mut usize, command: usize) {
     say_between(output, end, parts, b'|', command);
 }
 
-// The list, and below it, as the last line, what the word at a place of the command line is.
-pub fn say_unknown(line: &[u8], at: usize, output: &mut Output, end: &mut usize) {
-    let mut word = io::buffer();
-    let len = read_word(line, at, &mut word);
-    say_help(output, end, HELP);
-    if at < word_count(line) {
-        say(output, end, b"unknown command: ");
-        say_name(output, end, &word[..len], len);
-        say(output, end, b"\n");
-    } else {
-        say(output, end, b"no command is given\n");
-    }
+pub fn next_help(mut turn: Turn, output: &mut Output, end: &mut usize) -> Turn {
+    turn.stage = LINES;
+    say_help(output, end, turn.step);
+    turn
 }
 
-// What `help` says: of the command that its word names, or the list.
-pub fn say_help_on(command: usize, line: &[u8], output: &mut Output, end: &mut usize) {
-    if command < COMMANDS {
-        say_help(output, end, command);
-    } else if word_count(line) > 1 {
-        say_unknown(line, 1, output, end);
-    } else {
-        say_help(output, end, HELP);
+// As the last line, what the word at a place of the command line is.
+fn say_word(line: &[u8], at: usize, output: &mut Output, end: &mut usize) {
+    let mut word = io::buffer();
+    let len = read_word(line, at, &mut word);
+    let is_given = at < word_count(line);
+    let words = b"no command is given\nunknown command: \n";
+    say_line(output, end, words, is_given as usize);
+    if is_given {
+        say_name(output, end, &word[..len], len);
     }
+    say(output, end, b"\n");
+}
+
+// The list, and below it the word that is no command.
+pub fn say_unknown(mut turn: Turn, output: &mut Output, end: &mut usize) -> Turn {
+    let mut line = io::buffer();
+    let len = read_tour(turn.line, &mut line);
+    turn.stage = LINES;
+    say_help(output, end, HELP);
+    say_word(&line[..len], turn.at, output, end);
+    turn
 }

@@ -1,33 +1,21 @@
 // A command line, from its first word on: the program's own, or one of the tour with what is asked above it.
-use crate::help::say_help;
-use crate::help::say_help_on;
-use crate::help::say_unknown;
-use crate::turn::AT;
-use crate::turn::COMMAND;
 use crate::turn::COMMANDS;
 use crate::turn::CURRENT;
 use crate::turn::END;
 use crate::turn::EXAMPLES;
-use crate::turn::FILE;
 use crate::turn::FILES;
-use crate::turn::FIRST;
-use crate::turn::GO_ON;
 use crate::turn::HELP;
-use crate::turn::IS_TOUR;
-use crate::turn::LAST;
-use crate::turn::LAST_LINE;
-use crate::turn::LINE;
+use crate::turn::HELPED;
 use crate::turn::NAMES;
-use crate::turn::PIECES;
-use crate::turn::STAGE;
+use crate::turn::NONE;
+use crate::turn::OPENED;
 use crate::turn::TOUR;
 use crate::turn::Turn;
-use crate::turn::start_of_line;
-use crate::turn::start_of_tour;
+use crate::turn::UNKNOWN;
+use crate::turn::start_of_lines;
 use crate::words::asks_for_help;
 use crate::words::command_at;
 use crate::words::first_moment;
-use crate::words::read_line;
 use crate::words::read_tour;
 use command::which_word;
 use command::word_count;
@@ -35,8 +23,6 @@ use libc::STDIN_FILENO;
 use plaintext::text::say;
 use report::example::EXAMPLES as ALL_EXAMPLES;
 use std::num::wrapping_add_usize;
-use tokens::input::Place;
-use tokens::input::start;
 use tokens::output::Output;
 
 // How many lines the tour has, and how many with the other example files.
@@ -46,112 +32,102 @@ const ALL_LINES: usize = 34;
 
 // The program's own line, or the tour, with the word `all` whole.
 pub fn begin() -> Turn {
-    if command_at(b"", 0) != TOUR || asks_for_help(b"") {
-        return start_of_line();
+    let own = b"";
+    if command_at(own, 0) != TOUR || asks_for_help(own) {
+        return start_of_lines(NONE, NONE + 2);
     }
-    if which_word(b"", 1, b"all\n") == 0 {
-        return start_of_tour(ALL_LINES);
+    if which_word(own, 1, b"all\n") == 0 {
+        return start_of_lines(0, ALL_LINES);
     }
-    start_of_tour(TOUR_LINES)
+    start_of_lines(0, TOUR_LINES)
 }
 
 // What stands above the command line of a step of the tour, and the line itself.
-fn say_heading(at: usize, output: &mut Output, end: &mut usize) {
-    let mut line = io::buffer();
-    if at == 0 {
-        say(output, end, b"The files stand in crates/soritauba/data.\n");
-    }
-    say(output, end, b"\n");
-    let asked = read_tour(at, &mut line);
-    say(output, end, &line[..asked]);
+fn say_heading(asked: usize, line: &[u8], output: &mut Output, end: &mut usize) {
+    let mut heading = io::buffer();
+    let len = read_tour(asked, &mut heading);
+    say(output, end, &heading[..len]);
     say(output, end, b"\n$ soritauba ");
-    let len = read_tour(wrapping_add_usize(at, 1), &mut line);
-    say(output, end, &line[..len]);
+    say(output, end, line);
     say(output, end, b"\n");
 }
 
 // Names of examples, or all where there is none.
-fn begin_examples(turn: &mut Turn, words: usize) {
-    turn[STAGE] = NAMES;
-    turn[AT] = 1;
-    turn[LAST] = words;
-    turn[FILE] = 0;
+fn begin_examples(mut turn: Turn, words: usize) -> Turn {
+    turn.stage = NAMES;
+    turn.at = 1;
+    turn.last = words;
+    turn.name = 0;
     if words <= 1 {
-        turn[AT] = 0;
-        turn[LAST] = ALL_EXAMPLES;
-        turn[FILE] = 1;
+        turn.at = 0;
+        turn.last = ALL_EXAMPLES;
+        turn.name = NONE;
     }
+    turn
 }
 
 // The words that name files, or standard input where there is none.
-fn begin_files(turn: &mut Turn, first: usize, last: usize, place: &mut Place) {
-    turn[STAGE] = FILES;
-    turn[AT] = first;
-    turn[LAST] = last;
+fn begin_files(mut turn: Turn, first: usize, last: usize) -> Turn {
+    turn.stage = FILES;
+    turn.at = first;
+    turn.last = last;
     if first >= last {
-        turn[STAGE] = PIECES;
-        turn[FILE] = 0;
-        *place = start(STDIN_FILENO);
+        turn.stage = OPENED;
+        turn.name = NONE;
+        turn.file = STDIN_FILENO;
     }
+    turn
 }
 
-fn begin_inputs(
-    turn: &mut Turn,
-    line: &[u8],
-    place: &mut Place,
-    output: &mut Output,
-    end: &mut usize,
-) {
+// What `help` says: of the command that its word names, or the list.
+fn begin_help(mut turn: Turn, command: usize, words: usize) -> Turn {
+    turn.at = 1;
+    if command < COMMANDS {
+        turn.step = command;
+    } else if words > 1 {
+        turn.stage = UNKNOWN;
+    }
+    turn
+}
+
+// What the command wants is said where nothing else is begun: without moments, by `current` too.
+fn begin_command(mut turn: Turn, line: &[u8]) -> Turn {
+    let command = command_at(line, 0);
     let words = word_count(line);
     let moment = first_moment(line);
-    if turn[COMMAND] != CURRENT {
-        begin_files(turn, 1, words, place);
-    } else if moment < words {
-        begin_files(turn, 2, moment, place);
-    } else {
-        say_help(output, end, CURRENT);
-    }
-}
-
-fn begin_command(
-    turn: &mut Turn,
-    line: &[u8],
-    place: &mut Place,
-    output: &mut Output,
-    end: &mut usize,
-) {
-    let command = command_at(line, 0);
-    turn[COMMAND] = command;
-    turn[FIRST] = 0;
-    if command == COMMANDS {
-        say_unknown(line, 0, output, end);
-    } else if command == HELP {
-        say_help_on(command_at(line, 1), line, output, end);
+    turn.stage = HELPED;
+    turn.command = command;
+    turn.step = command;
+    turn.at = 0;
+    if command == HELP {
+        begin_help(turn, command_at(line, 1), words)
+    } else if command == COMMANDS {
+        turn.stage = UNKNOWN;
+        turn
     } else if asks_for_help(line) {
-        say_help(output, end, command);
+        turn
     } else if command == EXAMPLES {
-        begin_examples(turn, word_count(line));
+        begin_examples(turn, words)
+    } else if command != CURRENT {
+        begin_files(turn, 1, words)
+    } else if moment < words {
+        begin_files(turn, 2, moment)
     } else {
-        begin_inputs(turn, line, place, output, end);
+        turn
     }
 }
 
-pub fn next_line(
-    turn: &mut Turn,
-    place: &mut Place,
-    output: &mut Output,
-    end: &mut usize,
-) -> usize {
+pub fn next_line(mut turn: Turn, output: &mut Output, end: &mut usize) -> Turn {
     let mut line = io::buffer();
-    let at = turn[LINE];
-    if at >= turn[LAST_LINE] {
-        return END;
+    let asked = wrapping_add_usize(turn.line, 1);
+    turn.line = wrapping_add_usize(asked, 1);
+    let len = read_tour(turn.line, &mut line);
+    if turn.line > turn.last_line {
+        turn.wanted = END;
+        return turn;
     }
-    if turn[IS_TOUR] > 0 {
-        say_heading(at, output, end);
+    if asked < NONE {
+        say_heading(asked, &line[..len], output, end);
     }
-    turn[LINE] = wrapping_add_usize(at, 2);
-    let len = read_line(turn, &mut line);
-    begin_command(turn, &line[..len], place, output, end);
-    GO_ON
+    begin_command(turn, &line[..len])
 }

@@ -1,42 +1,56 @@
-// Where the program is, in a small lent array: which line, which command, which stage of it.
-pub type Turn = [usize; 10];
+// Where the program is: which line, which command, which stage of it, and what is wanted.
+pub struct Turn {
+    pub wanted: usize,
+    pub stage: usize,
+    // The line of the tour that is gone through, and behind which there is none; `NONE` and more for the program's own.
+    pub line: usize,
+    pub last_line: usize,
+    pub command: usize,
+    // The next word, and behind which there is none; of the examples, where none is named, the next example. Of an unknown word, its place.
+    pub at: usize,
+    pub last: usize,
+    // The place of the word that names the input or the example; `NONE` for standard input, which has no name, and where all examples are asked for.
+    pub name: usize,
+    // The descriptor of the file that is read, 0 for standard input.
+    pub file: i32,
+    // The number with which a run or a case starts, and how often it is asked.
+    pub first: u64,
+    pub times: u64,
+    // The next step of an example, and the one behind its last; of help, the command.
+    pub step: usize,
+    pub last_step: usize,
+}
 
-pub const STAGE: usize = 0;
+// No word of a line, and no line of the tour, has this place or one behind it.
+pub const NONE: usize = 1 << 62;
 
-// The next line of the tour, and behind which there is none; 0 and 1 where there is one line, the program's own.
-pub const LINE: usize = 1;
-
-pub const LAST_LINE: usize = 2;
-
-pub const IS_TOUR: usize = 3;
-
-pub const COMMAND: usize = 4;
-
-// The next word, and behind which there is none; of the examples, where none is named, the next example.
-pub const AT: usize = 5;
-
-pub const LAST: usize = 6;
-
-// 0 for standard input, which has no name; above 0 where the word before the next is a name, for a file that is open its descriptor. Of the examples,
-// whether all are asked for.
-pub const FILE: usize = 7;
-
-// The number with which a run starts; of an example, the next step.
-pub const FIRST: usize = 8;
-
-// How often a run is asked; of an example, the step behind its last.
-pub const TIMES: usize = 9;
-
-// The stages: a line is to be begun, a file to be opened, a piece of it to be read; an example is to be begun, a step of it to be made.
+// The stages of what needs no input: a line is to be begun, help to be given, an unknown word to be named; an example is to be begun, a step of it
+// to be made.
 pub const LINES: usize = 0;
 
-pub const FILES: usize = 1;
+pub const HELPED: usize = 1;
 
-pub const PIECES: usize = 2;
+pub const UNKNOWN: usize = 2;
 
 pub const NAMES: usize = 3;
 
 pub const STEPS: usize = 4;
+
+// The stages of an input: a file is to be opened, its reading to be begun, a piece of it to be ended; it is to be left, or its fault to be said.
+pub const FILES: usize = 5;
+
+pub const OPENED: usize = 6;
+
+pub const PIECES: usize = 7;
+
+pub const LEFT: usize = 8;
+
+pub const SPOILT: usize = 9;
+
+// The stages of a piece: a run or the kind of a case is to be read; what is no run to be answered.
+pub const READ: usize = 10;
+
+pub const ANSWERED: usize = 11;
 
 // What is wanted after a step: nothing, the end, a run, a verdict, the run of an example, a close by itself.
 pub const GO_ON: usize = 0;
@@ -73,24 +87,21 @@ pub const DATES: usize = 8;
 // One for every other word.
 pub const COMMANDS: usize = 9;
 
-// The number with which the run that is wanted starts, and how often it is asked.
-pub fn first_of(turn: &Turn) -> u64 {
-    turn[FIRST] as u64
-}
-
-pub fn times_of(turn: &Turn) -> u64 {
-    turn[TIMES] as u64
-}
-
-// The step of the example that is wanted.
-pub fn step_of(turn: &Turn) -> usize {
-    turn[FIRST]
-}
-
-pub fn start_of_tour(last_line: usize) -> Turn {
-    [LINES, 0, last_line, 1, 0, 0, 0, 0, 0, 0]
-}
-
-pub fn start_of_line() -> Turn {
-    [LINES, 0, 1, 0, 0, 0, 0, 0, 0, 0]
+// Before the first of some lines.
+pub fn start_of_lines(line: usize, last_line: usize) -> Turn {
+    Turn {
+        wanted: GO_ON,
+        stage: LINES,
+        line,
+        last_line,
+        command: 0,
+        at: 0,
+        last: 0,
+        name: NONE,
+        file: 0,
+        first: 0,
+        times: 0,
+        step: 0,
+        last_step: 0,
+    }
 }

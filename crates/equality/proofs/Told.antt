@@ -7,7 +7,7 @@ use lib.Dec.{eqb}
 use Rattle.rules.specs.Words.{eqZ, sameBytes, sameList}
 use Rattle.rules.proofs.Orders.{Tells, numbers-told, names-told}
 use Rattle.rules.proofs.Checks.{parts, both, and-left, and-right}
-use Rattle.equality.specs.Same.{sameRefName, sameText, sameSnapshot, sameLogEntry, sameReference, sameRef, sameFileEntry, sameSchemaField, sameSchema, sameSortField, sameSortOrder, sameStatisticsFile}
+use Rattle.equality.specs.Same.{sameName, sameText, sameSnapshot, sameLogEntry, sameReference, sameRef, sameFileEntry, sameSchemaField, sameSchema, sameSortField, sameSortOrder, sameStatisticsFile}
 
 -- ---- numbers and flags
 
@@ -45,8 +45,8 @@ module _ {A : Type 0} {same : A → A → Bool} (told : Tells same) where
 
 -- ---- texts
 
-pub ref-names-told : Tells sameRefName
-unfolding sameRefName
+pub ref-names-told : Tells sameName
+unfolding sameName
 ref-names-told =
     record {
       equal = λ a b e.
@@ -129,7 +129,7 @@ unfolding sameRef
 refs-told =
     record {
       equal = λ a b e.
-          let k = parts (sameRefName (a .name) (b .name)) (sameReference (a .reference) (b .reference) ∷ []) e in
+          let k = parts (sameName (a .name) (b .name)) (sameReference (a .reference) (b .reference) ∷ []) e in
           λ i. record {
             name = ref-names-told .equal (a .name) (b .name) (k .0) i;
             reference = references-told .equal (a .reference) (b .reference) (k .1 .0) i;

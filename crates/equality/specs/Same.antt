@@ -2,7 +2,7 @@
 use mathlib.Core.Bool.{Bool, Bool·beq, _&&_}
 use lib.Dec.{eqb}
 use Rattle.rules.specs.Words.{eqZ, sameList, sameBytes}
-use Rattle.records.specs.declared.text.RefName.{RefName}
+use Rattle.records.specs.declared.text.Name.{Name}
 use Rattle.records.specs.declared.text.Text.{Text}
 use Rattle.records.specs.declared.snapshot.Snapshot.{Snapshot}
 use Rattle.records.specs.declared.snapshot.SnapshotLogEntry.{SnapshotLogEntry}
@@ -17,8 +17,8 @@ use Rattle.records.specs.declared.metadata.MetadataLogEntry.{MetadataLogEntry}
 
 -- ---- texts
 
-unfoldable pub sameRefName : RefName → RefName → Bool
-sameRefName a b = eqb (a .len) (b .len) && sameBytes (a .bytes) (b .bytes)
+unfoldable pub sameName : Name → Name → Bool
+sameName a b = eqb (a .len) (b .len) && sameBytes (a .bytes) (b .bytes)
 
 unfoldable pub sameText : Text → Text → Bool
 sameText a b = eqb (a .len) (b .len) && sameBytes (a .bytes) (b .bytes)
@@ -53,7 +53,7 @@ sameReference a b =
     && eqZ (a .«max_ref_age_ms» .0) (b .«max_ref_age_ms» .0)
 
 unfoldable pub sameRef : NamedRef → NamedRef → Bool
-sameRef a b = sameRefName (a .name) (b .name) && sameReference (a .reference) (b .reference)
+sameRef a b = sameName (a .name) (b .name) && sameReference (a .reference) (b .reference)
 
 -- ---- the metadata log
 

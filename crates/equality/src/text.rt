@@ -1,9 +1,9 @@
 // Texts compared: all their bytes, and how many of them count.
 ghost use mathlib.Core.Path.{_≡_};
 ghost use Rattle.rules.specs.Words.{sameBytes};
-ghost use Rattle.equality.specs.Same.{sameRefName, sameText};
+ghost use Rattle.equality.specs.Same.{sameName, sameText};
 use primitives::names::same_bytes;
-use records::text::RefName;
+use records::text::Name;
 use records::text::Text;
 
 pub fn same_uuid(a: [u8; 16], b: [u8; 16]) -> bool
@@ -12,8 +12,8 @@ pub fn same_uuid(a: [u8; 16], b: [u8; 16]) -> bool
     same_bytes(&a, &b)
 }
 
-pub fn same_ref_name(a: RefName, b: RefName) -> bool
-    ensures { λ r. ⌜ r ≡ sameRefName a b ⌝ }
+pub fn same_whole_name(a: Name, b: Name) -> bool
+    ensures { λ r. ⌜ r ≡ sameName a b ⌝ }
 {
     let m = a.len;
     let n = b.len;

@@ -14,7 +14,7 @@ use Rattle.rules.specs.WellFormed.{fileNameFormed, snapshotsFormed, refsFormed,
 use Rattle.rules.specs.Blanks.{isTidySnapshots, isTidyRefs, isTidySnapshotLog, isTidyMetadataLog, isTidySchemas, isTidySortOrders, isTidyStatistics, isTidyFields, isTidyMetadata}
 use Rattle.rules.specs.Layout.{given, readText, readMetadata}
 use Rattle.rules.specs.Register as plain
-use Rattle.rules.specs.Answer.{answer}
+use Rattle.rules.specs.Answer.{Lent, answer}
 use Rattle.rules.proofs.Checks.{both, and-left, and-right, parts, whole, Passed, passed, passed-before, passed-after, first-after}
 use Rattle.rules.proofs.Answer.Laws.{Formed}
 use Rattle.rules.proofs.Answer.Start.{not-formed-one, formed-not-one}
@@ -120,14 +120,14 @@ module _ (m : TableMetadata) (terms : RunTerms) where
 
 -- ---- the run's number
 
-module _ (m : TableMetadata) (us : UpdateList) (terms : RunTerms) (limit : List ℕ) where
+module _ (m : TableMetadata) (us : UpdateList) (terms : RunTerms) (lent : Lent) where
   -- a run is answered 1 exactly where its start has a fault
-  pub one-at-fault : answer m us terms limit .number ≡ startNotFormed → startFault m terms ≡ 0 → ⊥
+  pub one-at-fault : answer m us terms lent .number ≡ startNotFormed → startFault m terms ≡ 0 → ⊥
   one-at-fault e z =
       let f : FormedStart m terms = faultless-start m terms z in
-      formed-not-one m us terms limit (both (f .metadata .tidy) (both (f .metadata .formed) (f .file))) e
+      formed-not-one m us terms lent (both (f .metadata .tidy) (both (f .metadata .formed) (f .file))) e
 
-  pub fault-one : (startFault m terms ≡ 0 → ⊥) → answer m us terms limit .number ≡ startNotFormed
+  pub fault-one : (startFault m terms ≡ 0 → ⊥) → answer m us terms lent .number ≡ startNotFormed
   fault-one n =
       let tidy : Bool = isTidyMetadata m in
       let formed : Bool = metadataFormed (readMetadata m) in
@@ -135,4 +135,4 @@ module _ (m : TableMetadata) (us : UpdateList) (terms : RunTerms) (limit : List 
       cases (tidy && (formed && fits))
       (λ t. let k : (formed && fits) ≡ true = and-right tidy (formed && fits) t in
       absurd (n (start-faultless m terms (record { metadata = record { tidy = and-left tidy (formed && fits) t; formed = and-left formed fits k }; file = and-right formed fits k }))))
-      (not-formed-one m us terms limit)
+      (not-formed-one m us terms lent)

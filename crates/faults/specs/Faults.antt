@@ -96,7 +96,7 @@ metadataFault m = firstOf (metadataFaults m)
 
 -- the limit text is not asked for: any will do
 unfoldable pub fileFaults : RunTerms → List Check
-fileFaults terms = (not (ifSome fileNameFormed (readTerms terms [] .file)), 31) ∷ []
+fileFaults terms = (not (ifSome fileNameFormed (readTerms terms (record { text = []; offers = [] }) .file)), 31) ∷ []
 
 unfoldable pub startFault : TableMetadata → RunTerms → ℕ
 startFault m terms = firstOf (metadataFaults m ++ fileFaults terms)

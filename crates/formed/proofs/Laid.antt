@@ -17,10 +17,10 @@ use Rattle.records.specs.declared.schema.Schemas.{Schemas}
 use Rattle.records.specs.declared.«sort_order».SortOrders.{SortOrders}
 use Rattle.rules.specs.Words.{all, ascending, unequal}
 use Rattle.rules.specs.Register as plain
-use Rattle.rules.specs.Capacities.{snapshotRoom, refRoom, refNameRoom, schemaRoom, schemaFieldRoom, sortOrderRoom, sortFieldRoom}
-use Rattle.rules.specs.WellFormed.{atLeastOne, fieldIds, refNameFormed, snapshotFormed, refFormed, schemaFormed, sortFieldFormed, offeredOrderFormed, orderFormed, snapshotBelow, schemaBelow, orderBelow, snapshotsFormed, refsFormed, schemasFormed, ordersFormed}
+use Rattle.rules.specs.Capacities.{snapshotRoom, refRoom, nameRoom, schemaRoom, schemaFieldRoom, sortOrderRoom, sortFieldRoom}
+use Rattle.rules.specs.WellFormed.{atLeastOne, fieldIds, nameFormed, snapshotFormed, refFormed, schemaFormed, sortFieldFormed, offeredOrderFormed, orderFormed, snapshotBelow, schemaBelow, orderBelow, snapshotsFormed, refsFormed, schemasFormed, ordersFormed}
 use Rattle.rules.specs.Blanks.{isTidySnapshots, isBlankRef, isTidyRef, isTidyRefs, isTidySchemas, isTidySortOrders}
-use Rattle.rules.specs.Layout.{pad, readRefName, readSnapshots, readRef, laidRef, readRefs, laidRefs, readSchemas, readSortOrders}
+use Rattle.rules.specs.Layout.{pad, readName, readSnapshots, readRef, laidRef, readRefs, laidRefs, readSchemas, readSortOrders}
 use Rattle.rules.proofs.Checks.{both, and-left, and-right, parts}
 use Rattle.rules.proofs.Tables.{all-then, all-at, logFormed, log-fits, log-all}
 use Rattle.rules.proofs.Slots.Relaid.{table-back, blank-ref, back-snapshots, back-ref, back-schemas, back-sort-orders}
@@ -45,7 +45,7 @@ laid-refs t h y =
     record {
       back = λ i. record { items = r .0 i; count = r .1 i };
       fits = log-fits refRoom refFormed (readRefs t) f;
-      names = all-then refFormed (λ (x : plain.NamedRef). leb (length (x .name)) refNameRoom) (λ x k. and-left (refNameFormed (x .name)) _ k) (readRefs t) a;
+      names = all-then refFormed (λ (x : plain.NamedRef). leb (length (x .name)) nameRoom) (λ x k. and-left (nameFormed (x .name)) _ k) (readRefs t) a;
     }
 
 pub laid-formed-refs : (t : Refs) → isTidyRefs t ≡ true → refsFormed (readRefs t) ≡ true → LaidRefs t
@@ -91,8 +91,8 @@ module _ {t : Refs} (h : LaidRefs t) where
     pub laid-name : LaidName (here .name)
     unfolding laidRef
     laid-name =
-        let p : plain.NamedRef → Bool = λ x. leb (length (x .name)) refNameRoom in
-        let f : leb (length (readRefName (here .name))) refNameRoom ≡ true = ap p (sym read-here) ∙ all-at p (readRef d) (readRefs t) (h .names) i below in
+        let p : plain.NamedRef → Bool = λ x. leb (length (x .name)) nameRoom in
+        let f : leb (length (readName (here .name))) nameRoom ≡ true = ap p (sym read-here) ∙ all-at p (readRef d) (readRefs t) (h .names) i below in
         record { back = ap (λ (x : NamedRef). x .name) laid-here; fits = leb-true _ _ f }
 
 -- ---- the other tables

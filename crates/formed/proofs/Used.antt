@@ -10,7 +10,6 @@ use lib.Signed.{nonNeg}
 use Rattle.records.specs.declared.snapshot.Snapshot.{Snapshot}
 use Rattle.records.specs.declared.snapshot.SnapshotIds.{SnapshotIds}
 use Rattle.records.specs.declared.reference.SnapshotReference.{SnapshotReference}
-use Rattle.records.specs.declared.schema.Schema.{Schema}
 use Rattle.records.specs.declared.schema.SchemaIds.{SchemaIds}
 use Rattle.records.specs.declared.«sort_order».SortOrder.{SortOrder}
 use Rattle.records.specs.declared.statistics.StatisticsFile.{StatisticsFile}
@@ -20,9 +19,9 @@ use Rattle.rules.specs.Register.{Update}
 use Rattle.rules.specs.Register.Update.{NotFormed}
 use Rattle.rules.specs.WellFormed.{statisticsFileFormed, updateFormed}
 use Rattle.rules.specs.Kinds.{setStatisticsKind, removeStatisticsKind, setPartitionStatisticsKind, removePartitionStatisticsKind, fitsKinds, readKind}
-use Rattle.rules.specs.Blanks.{isZero, isZeroZ, restBlank, noneUsed, isBlankSnapshotId, isBlankSchemaField, isBlankSchemaId, isBlankSortField, isTidySnapshot, isBlankSnapshot, isTidySnapshotIds, isBlankSnapshotIds, isTidyReference, isBlankReference, isTidySchema, isBlankSchema, isTidySchemaIds, isBlankSchemaIds, isTidySortOrder, isBlankSortOrder, isTidyStatisticsFile, isBlankStatisticsFile}
+use Rattle.rules.specs.Blanks.{isZero, isZeroZ, restBlank, noneUsed, isBlankSnapshotId, isBlankSchemaId, isBlankSortField, isTidySnapshot, isBlankSnapshot, isTidySnapshotIds, isBlankSnapshotIds, isTidyReference, isBlankReference, isTidySchemaIds, isBlankSchemaIds, isTidySortOrder, isBlankSortOrder, isTidyStatisticsFile, isBlankStatisticsFile}
 use Rattle.rules.specs.Layout.{readStatisticsFile}
-use Rattle.rules.specs.Capacities.{removalRoom, schemaFieldRoom, sortFieldRoom}
+use Rattle.rules.specs.Capacities.{removalRoom, sortFieldRoom}
 use Rattle.rules.proofs.Checks.{and-left, and-right}
 use Rattle.rules.proofs.Slots.Relaid.{blank-snapshot, blank-reference, blank-statistics-file}
 
@@ -62,10 +61,6 @@ blank-snapshot-ids-tidy t e = none-rest removalRoom isBlankSnapshotId (t .items)
 pub blank-reference-tidy : (r : SnapshotReference) → isBlankReference r ≡ true → isTidyReference r ≡ true
 unfolding isTidyReference
 blank-reference-tidy r e = rw (blank-reference r e)
-
-pub blank-schema-tidy : (s : Schema) → isBlankSchema s ≡ true → isTidySchema s ≡ true
-unfolding isBlankSchema isTidySchema
-blank-schema-tidy s e = none-rest schemaFieldRoom isBlankSchemaField (s .items) (s .count) (and-right (isZeroZ (s .«schema_id» .0)) _ e)
 
 pub blank-schema-ids-tidy : (t : SchemaIds) → isBlankSchemaIds t ≡ true → isTidySchemaIds t ≡ true
 unfolding isBlankSchemaIds isTidySchemaIds

@@ -8,7 +8,7 @@ ghost use mathlib.Core.Bool.{cond};
 ghost use lib.ListN.{drop};
 ghost use Rattle.rules.specs.Words.{all};
 ghost use Rattle.rules.specs.Capacities.{schemaFieldRoom, sortFieldRoom, removalRoom};
-ghost use Rattle.rules.specs.Blanks.{isZero, restBlank, isTidyRefName, isBlankRefName, isTidyText, isBlankText, isTidySnapshot, isBlankSnapshot, isBlankSnapshotId, isTidySnapshotIds, isBlankSnapshotIds, isTidyReference, isBlankReference, isBlankSchemaField, isTidySchema, isBlankSchema, isBlankSchemaId, isTidySchemaIds, isBlankSchemaIds, isBlankSortField, isTidySortOrder, isBlankSortOrder, isTidyStatisticsFile, isBlankStatisticsFile};
+ghost use Rattle.rules.specs.Blanks.{isZero, restBlank, isTidyName, isBlankName, isTidyText, isBlankText, isTidySnapshot, isBlankSnapshot, isBlankSnapshotId, isTidySnapshotIds, isBlankSnapshotIds, isTidyReference, isBlankReference, isBlankSchemaField, isTidySchema, isBlankSchema, isBlankSchemaOffer, isBlankSchemaId, isTidySchemaIds, isBlankSchemaIds, isBlankSortField, isTidySortOrder, isBlankSortOrder, isTidyStatisticsFile, isBlankStatisticsFile};
 use equality::ids;
 use equality::number::same_age;
 use equality::number::same_file_size;
@@ -29,12 +29,13 @@ use records::counters::SortOrderId;
 use records::reference::SnapshotReference;
 use records::schema::Schema;
 use records::schema::SchemaIds;
+use records::schema::SchemaOffer;
 use records::snapshot::Snapshot;
 use records::snapshot::SnapshotIds;
 use records::sort_order::SortField;
 use records::sort_order::SortOrder;
 use records::statistics::StatisticsFile;
-use records::text::RefName;
+use records::text::Name;
 use records::text::Text;
 
 // Where the unused slots start: past the counted ones, or at the first.
@@ -60,8 +61,8 @@ pub fn zeros_from(bytes: &[u8], from: usize) -> bool
     ok
 }
 
-pub fn ref_name_fits(used: bool, t: RefName) -> bool
-    ensures { λ r. ⌜ r ≡ cond used (isTidyRefName t) (isBlankRefName t) ⌝ }
+pub fn name_fits(used: bool, t: Name) -> bool
+    ensures { λ r. ⌜ r ≡ cond used (isTidyName t) (isBlankName t) ⌝ }
 {
     let n = t.len;
     let b = t.bytes;
@@ -152,6 +153,12 @@ pub fn schema_fits(used: bool, s: Schema) -> bool
     let n = s.count;
     let from = unused_from(used, n);
     (used | (ids::same_schema(id, SchemaId(0)) & (n == 0))) & fields_blank_from(s, from)
+}
+
+pub fn schema_offer_is_blank(o: SchemaOffer) -> bool
+    ensures { λ r. ⌜ r ≡ isBlankSchemaOffer o ⌝ }
+{
+    ids::same_schema(o.schema_id, SchemaId(0)) & (o.at == 0) & (o.count == 0)
 }
 
 fn schema_ids_blank_from(t: SchemaIds, from: usize) -> bool

@@ -9,8 +9,8 @@ ghost use Rattle.rules.specs.Capacities.{snapshotRoom, refRoom, schemaRoom, sor
 ghost use Rattle.rules.specs.WellFormed.{fileNameFormed, snapshotFormed, refFormed, schemaFormed, orderFormed, statisticsFileFormed, snapshotLogFormed, metadataLogFormed};
 ghost use Rattle.rules.specs.Blanks.{isTidySnapshot, isBlankSnapshot, isTidySnapshots, isBlankLogEntry, isTidySnapshotLog, isTidyRef, isBlankRef, isTidyRefs, isTidySchema, isBlankSchema, isTidySchemas, isTidySortOrder, isBlankSortOrder, isTidySortOrders, isTidyStatisticsFile, isBlankStatisticsFile, isTidyStatistics, isTidyMetadataLogEntry, isBlankMetadataLogEntry, isTidyMetadataLog};
 ghost use Rattle.rules.specs.Layout.{readText, readSnapshot, readSnapshots, readSnapshotLog, readRef, readRefs, readSchema, readSchemas, readSortOrder, readSortOrders, readStatisticsFile, readStatistics, readMetadataLog};
+use crate::blanks::name_fits;
 use crate::blanks::order_fits;
-use crate::blanks::ref_name_fits;
 use crate::blanks::reference_fits;
 use crate::blanks::schema_fits;
 use crate::blanks::snapshot_fits;
@@ -25,7 +25,7 @@ use crate::record::statistics_file_formed;
 use equality::number::same_time;
 use equality::whole::same_log_entry;
 use records::capacities::METADATA_LOG;
-use records::capacities::REF_NAME;
+use records::capacities::NAME;
 use records::capacities::REFS;
 use records::capacities::SCHEMAS;
 use records::capacities::SNAPSHOT_LOG;
@@ -79,10 +79,9 @@ fn ref_slot(used: bool, r: NamedRef) -> bool
     let l = n.len;
     let f = r.reference;
     if used {
-        return (ref_name_fits(true, n) & reference_fits(true, f))
-            & ((l <= REF_NAME) & reference_formed(f));
+        return (name_fits(true, n) & reference_fits(true, f)) & ((l <= NAME) & reference_formed(f));
     }
-    ref_name_fits(false, n) & reference_fits(false, f)
+    name_fits(false, n) & reference_fits(false, f)
 }
 
 pub fn refs_filled(t: Refs) -> bool

@@ -1,12 +1,13 @@
 // Well-formed updates: in each part a record is tidy where the kind uses it and blank where it does not, and what the kind uses keeps its bounds.
+// Whether what an update offers is well formed is asked where it is added, by its bytes.
 ghost use mathlib.Core.Path.{_≡_};
 ghost use Rattle.rules.specs.WellFormed.{updateFormed};
 ghost use Rattle.rules.specs.Kinds.{isTidyFieldsPart, isTidySnapshotsPart, isTidyRefsPart, isTidySchemasPart, isTidySortOrdersPart, isTidyStatisticsPart, isTidyUpdate, readKind, readUpdate};
+use crate::blanks::name_fits;
 use crate::blanks::order_fits;
-use crate::blanks::ref_name_fits;
 use crate::blanks::reference_fits;
-use crate::blanks::schema_fits;
 use crate::blanks::schema_ids_fit;
+use crate::blanks::schema_offer_is_blank;
 use crate::blanks::snapshot_fits;
 use crate::blanks::snapshot_ids_fit;
 use crate::blanks::statistics_file_fits;
@@ -14,10 +15,10 @@ use crate::blanks::text_fits;
 use crate::blanks::zeros_from;
 use crate::bounds::order_choice_formed;
 use crate::bounds::schema_choice_formed;
+use crate::bounds::schema_id_formed;
 use crate::bounds::snapshot_id_formed;
 use crate::record::offered_order_formed;
 use crate::record::reference_formed;
-use crate::record::schema_formed;
 use crate::record::schema_ids_formed;
 use crate::record::snapshot_formed;
 use crate::record::snapshot_ids_formed;
@@ -25,7 +26,7 @@ use crate::record::statistics_file_formed;
 use equality::ids::same_order;
 use equality::ids::same_schema;
 use equality::ids::same_snapshot;
-use records::capacities::REF_NAME;
+use records::capacities::NAME;
 use records::capacities::TEXT;
 use records::counters::SchemaId;
 use records::counters::SnapshotId;
@@ -77,7 +78,7 @@ fn snapshots_fit(k: u8, p: SnapshotsPart) -> bool
 fn refs_fit(k: u8, p: NamedRef) -> bool
     ensures { λ r. ⌜ r ≡ isTidyRefsPart k p ⌝ }
 {
-    ref_name_fits(
+    name_fits(
         (k == SET_BRANCH_SNAPSHOT) | ((k == SET_REF) | (k == REMOVE_REF)),
         p.name,
     )
@@ -87,7 +88,7 @@ fn refs_fit(k: u8, p: NamedRef) -> bool
 fn schemas_fit(k: u8, p: SchemasPart) -> bool
     ensures { λ r. ⌜ r ≡ isTidySchemasPart k p ⌝ }
 {
-    schema_fits(k == ADD_SCHEMA, p.added)
+    ((k == ADD_SCHEMA) | schema_offer_is_blank(p.added))
         & ((k == SET_CURRENT_SCHEMA) | same_schema(p.chosen, SchemaId(0)))
         & schema_ids_fit(k == REMOVE_SCHEMAS, p.removed)
 }
@@ -138,11 +139,11 @@ fn used_formed(u: TableUpdate) -> bool
         UPGRADE_FORMAT_VERSION => (1 <= version) & (version <= 3),
         SET_LOCATION => location <= TEXT,
         ADD_SNAPSHOT => snapshot_formed(u.snapshots.added),
-        SET_BRANCH_SNAPSHOT => (name <= REF_NAME) & snapshot_formed(u.snapshots.added),
+        SET_BRANCH_SNAPSHOT => (name <= NAME) & snapshot_formed(u.snapshots.added),
         REMOVE_SNAPSHOTS => snapshot_ids_formed(u.snapshots.removed),
-        SET_REF => (name <= REF_NAME) & reference_formed(u.refs.reference),
-        REMOVE_REF => name <= REF_NAME,
-        ADD_SCHEMA => schema_formed(u.schemas.added),
+        SET_REF => (name <= NAME) & reference_formed(u.refs.reference),
+        REMOVE_REF => name <= NAME,
+        ADD_SCHEMA => schema_id_formed(u.schemas.added.schema_id),
         SET_CURRENT_SCHEMA => schema_choice_formed(u.schemas.chosen),
         REMOVE_SCHEMAS => schema_ids_formed(u.schemas.removed),
         ADD_SORT_ORDER => offered_order_formed(u.sort_orders.added),

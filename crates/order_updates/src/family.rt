@@ -3,10 +3,9 @@ ghost use mathlib.Core.Path.{_≡_};
 ghost use mathlib.Core.Bool.{true};
 ghost use Prim.Native.Nat.{_≤_};
 ghost use Rattle.rules.specs.WellFormed.{ordersFormed, updateFormed};
-ghost use Rattle.rules.specs.SchemaUpdates.{holdsSchema};
-ghost use Rattle.rules.specs.Layout.{readSchemas, readSortOrders};
+ghost use Rattle.rules.specs.Layout.{readSortOrders};
 ghost use Rattle.rules.specs.Kinds.{isTidyUpdate, readKind, addSortOrderKind, setDefaultSortOrderKind};
-ghost use Rattle.tables.specs.Laid.{LaidSchemas, LaidOrders};
+ghost use Rattle.tables.specs.Laid.{LaidSchema, LaidOrders};
 ghost use Rattle.order_updates.specs.Family.{ordersAfter, OrdersDecided};
 ghost use Rattle.order_updates.specs.Orders.{NewOrder};
 use crate::add_sort_order;
@@ -14,24 +13,24 @@ use crate::orders_after;
 use crate::set_default_sort_order;
 use builder::builder::TableMetadataBuilder;
 use builder::decision::Decision;
-use records::schema::Schemas;
+use records::schema::Schema;
 use records::sort_order::SortOrders;
 use records::update::ADD_SORT_ORDER;
 use records::update::TableUpdate;
 
-pub fn decide(b: TableMetadataBuilder, schemas: Schemas, t: SortOrders, u: TableUpdate) -> Decision
-    requires { ⌜ LaidSchemas schemas ⌝ }
-    requires { ⌜ holdsSchema (readSchemas schemas) (b .fields .«current_schema_id» .0) ≡ true ⌝ }
+// The schema is the current one.
+pub fn decide(b: TableMetadataBuilder, s: Schema, t: SortOrders, u: TableUpdate) -> Decision
+    requires { ⌜ LaidSchema s ⌝ }
     requires { ⌜ LaidOrders t ⌝ }
     requires { ⌜ ordersFormed (readSortOrders t) ≡ true ⌝ }
     requires { ⌜ isTidyUpdate u ≡ true ⌝ }
     requires { ⌜ updateFormed (readKind u) ≡ true ⌝ }
     requires { ⌜ (addSortOrderKind ≤ u .kind) × (u .kind ≤ setDefaultSortOrderKind) ⌝ }
-    ensures { λ r. ⌜ OrdersDecided b schemas t u r ⌝ }
+    ensures { λ r. ⌜ OrdersDecided b s t u r ⌝ }
 {
     let kind = u.kind;
     if kind == ADD_SORT_ORDER {
-        return add_sort_order(b, schemas, t, u);
+        return add_sort_order(b, s, t, u);
     }
     set_default_sort_order(b, t, u)
 }

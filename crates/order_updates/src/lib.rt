@@ -7,11 +7,10 @@ ghost use Rattle.rules.specs.Words.{eqZ, isEmpty, highest as highestOf, put};
 ghost use Rattle.rules.specs.Capacities.{largestSortOrderId};
 ghost use Rattle.rules.specs.Register.{Terms, State};
 ghost use Rattle.rules.specs.WellFormed.{orderBelow, ordersFormed, updateFormed};
-ghost use Rattle.rules.specs.SchemaUpdates.{holdsSchema};
 ghost use Rattle.rules.specs.OrderUpdates.{reusedOrder, orderIds, newOrderId, setDefaultSortOrderChecks, setDefaultSortOrder};
-ghost use Rattle.rules.specs.Layout.{given, readSchemas, readSortOrder, readSortOrders, laidSortOrders};
+ghost use Rattle.rules.specs.Layout.{given, readSortOrder, readSortOrders, laidSortOrders};
 ghost use Rattle.rules.specs.Kinds.{isTidyUpdate, readKind, ofKind, withSortOrdersPart, withSortOrderId, addSortOrderKind, setDefaultSortOrderKind};
-ghost use Rattle.tables.specs.Laid.{LaidSchemas, LaidOrder, LaidOrders};
+ghost use Rattle.tables.specs.Laid.{LaidSchema, LaidOrder, LaidOrders};
 ghost use Rattle.builder.specs.Pieces.{laidBuilder};
 ghost use Rattle.builder.specs.Answers.{Answers, Decides};
 ghost use Rattle.builder.specs.Added.{Numbered};
@@ -28,7 +27,7 @@ use records::replies::ACCEPTED;
 use records::replies::FIELD_NOT_IN_SCHEMA;
 use records::replies::IDS_EXHAUSTED;
 use records::replies::TABLE_FULL;
-use records::schema::Schemas;
+use records::schema::Schema;
 use records::sort_order::SortOrder;
 use records::sort_order::SortOrders;
 use records::update::TableUpdate;
@@ -93,18 +92,12 @@ pub struct OrderAdded {
     pub builder: TableMetadataBuilder,
 }
 
-fn order_addition(
-    b: TableMetadataBuilder,
-    t: SortOrders,
-    schemas: Schemas,
-    o: SortOrder,
-) -> OrderAdded
+fn order_addition(b: TableMetadataBuilder, t: SortOrders, s: Schema, o: SortOrder) -> OrderAdded
     requires { ⌜ LaidOrders t ⌝ }
     requires { ⌜ ordersFormed (readSortOrders t) ≡ true ⌝ }
-    requires { ⌜ LaidSchemas schemas ⌝ }
-    requires { ⌜ holdsSchema (readSchemas schemas) (b .fields .«current_schema_id» .0) ≡ true ⌝ }
+    requires { ⌜ LaidSchema s ⌝ }
     requires { ⌜ LaidOrder o ⌝ }
-    ensures { λ r. ⌜ OrderGrown b t schemas o r ⌝ }
+    ensures { λ r. ⌜ OrderGrown b t s o r ⌝ }
 {
     let n = t.count;
     let x = reuse_or_create_new_sort_id(t, o, b.has_order, b.last_added_order_id);
@@ -125,8 +118,6 @@ fn order_addition(
             builder: c,
         };
     }
-    let f = b.fields;
-    let s = tables::schemas::get(schemas, f.current_schema_id);
     let unfit = is_unfit(o, s);
     let later = choose(n >= SORT_ORDERS, TABLE_FULL, ACCEPTED);
     let rest = choose(unfit, FIELD_NOT_IN_SCHEMA, later);
@@ -176,23 +167,17 @@ fn order_choice(b: TableMetadataBuilder, t: SortOrders, id: SortOrderId) -> Orde
 
 // ---- the updates of a list
 
-pub fn add_sort_order(
-    b: TableMetadataBuilder,
-    schemas: Schemas,
-    t: SortOrders,
-    u: TableUpdate,
-) -> Decision
-    requires { ⌜ LaidSchemas schemas ⌝ }
-    requires { ⌜ holdsSchema (readSchemas schemas) (b .fields .«current_schema_id» .0) ≡ true ⌝ }
+pub fn add_sort_order(b: TableMetadataBuilder, s: Schema, t: SortOrders, u: TableUpdate) -> Decision
+    requires { ⌜ LaidSchema s ⌝ }
     requires { ⌜ LaidOrders t ⌝ }
     requires { ⌜ ordersFormed (readSortOrders t) ≡ true ⌝ }
     requires { ⌜ isTidyUpdate u ≡ true ⌝ }
     requires { ⌜ updateFormed (readKind u) ≡ true ⌝ }
     requires { ⌜ u .kind ≡ addSortOrderKind ⌝ }
-    ensures { λ r. ⌜ OrderDecided b schemas t u r ⌝ }
+    ensures { λ r. ⌜ OrderDecided b s t u r ⌝ }
 {
     let mut part = u.sort_orders;
-    let x = order_addition(b, t, schemas, part.added);
+    let x = order_addition(b, t, s, part.added);
     let y = x.order;
     let c = x.builder;
     part.added = y;

@@ -82,11 +82,6 @@ pub fn say_name(output: &mut Output, end: &mut usize, slots: &[u8], len: usize) 
     say_left_out(output, end, len, slots.len());
 }
 
-pub fn say_file_name(output: &mut Output, end: &mut usize, name: records::text::Text) {
-    let bytes = name.bytes;
-    say_name(output, end, &bytes, name.len);
-}
-
 pub fn say_text(output: &mut Output, end: &mut usize, text: Text) {
     let bytes = text.bytes;
     let slots: &[u8] = &bytes;

@@ -75,24 +75,36 @@ fn say_card(output: &mut Output, end: &mut usize, card: Card) {
     say_record(output, end, record_of(card.kind), card);
 }
 
-pub fn say_update(output: &mut Output, end: &mut usize, u: TableUpdate) {
-    say_card(output, end, update(u));
+pub fn say_update(output: &mut Output, end: &mut usize, u: TableUpdate, offers: &[u8]) {
+    say_card(output, end, update(u, offers));
 }
 
 // With its place from 0.
-fn say_update_line(output: &mut Output, end: &mut usize, list: UpdateList, i: usize) {
+fn say_update_line(
+    output: &mut Output,
+    end: &mut usize,
+    list: UpdateList,
+    i: usize,
+    offers: &[u8],
+) {
     say_part(output, end, b"    %0: ", 0, 0, counted(i, 0));
-    say_card(output, end, update_at(list, i));
+    say_card(output, end, update_at(list, i, offers));
     say(output, end, b"\n");
 }
 
-pub fn say_updates(output: &mut Output, end: &mut usize, heading: &[u8], list: UpdateList) {
+pub fn say_updates(
+    output: &mut Output,
+    end: &mut usize,
+    heading: &[u8],
+    list: UpdateList,
+    offers: &[u8],
+) {
     let count = list.count;
     say_heading(output, end, heading, count);
     let n = with_slots(count, UPDATES);
     let mut i = 0;
     while i < n {
-        say_update_line(output, end, list, i);
+        say_update_line(output, end, list, i, offers);
         i += 1;
     }
     say_end(output, end, count, UPDATES);

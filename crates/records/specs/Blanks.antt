@@ -4,7 +4,7 @@ use lib.IntN.{pos}
 use lib.ListN.{replicate}
 use Rattle.records.specs.declared.counters.SnapshotId.{SnapshotId}
 use Rattle.records.specs.declared.counters.SchemaId.{SchemaId}
-use Rattle.records.specs.declared.text.RefName.{RefName}
+use Rattle.records.specs.declared.text.Name.{Name}
 use Rattle.records.specs.declared.text.Text.{Text}
 use Rattle.records.specs.declared.snapshot.Snapshot.{Snapshot}
 use Rattle.records.specs.declared.snapshot.Snapshots.{Snapshots}
@@ -17,6 +17,7 @@ use Rattle.records.specs.declared.reference.Refs.{Refs}
 use Rattle.records.specs.declared.schema.SchemaField.{SchemaField}
 use Rattle.records.specs.declared.schema.Schema.{Schema}
 use Rattle.records.specs.declared.schema.Schemas.{Schemas}
+use Rattle.records.specs.declared.schema.SchemaOffer.{SchemaOffer}
 use Rattle.records.specs.declared.schema.SchemaIds.{SchemaIds}
 use Rattle.records.specs.declared.«sort_order».SortField.{SortField}
 use Rattle.records.specs.declared.«sort_order».SortOrder.{SortOrder}
@@ -37,8 +38,8 @@ use Rattle.records.specs.declared.update.UpdateList.{UpdateList}
 
 -- ---- texts
 
-abbrev pub noRefName : RefName
-noRefName = record { bytes = replicate 32 0; len = 0 }
+abbrev pub noName : Name
+noName = record { bytes = replicate 32 0; len = 0 }
 
 abbrev pub noText : Text
 noText = record { bytes = replicate 96 0; len = 0 }
@@ -87,7 +88,7 @@ noReference = record {
 }
 
 abbrev pub noRef : NamedRef
-noRef = record { name = noRefName; reference = noReference }
+noRef = record { name = noName; reference = noReference }
 
 unfoldable pub noRefs : Refs
 noRefs = record { items = replicate 16 noRef; count = 0 }
@@ -105,6 +106,9 @@ noSchemas = record { items = replicate 16 noSchema; count = 0 }
 
 abbrev pub noSchemaId : SchemaId
 noSchemaId = record { 0 = pos 0 }
+
+abbrev pub noSchemaOffer : SchemaOffer
+noSchemaOffer = record { «schema_id» = noSchemaId; at = 0; count = 0 }
 
 abbrev pub noSchemaIds : SchemaIds
 noSchemaIds = record { items = replicate 16 noSchemaId; count = 0 }
@@ -174,7 +178,7 @@ unfoldable pub noSnapshotsPart : SnapshotsPart
 noSnapshotsPart = record { added = noSnapshot; removed = noSnapshotIds }
 
 unfoldable pub noSchemasPart : SchemasPart
-noSchemasPart = record { added = noSchema; chosen = noSchemaId; removed = noSchemaIds }
+noSchemasPart = record { added = noSchemaOffer; chosen = noSchemaId; removed = noSchemaIds }
 
 unfoldable pub noSortOrdersPart : SortOrdersPart
 noSortOrdersPart = record { added = noSortOrder; chosen = record { 0 = pos 0 } }

@@ -19,9 +19,15 @@ pub const STATISTICS: usize = 32;
 
 pub const REMOVALS: usize = 16;
 
-pub const REF_NAME: usize = 32;
+pub const NAME: usize = 32;
 
 // A location, a file name or a path.
 pub const TEXT: usize = 96;
 
 pub const UPDATES: usize = 64;
+
+// The bytes in which a field of a schema is offered: four of its id, then 34 that are not read yet.
+pub const FIELD_BYTES: usize = 38;
+
+// Those of every field that a list can offer.
+pub const OFFERS: usize = 77824;

@@ -4,8 +4,8 @@ ghost use Rattle.records.specs.Blanks.{noFieldsPart, noSnapshotsPart, no
 use crate::counters::SchemaId;
 use crate::counters::SnapshotId;
 use crate::counters::SortOrderId;
-use crate::schema::Schema;
 use crate::schema::SchemaIds;
+use crate::schema::SchemaOffer;
 use crate::snapshot::Snapshot;
 use crate::snapshot::SnapshotIds;
 use crate::sort_order::SortOrder;
@@ -24,7 +24,7 @@ pub struct SnapshotsPart {
 }
 
 pub struct SchemasPart {
-    pub added: Schema,
+    pub added: SchemaOffer,
     pub chosen: SchemaId,
     pub removed: SchemaIds,
 }
@@ -67,7 +67,7 @@ impl SchemasPart {
     pub fn blank() -> SchemasPart
         ensures { λ r. ⌜ r ≡ noSchemasPart ⌝ }
     {
-        let added = Schema::blank();
+        let added = SchemaOffer::blank();
         let removed = SchemaIds::blank();
         SchemasPart {
             added,

@@ -5,7 +5,7 @@ use crate::capacities::REFS;
 use crate::counters::Age;
 use crate::counters::MinSnapshots;
 use crate::counters::SnapshotId;
-use crate::text::RefName;
+use crate::text::Name;
 
 // The kind is 1 for a branch and 2 for a tag. A number behind a flag that is not set is 0.
 pub struct SnapshotReference {
@@ -20,7 +20,7 @@ pub struct SnapshotReference {
 }
 
 pub struct NamedRef {
-    pub name: RefName,
+    pub name: Name,
     pub reference: SnapshotReference,
 }
 
@@ -51,7 +51,7 @@ impl NamedRef {
     pub fn blank() -> NamedRef
         ensures { λ r. ⌜ r ≡ noRef ⌝ }
     {
-        let name = RefName::blank();
+        let name = Name::blank();
         let reference = SnapshotReference::blank();
         NamedRef { name, reference }
     }

@@ -1,6 +1,6 @@
 // Schemas: flat lists of optional longs. A field is a record, so that it can gain a name and a type.
 ghost use mathlib.Core.Path.{_≡_};
-ghost use Rattle.records.specs.Blanks.{noSchemaField, noSchema, noSchemas, noSchemaIds};
+ghost use Rattle.records.specs.Blanks.{noSchemaField, noSchema, noSchemas, noSchemaOffer, noSchemaIds};
 use crate::capacities::REMOVALS;
 use crate::capacities::SCHEMA_FIELDS;
 use crate::capacities::SCHEMAS;
@@ -20,6 +20,13 @@ pub struct Schema {
 // Ascending by id.
 pub struct Schemas {
     pub items: [Schema; SCHEMAS],
+    pub count: usize,
+}
+
+// A schema as an update offers it: where its fields stand among the bytes that are lent to the run, and how many they are.
+pub struct SchemaOffer {
+    pub schema_id: SchemaId,
+    pub at: usize,
     pub count: usize,
 }
 
@@ -58,6 +65,18 @@ impl Schemas {
         let none = Schema::blank();
         let items = [none; SCHEMAS];
         Schemas { items, count: 0 }
+    }
+}
+
+impl SchemaOffer {
+    pub fn blank() -> SchemaOffer
+        ensures { λ r. ⌜ r ≡ noSchemaOffer ⌝ }
+    {
+        SchemaOffer {
+            schema_id: SchemaId(0),
+            at: 0,
+            count: 0,
+        }
     }
 }
 

@@ -1,11 +1,11 @@
 // Names, locations and paths: bytes and how many of them count. The rest are 0.
 ghost use mathlib.Core.Path.{_≡_};
-ghost use Rattle.records.specs.Blanks.{noRefName, noText};
-use crate::capacities::REF_NAME;
+ghost use Rattle.records.specs.Blanks.{noName, noText};
+use crate::capacities::NAME;
 use crate::capacities::TEXT;
 
-pub struct RefName {
-    pub bytes: [u8; REF_NAME],
+pub struct Name {
+    pub bytes: [u8; NAME],
     pub len: usize,
 }
 
@@ -15,12 +15,12 @@ pub struct Text {
     pub len: usize,
 }
 
-impl RefName {
-    pub fn blank() -> RefName
-        ensures { λ r. ⌜ r ≡ noRefName ⌝ }
+impl Name {
+    pub fn blank() -> Name
+        ensures { λ r. ⌜ r ≡ noName ⌝ }
     {
-        RefName {
-            bytes: [0; REF_NAME],
+        Name {
+            bytes: [0; NAME],
             len: 0,
         }
     }

@@ -7,7 +7,7 @@ use borrow.Table.Steps.{cases}
 use lib.Dec.{eqb}
 use Rattle.records.specs.declared.reference.SnapshotReference.{SnapshotReference}
 use Rattle.records.specs.declared.reference.NamedRef.{NamedRef}
-use Rattle.records.specs.declared.text.RefName.{RefName}
+use Rattle.records.specs.declared.text.Name.{Name}
 use Rattle.records.specs.declared.update.TableUpdate.{TableUpdate}
 use Rattle.rules.specs.Register as plain
 use Rattle.rules.specs.RefUpdates.{refNamed, committed}
@@ -36,6 +36,6 @@ module _ (u : TableUpdate) (held : Bool) (old : NamedRef) where
       (λ f. rw f (cases held (λ t. rw t (ap (pointed (u .snapshots .added .«snapshot_id»)) (kept t))) (λ n. rw n)))
 
 -- a name and a ref that are laid out make a named ref that is
-pub laid-ref : (name : RefName) (r : SnapshotReference) → LaidName name → laidReference (readReference r) ≡ r → LaidRef (record { name = name; reference = r })
+pub laid-ref : (name : Name) (r : SnapshotReference) → LaidName name → laidReference (readReference r) ≡ r → LaidRef (record { name = name; reference = r })
 unfolding laidRef
 laid-ref name r n e = record { back = λ i. record { name = n .back i; reference = e i }; fits = n .fits }

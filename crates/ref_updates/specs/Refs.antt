@@ -19,7 +19,7 @@ use Rattle.rules.specs.Register as plain
 use Rattle.rules.specs.Register.{Terms, State, SetRef}
 use Rattle.rules.specs.WellFormed.{branch, holdsSnapshot}
 use Rattle.rules.specs.RefUpdates.{hasName, refNamed, isHeldRef, setRefChecks, ownAfter, setRef, committed}
-use Rattle.rules.specs.Layout.{readRefName, readReference, laidReference, readRefs, laidRefs}
+use Rattle.rules.specs.Layout.{readName, readReference, laidReference, readRefs, laidRefs}
 use Rattle.rules.specs.Kinds.{setRefKind, laidUpdate}
 use Rattle.tables.specs.Laid.{LaidRef}
 use Rattle.builder.specs.declared.builder.TableMetadataBuilder.{TableMetadataBuilder}
@@ -64,12 +64,12 @@ wantedRef u held old =
 
 -- the same, read: the update's own ref, or the rule's for a branch commit
 abbrev pub askedRef : TableUpdate → List plain.NamedRef → plain.Reference
-askedRef u l = cond (eqb (u .kind) setRefKind) (readReference (u .refs .reference)) (committed (readRefName (u .refs .name)) (u .snapshots .added .«snapshot_id» .0) l)
+askedRef u l = cond (eqb (u .kind) setRefKind) (readReference (u .refs .reference)) (committed (readName (u .refs .name)) (u .snapshots .added .«snapshot_id» .0) l)
 
 -- what an update asks of the refs of a table
 pub record RefAsked (t : Refs) (u : TableUpdate) (r : AskedRef) : Type 0 where
-  pub same : r .same ≡ isHeldRef (readRefName (u .refs .name)) (askedRef u (readRefs t)) (readRefs t)
-  pub named : r .named ≡ isSome (refNamed (readRefName (u .refs .name)) (readRefs t))
+  pub same : r .same ≡ isHeldRef (readName (u .refs .name)) (askedRef u (readRefs t)) (readRefs t)
+  pub named : r .named ≡ isSome (refNamed (readName (u .refs .name)) (readRefs t))
   pub read : readReference (r .reference) ≡ askedRef u (readRefs t)
   pub laid : laidReference (readReference (r .reference)) ≡ r .reference
 
@@ -93,8 +93,8 @@ pub record RefSet (terms : Terms) (st : State) (name : List ℕ) (w : plain.Refe
 -- a ref that can be put into a table: laid out, and with room for it if its name is new
 pub record NewRef (t : Refs) (e : NamedRef) : Type 0 where
   pub laid : LaidRef e
-  pub room : any (hasName (readRefName (e .name))) (readRefs t) ≡ false → t .count < refRoom
+  pub room : any (hasName (readName (e .name))) (readRefs t) ≡ false → t .count < refRoom
 
 pub record RefDecided (b : TableMetadataBuilder) (t : Refs) (held isAdded : Bool) (time : Time) (entries : ℕ) (clock : Time) (u : TableUpdate) (d : Decision) : Type 0 where
-  pub answers : (terms : Terms) (st : State) → Faced terms st (askedRef u (st .metadata .refs)) b t held isAdded time entries clock → RefSet terms st (readRefName (u .refs .name)) (askedRef u (st .metadata .refs)) d
+  pub answers : (terms : Terms) (st : State) → Faced terms st (askedRef u (st .metadata .refs)) b t held isAdded time entries clock → RefSet terms st (readName (u .refs .name)) (askedRef u (st .metadata .refs)) d
   pub new : d .grows ≡ true → NewRef t (d .entry .refs)

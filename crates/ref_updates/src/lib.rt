@@ -9,13 +9,13 @@ ghost use mathlib.Core.Option.{Option, none, some};
 ghost use lib.IntN.{ℤ};
 ghost use lib.ListN.{length};
 ghost use Rattle.rules.specs.Words.{ascending, put, firstOf};
-ghost use Rattle.rules.specs.Capacities.{refRoom, snapshotLogRoom, refNameRoom};
+ghost use Rattle.rules.specs.Capacities.{refRoom, snapshotLogRoom, nameRoom};
 ghost use Rattle.rules.specs.Replies.{snapshotNotHeld, tableFull};
 ghost use Rattle.rules.specs.Register as plain;
 ghost use Rattle.rules.specs.Register.{Terms, State, SetRef, withCurrent, withOwn, onFields};
 ghost use Rattle.rules.specs.WellFormed.{refBelow};
 ghost use Rattle.rules.specs.RefUpdates.{isTag, asMain};
-ghost use Rattle.rules.specs.Layout.{readRefName, readReference, laidReference, readRef, readRefs, laidRefs};
+ghost use Rattle.rules.specs.Layout.{readName, readReference, laidReference, readRef, readRefs, laidRefs};
 ghost use Rattle.rules.specs.Kinds.{setBranchSnapshotKind, setRefKind, removeRefKind, isTidyUpdate, laidUpdate};
 ghost use Rattle.tables.specs.Laid.{LaidName, LaidRefs};
 ghost use Rattle.builder.specs.Pieces.{laidBuilder};
@@ -40,7 +40,7 @@ use records::replies::ACCEPTED;
 use records::replies::SNAPSHOT_NOT_HELD;
 use records::replies::TABLE_FULL;
 use records::snapshot::SnapshotLogEntry;
-use records::text::RefName;
+use records::text::Name;
 use records::update::SET_BRANCH_SNAPSHOT;
 use records::update::SET_REF;
 use records::update::TableUpdate;
@@ -67,10 +67,10 @@ fn as_main(b: TableMetadataBuilder, clock: Time, id: SnapshotId) -> TableMetadat
     c
 }
 
-fn is_tag(t: Refs, name: RefName) -> bool
+fn is_tag(t: Refs, name: Name) -> bool
     requires { ⌜ LaidRefs t ⌝ }
     requires { ⌜ LaidName name ⌝ }
-    ensures { λ r. ⌜ r ≡ isTag (readRefName name) (readRefs t) ⌝ }
+    ensures { λ r. ⌜ r ≡ isTag (readName name) (readRefs t) ⌝ }
 {
     let n = t.count;
     let i = tables::refs::find(t, name);
@@ -117,7 +117,7 @@ fn set_ref_number(held: bool, is_named: bool, named: usize, main: bool, entries:
 
 // The entry of a ref that is set, by itself or by a branch commit.
 fn setting(u: TableUpdate, r: SnapshotReference) -> TableUpdate
-    ensures { λ e. ⌜ ((eqb (u .kind) setBranchSnapshotKind || eqb (u .kind) setRefKind) ≡ true → isTidyUpdate u ≡ true → length (readRefName (u .refs .name)) ≤ refNameRoom → laidReference (readReference r) ≡ r → e ≡ laidUpdate (SetRef (readRefName (u .refs .name)) (readReference r))) ⌝ }
+    ensures { λ e. ⌜ ((eqb (u .kind) setBranchSnapshotKind || eqb (u .kind) setRefKind) ≡ true → isTidyUpdate u ≡ true → length (readName (u .refs .name)) ≤ nameRoom → laidReference (readReference r) ≡ r → e ≡ laidUpdate (SetRef (readName (u .refs .name)) (readReference r))) ⌝ }
 {
     let mut e = u;
     let none = SnapshotsPart::blank();
@@ -195,7 +195,7 @@ fn set_ref_builder(
 pub fn commits_on_tag(t: Refs, u: TableUpdate) -> bool
     requires { ⌜ LaidRefs t ⌝ }
     requires { ⌜ (u .kind ≡ setBranchSnapshotKind → LaidName (u .refs .name)) ⌝ }
-    ensures { λ r. ⌜ r ≡ (eqb (u .kind) setBranchSnapshotKind && isTag (readRefName (u .refs .name)) (readRefs t)) ⌝ }
+    ensures { λ r. ⌜ r ≡ (eqb (u .kind) setBranchSnapshotKind && isTag (readName (u .refs .name)) (readRefs t)) ⌝ }
 {
     let k = u.kind;
     let name = u.refs.name;

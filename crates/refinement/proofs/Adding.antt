@@ -17,7 +17,7 @@ use Rattle.rules.specs.Replies.{commitOnTag}
 use Rattle.rules.specs.Register as plain
 use Rattle.rules.specs.Register.{Update, State}
 use Rattle.rules.specs.Register.Update.{AddSnapshot, SetBranchSnapshot}
-use Rattle.rules.specs.WellFormed.{updateFormed, snapshotFormed, refNameFormed, snapshotBelow, holdsSnapshot}
+use Rattle.rules.specs.WellFormed.{updateFormed, snapshotFormed, nameFormed, snapshotBelow, holdsSnapshot}
 use Rattle.rules.specs.SnapshotUpdates.{addSnapshotChecks, addSnapshot}
 use Rattle.rules.specs.RefUpdates.{isTag, committed, setRefChecks, setBranchSnapshotChecks, setBranchSnapshot}
 use Rattle.rules.specs.Updates.{checks, effect}
@@ -153,7 +153,7 @@ module _ {g : Given} {i : ℕ} {p : Pieces} (S : Standing g i p) (v : Update) (a
       midway {id = id} a b c =
           let two : length (S .state .log) + 2 ≤ 64 = rw w at (fits S v at) in
           let M : Moves 1 (S .state) (addSnapshot x (S .state)) = add-moves x (S .state) in
-          let F : snapshotFormed x ≡ true = and-right (refNameFormed (nameAt g i)) _ (rw w at e) in
+          let F : snapshotFormed x ≡ true = and-right (nameFormed (nameAt g i)) _ (rw w at e) in
           let K = S .stands .since in
           record {
             state = addSnapshot x (S .state);

@@ -4,6 +4,7 @@ use native.Mathlib.Omega.{arith}
 use mathlib.Core.Path.{_≡_, refl, sym, ap, _∙_}
 use mathlib.Core.Bool.{true, false}
 use mathlib.Core.List.{List, [], _∷_}
+use mathlib.Core.Option.{some}
 use lib.Dec.{leb, ltb}
 use lib.IntN.{ℤ, pos}
 use lib.ListN.{length, replicate}
@@ -12,16 +13,17 @@ use Rattle.records.specs.Blanks.{noUpdate}
 use Rattle.records.specs.declared.counters.Time.{Time}
 use Rattle.records.specs.declared.metadata.TableMetadata.{TableMetadata}
 use Rattle.records.specs.declared.update.TableUpdate.{TableUpdate}
-use Rattle.rules.specs.Words.{any, ascending}
-use Rattle.rules.specs.Capacities.{snapshotRoom, refRoom, snapshotLogRoom, schemaRoom, sortOrderRoom, statisticsRoom, refNameRoom, schemaFieldRoom, sortFieldRoom, locationRoom}
+use Rattle.records.specs.declared.schema.Schema.{Schema}
+use Rattle.rules.specs.Words.{any, first, ascending}
+use Rattle.rules.specs.Capacities.{snapshotRoom, refRoom, snapshotLogRoom, schemaRoom, sortOrderRoom, statisticsRoom, nameRoom, schemaFieldRoom, sortFieldRoom, locationRoom}
 use Rattle.rules.specs.Register as plain
 use Rattle.rules.specs.Register.{StatisticsTable, State, statisticsOf}
 use Rattle.rules.specs.Register.StatisticsTable.{Statistics, PartitionStatistics}
-use Rattle.rules.specs.WellFormed.{snapshotFormed, refFormed, schemaFormed, orderFormed, statisticsFileFormed, refNameFormed, snapshotBelow, refBelow, schemaBelow, orderBelow, statisticsBelow, snapshotsFormed, refsFormed, snapshotLogFormed, schemasFormed, ordersFormed, statisticsFormed, fieldsFormed, offeredOrderFormed, versionFormed, locationFormed, hasSchema, hasOrder, currentSchemaHeld, defaultOrderHeld}
+use Rattle.rules.specs.WellFormed.{snapshotFormed, refFormed, schemaFormed, orderFormed, statisticsFileFormed, nameFormed, snapshotBelow, refBelow, schemaBelow, orderBelow, statisticsBelow, snapshotsFormed, refsFormed, snapshotLogFormed, schemasFormed, ordersFormed, statisticsFormed, fieldsFormed, offeredOrderFormed, versionFormed, locationFormed, hasSchema, hasOrder, currentSchemaHeld, defaultOrderHeld}
 use lib.Signed.{nonNeg}
 use Rattle.rules.specs.ChangeLog.{logsMain, logsRemoval}
 use Rattle.rules.specs.Run.{started, listSum}
-use Rattle.rules.specs.Layout.{given, pad, readMetadata, readSnapshots, readRefs, readSnapshotLog, readSchemas, readSortOrders, readStatistics, laidStatistics, laidFields, readFields, laidText, laidMetadata}
+use Rattle.rules.specs.Layout.{given, pad, readMetadata, readSnapshots, readRefs, readSnapshotLog, readSchema, readSchemas, readSortOrders, readStatistics, laidStatistics, laidFields, readFields, laidText, laidMetadata}
 use Rattle.rules.proofs.Sound.Metadata.{formed-sound, statistics-formed}
 use Rattle.rules.proofs.Slots.Relaid.{relaid}
 use Rattle.rules.proofs.Slots.Reread.{reread-snapshots, reread-refs, reread-snapshot-log, reread-schemas, reread-sort-orders, reread-statistics, reread-fields}
@@ -29,7 +31,7 @@ use Rattle.rules.proofs.Tables.{table-parts, log-fits, all-then}
 use Rattle.rules.proofs.Checks.{and-left, parts}
 use Rattle.tables.specs.Laid.{LaidSnapshots, LaidRefs, LaidSnapshotLog, LaidSchemas, LaidOrders, LaidStatistics}
 use Rattle.builder.specs.declared.builder.TableMetadataBuilder.{TableMetadataBuilder}
-use Rattle.builder.specs.Pieces.{fresh, laidBuilder, idsOf, lastTime}
+use Rattle.builder.specs.Pieces.{fresh, laidBuilder, idsOf, lastTime, IsCurrent}
 use Rattle.close.specs.Facts.{additions}
 use Rattle.start.specs.Start.{startNumber}
 use Rattle.start.proofs.Started.{Starts, starts, file-short, sum-counts}
@@ -137,7 +139,7 @@ module _ {g : Given} {st : State} {p : Pieces} (E : Represents g st p) where
       record {
         back = rw read-refs (sym (E .tables .refs));
         fits = rw read-refs refs-fit;
-        names = rw read-refs (all-then refFormed (λ (x : plain.NamedRef). leb (length (x .name)) refNameRoom) (λ x e. and-left (refNameFormed (x .name)) _ e) (st .metadata .refs) (table-parts refRoom refFormed refBelow (st .metadata .refs) (E .sound .refs) .1));
+        names = rw read-refs (all-then refFormed (λ (x : plain.NamedRef). leb (length (x .name)) nameRoom) (λ x e. and-left (nameFormed (x .name)) _ e) (st .metadata .refs) (table-parts refRoom refFormed refBelow (st .metadata .refs) (E .sound .refs) .1));
       }
 
   pub laid-log : LaidSnapshotLog (p .held .log)
@@ -199,6 +201,10 @@ module _ {g : Given} {st : State} {p : Pieces} (E : Represents g st p) where
   pub schema-held : any (hasSchema (p .held .builder .fields .«current_schema_id» .0)) (readSchemas (p .held .ownTables .schemas)) ≡ true
   unfolding currentSchemaHeld
   schema-held = rw (read-schemas, ap (λ (x : plain.SingleFields). x .currentSchema) read-fields) (E .sound .schemaHeld)
+
+  -- what is held under the id of the builder is the current schema
+  pub current-is : (s : Schema) → first (hasSchema (p .held .builder .fields .«current_schema_id» .0)) (readSchemas (p .held .ownTables .schemas)) ≡ some (readSchema s) → IsCurrent (st .metadata) s
+  current-is s e = rw (read-schemas, ap (λ (x : plain.SingleFields). x .currentSchema) read-fields) at e
 
   pub order-held : any (hasOrder (p .held .builder .fields .«default_sort_order_id» .0)) (readSortOrders (p .held .ownTables .orders)) ≡ true
   unfolding defaultOrderHeld

@@ -13,6 +13,7 @@ use borrow.Author.Tests.{ne-eqb, ltb-false}
 use Rattle.records.specs.declared.metadata.MetadataLog.{MetadataLog}
 use Rattle.records.specs.declared.metadata.SingleFields.{SingleFields}
 use Rattle.records.specs.declared.counters.Time.{Time}
+use Rattle.records.specs.declared.schema.Schema.{Schema}
 use Rattle.records.specs.declared.snapshot.Snapshots.{Snapshots}
 use Rattle.records.specs.declared.run.Answer.{Answer}
 use Rattle.rules.specs.Words.{ascending, firstOf, orElse, Check}
@@ -32,7 +33,7 @@ use Rattle.rules.proofs.Slots.Reread.{reread-fields}
 use Rattle.rules.proofs.Tables.{log-fits}
 use Rattle.rules.specs.Register as plain
 use Rattle.builder.specs.declared.builder.TableMetadataBuilder.{TableMetadataBuilder}
-use Rattle.builder.specs.Pieces.{laidBuilder, idsOf}
+use Rattle.builder.specs.Pieces.{laidBuilder, idsOf, IsCurrent}
 use Rattle.builder.proofs.Positions.{ids-ascend}
 use Rattle.builder.proofs.State.{its-own}
 use Rattle.tables.specs.Laid.{LaidMetadataLog}
@@ -44,7 +45,7 @@ use Rattle.close.specs.Answers.{HistoryOf, Handed, joining}
 use Rattle.close.proofs.Join.{Filed, gone-within, stays, expires, stays-length}
 use Rattle.refinement.specs.Standing.{Given, Pieces, Represents, termsOf}
 use Rattle.refinement.proofs.Slots.{pad-length, pad-front, collect-length}
-use Rattle.refinement.proofs.Beginning.{read-fields, read-refs, read-log, read-schemas, read-orders, read-snapshots, snapshots-fit, snapshots-ascend}
+use Rattle.refinement.proofs.Beginning.{read-fields, read-refs, read-log, read-orders, read-snapshots, snapshots-fit, snapshots-ascend}
 
 pub limit-least : (text : List ℕ) → 1 ≤ limitOf text
 unfolding limitOf
@@ -117,8 +118,8 @@ module _ {g : Given} {st : State} {p : Pieces} (E : Represents g st p) where
         removes = E .logs .removal;
       }
 
-  pub handed : Handed (st .metadata) (p .held .builder .fields) (p .held .refs) (p .held .ownTables .schemas) (p .held .ownTables .orders)
-  handed = record { single = read-fields E; named = read-refs E; columns = read-schemas E; sorts = read-orders E }
+  pub handed : (s : Schema) → IsCurrent (st .metadata) s → Handed (st .metadata) (p .held .builder .fields) (p .held .refs) s (p .held .ownTables .orders)
+  handed s c = record { single = read-fields E; named = read-refs E; current = c; sorts = read-orders E }
 
   pub files-laid : LaidMetadataLog (g .metadata .«metadata_log»)
   unfolding metadataLogFormed
@@ -131,9 +132,9 @@ module _ {g : Given} {st : State} {p : Pieces} (E : Represents g st p) where
   files-fit = within (tidy-metadata-log files-laid)
 
   -- the metadata log, under the limit that is given, with so many gone
-  module _ {limit gone : ℕ} (e : limit ≡ limitOf (g .text)) (k : gone ≡ cond (g .terms .«has_file») (g .metadata .«metadata_log» .count + 1) (g .metadata .«metadata_log» .count) - limit) where
+  module _ {limit gone : ℕ} (e : limit ≡ limitOf (g .lent .text)) (k : gone ≡ cond (g .terms .«has_file») (g .metadata .«metadata_log» .count + 1) (g .metadata .«metadata_log» .count) - limit) where
     filed : Filed (termsOf g) (st .metadata) (g .metadata .«metadata_log») (g .terms) (g .metadata .fields .«last_updated_ms») limit
-    filed = record { laid = files-laid; entries = sym (E .since .files); name = refl; time = sym (E .since .old); most = e; least = rw e (limit-least (g .text)) }
+    filed = record { laid = files-laid; entries = sym (E .since .files); name = refl; time = sym (E .since .old); most = e; least = rw e (limit-least (g .lent .text)) }
 
     pub gone-fits : gone ≤ g .metadata .«metadata_log» .count
     gone-fits = rw k (gone-within filed)

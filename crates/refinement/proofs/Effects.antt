@@ -16,6 +16,7 @@ use Rattle.rules.specs.ChangeLog.{addition, mainTarget, isSnapshotRemoval}
 use Rattle.rules.specs.SingleUpdates.{assignUuid, upgradeFormatVersion, setLocation}
 use Rattle.rules.specs.SnapshotUpdates.{addSnapshot, removeSnapshots, heldSnapshots}
 use Rattle.rules.specs.RefUpdates.{setRef, setBranchSnapshot, removeRef, isHeldRef, putRef, refNamed, committed}
+use Rattle.rules.specs.Offers.{offeredSchema}
 use Rattle.rules.specs.SchemaUpdates.{addSchema, setCurrentSchema, removeSchemas, reusedSchema, chosen}
 use Rattle.rules.specs.OrderUpdates.{addSortOrder, setDefaultSortOrder, reusedOrder}
 use Rattle.rules.specs.StatisticsUpdates.{hasFileOf, setStatistics, removeStatistics}
@@ -67,10 +68,10 @@ moves terms (RemoveRef name) st =
     by-test (Moves 1 st) (isMain name)
     (λ e. one (RemoveRef name) st _ refl refl refl)
     (λ e. by-test (Moves 1 st) (isSome (refNamed name (st .metadata .refs))) (λ f. one (RemoveRef name) st _ refl refl refl) (λ f. still 1 st))
-moves terms (AddSchema s) st =
-    by-option (Moves 1 st) (reusedSchema s (st .metadata .schemas))
+moves terms (AddSchema o) st =
+    by-option (Moves 1 st) (reusedSchema (offeredSchema (terms .offers) o) (st .metadata .schemas))
     (λ e. one (AddSchema _) st _ refl refl refl)
-    (λ id e. by-test (Moves 1 st) (someWith (eqZ id) (st .added .schema)) (λ f. still 1 st) (λ f. one (AddSchema s) st _ refl refl refl))
+    (λ id e. by-test (Moves 1 st) (someWith (eqZ id) (st .added .schema)) (λ f. still 1 st) (λ f. one (AddSchema o) st _ refl refl refl))
 moves terms (SetCurrentSchema id) st = by-test (Moves 1 st) (eqZ (chosen id (st .added .schema)) (st .metadata .fields .currentSchema)) (λ e. still 1 st) (λ e. one (SetCurrentSchema _) st _ refl refl refl)
 moves terms (RemoveSchemas ids) st = by-test (Moves 1 st) (isEmpty ids) (λ e. still 1 st) (λ e. one (RemoveSchemas _) st _ refl refl refl)
 moves terms (AddSortOrder o) st =
@@ -169,10 +170,10 @@ aside terms (RemoveRef name) st n =
     by-test (Aside 4 st) (isMain name)
     (λ e. logs-quiet (RemoveRef name) st (refs-same refl) refl (record { adds = refl; sets = refl; removes = refl }))
     (λ e. by-test (Aside 4 st) (isSome (refNamed name (st .metadata .refs))) (λ f. logs-quiet (RemoveRef name) st (refs-same refl) refl (record { adds = refl; sets = refl; removes = refl })) (λ f. rest 4 st))
-aside terms (AddSchema s) st n =
-    by-option (Aside 2 st) (reusedSchema s (st .metadata .schemas))
+aside terms (AddSchema o) st n =
+    by-option (Aside 2 st) (reusedSchema (offeredSchema (terms .offers) o) (st .metadata .schemas))
     (λ e. logs-quiet (AddSchema _) st (schemas-same refl) refl (record { adds = refl; sets = refl; removes = refl }))
-    (λ id e. by-test (Aside 2 st) (someWith (eqZ id) (st .added .schema)) (λ f. rest 2 st) (λ f. logs-quiet (AddSchema s) st (fields-same 2 refl) refl (record { adds = refl; sets = refl; removes = refl })))
+    (λ id e. by-test (Aside 2 st) (someWith (eqZ id) (st .added .schema)) (λ f. rest 2 st) (λ f. logs-quiet (AddSchema o) st (fields-same 2 refl) refl (record { adds = refl; sets = refl; removes = refl })))
 aside terms (SetCurrentSchema id) st n = by-test (Aside 2 st) (eqZ (chosen id (st .added .schema)) (st .metadata .fields .currentSchema)) (λ e. rest 2 st) (λ e. logs-quiet (SetCurrentSchema _) st (fields-same 2 refl) refl (record { adds = refl; sets = refl; removes = refl }))
 aside terms (RemoveSchemas ids) st n = by-test (Aside 2 st) (isEmpty ids) (λ e. rest 2 st) (λ e. logs-quiet (RemoveSchemas _) st (schemas-same refl) refl (record { adds = refl; sets = refl; removes = refl }))
 aside terms (AddSortOrder o) st n =

@@ -60,7 +60,7 @@ module _ {g : Given} {i : ℕ} {p : Pieces} (S : Standing g i p) (v : Update) (a
   stops {n} e z = S .reached ∙ rw (at, e, ne-eqb n 0 z)
 
   refusal : {n : ℕ} → updateNumber (termsOf g) v (S .state) ≡ n → (n ≡ 0 → ⊥) → RefusedWith g n i
-  refusal e z = sym (started-answer (g .metadata) (g .updates) (g .terms) (g .text) (S .starts) ∙ rw (stops e z))
+  refusal e z = sym (started-answer (g .metadata) (g .updates) (g .terms) (g .lent) (S .starts) ∙ rw (stops e z))
 
   -- 3
   pub not-formed-refused : updateFormed v ≡ false → RefusedWith g 3 i
@@ -80,4 +80,4 @@ module _ {g : Given} {i : ℕ} {p : Pieces} (S : Standing g i p) (v : Update) (a
 
 pub ends : {g : Given} {i : ℕ} {p : Pieces} (S : Standing g i p) → g .updates .count ≤ i → laidOutcome (g .metadata) (close (termsOf g) (g .updates .count) (S .state .log) (S .state)) ≡ answerOf g
 unfolding runFrom
-ends {g} {i} S q = sym (started-answer (g .metadata) (g .updates) (g .terms) (g .text) (S .starts) ∙ rw (S .reached, all-read (g .updates) i q, read-length (g .updates)))
+ends {g} {i} S q = sym (started-answer (g .metadata) (g .updates) (g .terms) (g .lent) (S .starts) ∙ rw (S .reached, all-read (g .updates) i q, read-length (g .updates)))

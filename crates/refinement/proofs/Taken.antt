@@ -4,9 +4,9 @@ use mathlib.Core.Bool.{true}
 use lib.ListN.{length}
 use borrow.Author.Tests.{leb-true}
 use Rattle.records.specs.declared.update.TableUpdate.{TableUpdate}
-use Rattle.rules.specs.Capacities.{refNameRoom}
-use Rattle.rules.specs.WellFormed.{updateFormed, refNameFormed}
-use Rattle.rules.specs.Layout.{readRefName, readSnapshot, laidSnapshot, readReference, laidReference}
+use Rattle.rules.specs.Capacities.{nameRoom}
+use Rattle.rules.specs.WellFormed.{updateFormed, nameFormed}
+use Rattle.rules.specs.Layout.{readName, readSnapshot, laidSnapshot, readReference, laidReference}
 use Rattle.rules.specs.Kinds.{readUpdate, setBranchSnapshotKind, removeSnapshotsKind, setRefKind, removeRefKind}
 use Rattle.rules.proofs.Checks.{and-left}
 use Rattle.rules.proofs.Slots.Relaid.{back-ref-name, back-snapshot, back-reference}
@@ -27,16 +27,16 @@ module _ (u : TableUpdate) (f : updateFormed (readUpdate u) ≡ true) where
   asked-laid k = given-snapshot-ids u (formed-tidy u f) (rw (read-remove-snapshots u f k) at f)
 
   -- a name that fits
-  name-laid : refNameFormed (readRefName (u .refs .name)) ≡ true → LaidName (u .refs .name)
-  name-laid h = let n = leb-true (length (readRefName (u .refs .name))) refNameRoom h in record { back = back-ref-name (u .refs .name) (ref-name-tidy u (formed-tidy u f)) n; fits = n }
+  name-laid : nameFormed (readName (u .refs .name)) ≡ true → LaidName (u .refs .name)
+  name-laid h = let n = leb-true (length (readName (u .refs .name))) nameRoom h in record { back = back-ref-name (u .refs .name) (ref-name-tidy u (formed-tidy u f)) n; fits = n }
 
   pub branch-name-laid : u .kind ≡ setBranchSnapshotKind → LaidName (u .refs .name)
   unfolding updateFormed
-  branch-name-laid k = name-laid (and-left (refNameFormed (readRefName (u .refs .name))) _ (rw (read-set-branch-snapshot u f k) at f))
+  branch-name-laid k = name-laid (and-left (nameFormed (readName (u .refs .name))) _ (rw (read-set-branch-snapshot u f k) at f))
 
   pub set-name-laid : u .kind ≡ setRefKind → LaidName (u .refs .name)
   unfolding updateFormed
-  set-name-laid k = name-laid (and-left (refNameFormed (readRefName (u .refs .name))) _ (rw (read-set-ref u f k) at f))
+  set-name-laid k = name-laid (and-left (nameFormed (readName (u .refs .name))) _ (rw (read-set-ref u f k) at f))
 
   pub removed-name-laid : u .kind ≡ removeRefKind → LaidName (u .refs .name)
   unfolding updateFormed

@@ -27,7 +27,7 @@ use Rattle.rules.specs.ChangeLog.{logsMain, logsRemoval}
 use Rattle.rules.specs.Run.{weight, runFrom, started}
 use Rattle.rules.specs.Layout.{given, pad, laidSnapshots, laidRefs, laidSnapshotLog, laidSchemas, laidSortOrders, laidStatistics, readMetadata, readMetadataLog, laidMetadataLog}
 use Rattle.rules.specs.Kinds.{readUpdates, laidUpdate}
-use Rattle.rules.specs.Answer.{readTerms, answer}
+use Rattle.rules.specs.Answer.{Lent, readTerms, answer}
 use Rattle.rules.proofs.Sound.Metadata.{Sound}
 use Rattle.builder.specs.declared.builder.TableMetadataBuilder.{TableMetadataBuilder}
 use Rattle.builder.specs.declared.decision.Decision.{Decision}
@@ -41,14 +41,13 @@ pub record Given : Type 0 where
   pub metadata : TableMetadata
   pub updates : UpdateList
   pub terms : RunTerms
-  -- the limit text
-  pub text : List ℕ
+  pub lent : Lent
 
 abbrev pub termsOf : Given → Terms
-termsOf g = readTerms (g .terms) (g .text)
+termsOf g = readTerms (g .terms) (g .lent)
 
 abbrev pub answerOf : Given → Answer
-answerOf g = answer (g .metadata) (g .updates) (g .terms) (g .text)
+answerOf g = answer (g .metadata) (g .updates) (g .terms) (g .lent)
 
 -- the tables that only their own updates change: a family of updates has one of them, and no other update touches it
 pub record OwnTables : Type 0 where

@@ -5,7 +5,7 @@ use mathlib.Core.Bool.{Bool, true, false, cond}
 use mathlib.Core.List.{List, []}
 use lib.IntN.{pos}
 use lib.ListN.{length, getD}
-use Rattle.records.specs.Blanks.{noSnapshotId, noSnapshot, noReference, noSchemaId}
+use Rattle.records.specs.Blanks.{noSnapshotId, noSnapshot, noReference, noSchemaId, noSchemaOffer}
 use Rattle.records.specs.declared.text.Text.{Text}
 use Rattle.records.specs.declared.update.TableUpdate.{TableUpdate}
 use Rattle.rules.specs.Words.{firstOf}
@@ -13,7 +13,7 @@ use Rattle.rules.specs.Register.{State, Reference}
 use Rattle.rules.specs.Register.Outcome.{Refused}
 use Rattle.rules.specs.WellFormed.{updateFormed}
 use Rattle.rules.specs.RefUpdates.{setRefChecks, setRef}
-use Rattle.rules.specs.Layout.{readRefName}
+use Rattle.rules.specs.Layout.{readName}
 use Rattle.rules.specs.Kinds.{setBranchSnapshotKind, readUpdate}
 use Rattle.rules.specs.Answer.{laidOutcome}
 use Rattle.builder.specs.declared.decision.Decision.{Decision}
@@ -31,7 +31,7 @@ nothing =
       fields = record { uuid = []; «format_version» = 0; location = noBytes };
       snapshots = record { added = noSnapshot; removed = record { items = []; count = 0 } };
       refs = record { name = record { bytes = []; len = 0 }; reference = noReference };
-      schemas = record { added = record { «schema_id» = noSchemaId; items = []; count = 0 }; chosen = noSchemaId; removed = record { items = []; count = 0 } };
+      schemas = record { added = noSchemaOffer; chosen = noSchemaId; removed = record { items = []; count = 0 } };
       «sort_orders» = record { added = record { «order_id» = record { 0 = pos 0 }; items = []; count = 0 }; chosen = record { 0 = pos 0 } };
       statistics = record { file = record { «snapshot_id» = noSnapshotId; «statistics_path» = noBytes; «file_size_in_bytes» = record { 0 = pos 0 } }; removed = noSnapshotId };
     }
@@ -41,7 +41,7 @@ abbrev pub updateAt : Given → ℕ → TableUpdate
 updateAt g i = getD (g .updates .items) i nothing
 
 abbrev pub nameAt : Given → ℕ → List ℕ
-nameAt g i = readRefName (updateAt g i .refs .name)
+nameAt g i = readName (updateAt g i .refs .name)
 
 -- the run is refused with a number, at a place
 abbrev pub RefusedWith : Given → ℕ → ℕ → Type 0

@@ -1,4 +1,4 @@
-// The run: any metadata, any list of updates, any terms and limit text get an answer.
+// The run: any metadata, any list of updates, any terms, limit text and offers get an answer.
 // A refusal gives document 01's number and the place, the metadata that was given, no changes and no expired entries.
 // Document 01 decides, as the crate `rules` writes it in Run and Answer.
 ghost use mathlib.Core.Path.{_≡_};
@@ -78,8 +78,14 @@ fn slot(spot: usize, held: usize) -> usize
 
 // The loop decides an update, or one half of a branch commit, and in its next turn stores the decision. Entries, snapshots, their ids and the
 // snapshot log are stored in place, since a table that is handed over is copied.
-pub fn run(metadata: TableMetadata, updates: UpdateList, terms: RunTerms, text: &[u8]) -> Answer
-    ensures { λ r. ⌜ r ≡ answer metadata updates terms (now (text .entry)) ⌝ }
+pub fn run(
+    metadata: TableMetadata,
+    updates: UpdateList,
+    terms: RunTerms,
+    text: &[u8],
+    offers: &[u8],
+) -> Answer
+    ensures { λ r. ⌜ r ≡ answer metadata updates terms (record { text = now (text .entry); offers = now (offers .entry) }) ⌝ }
 {
     let none = TableUpdate::blank();
     let first = metadata.fields;
@@ -227,12 +233,14 @@ pub fn run(metadata: TableMetadata, updates: UpdateList, terms: RunTerms, text: 
             continue;
         }
         if kind <= REMOVE_SCHEMAS {
-            decision = schema_family::decide(builder, schemas, update);
-            schemas = schema_family::after(schemas, update, decision);
+            decision = schema_family::decide(builder, schemas, update, offers);
+            schemas = schema_family::after(schemas, update, decision, offers);
             continue;
         }
         if kind <= SET_DEFAULT_SORT_ORDER {
-            decision = order_family::decide(builder, schemas, orders, update);
+            let fields = builder.fields;
+            let schema = tables::schemas::get(schemas, fields.current_schema_id);
+            decision = order_family::decide(builder, schema, orders, update);
             orders = order_family::after(orders, update, decision);
             continue;
         }
@@ -261,7 +269,8 @@ pub fn run(metadata: TableMetadata, updates: UpdateList, terms: RunTerms, text: 
     let stored = metadata.metadata_log.count;
     let gone = surplus(stored, terms.has_file, most);
     let overfull = is_overfull(stored, terms.has_file, gone);
-    number = close_number(history, fields, refs, schemas, orders, overfull);
+    let schema = tables::schemas::get(schemas, fields.current_schema_id);
+    number = close_number(history, fields, refs, schema, orders, overfull);
     if number != ACCEPTED {
         return refused(metadata, number, listed);
     }

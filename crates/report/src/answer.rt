@@ -1,5 +1,6 @@
 // The answer: accepted, with this session's metadata, changes and expired metadata files; or refused, and why.
-use crate::conditions::say_removes_and_adds;
+use crate::conditions::REMOVES_AND_ADDS;
+use crate::conditions::say_condition;
 use crate::conditions::say_with_conditions;
 use faults::fault;
 use faults::start_fault;
@@ -13,12 +14,13 @@ use records::run::Answer;
 use records::run::RunTerms;
 use tokens::output::Output;
 
-fn say_accepted(output: &mut Output, end: &mut usize, answer: Answer) {
+fn say_accepted(output: &mut Output, end: &mut usize, answer: Answer, offers: &[u8]) {
     say(output, end, b"accepted\nthis session's metadata\n");
     say_with_conditions(output, end, answer.metadata);
     say(output, end, b"what changed\n");
-    say_updates(output, end, b"change log", answer.changes);
-    say_removes_and_adds(output, end, histories::removes_and_adds(answer.changes));
+    say_updates(output, end, b"change log", answer.changes, offers);
+    let both = histories::removes_and_adds(answer.changes);
+    say_condition(output, end, REMOVES_AND_ADDS, both);
     say_files(output, end, b"expired metadata files", answer.expired);
 }
 
@@ -31,12 +33,19 @@ pub fn fault_of(number: u8, metadata: TableMetadata, terms: RunTerms) -> u8 {
 }
 
 // A refused run gives back the metadata that it started from.
-pub fn say_answer(output: &mut Output, end: &mut usize, terms: RunTerms, answer: Answer) {
+// The offers are those of the run: the change log names them.
+pub fn say_answer(
+    output: &mut Output,
+    end: &mut usize,
+    terms: RunTerms,
+    answer: Answer,
+    offers: &[u8],
+) {
     if answer.number == 0 {
-        say_accepted(output, end, answer);
-        return;
+        say_accepted(output, end, answer, offers);
+    } else {
+        let found = fault_of(answer.number, answer.metadata, terms);
+        say_refusal(output, end, answer.number, answer.place, found);
+        say(output, end, b"\nthe metadata stays as it was\n");
     }
-    let found = fault_of(answer.number, answer.metadata, terms);
-    say_refusal(output, end, answer.number, answer.place, found);
-    say(output, end, b"\nthe metadata stays as it was\n");
 }

@@ -1,12 +1,11 @@
 // What a session starts from and asks: the metadata, the terms of its run, and its updates.
 use crate::conditions::say_with_conditions;
 use cards::card::Card;
+use cards::card::counted;
 use cards::card::text_of;
 use case_reader::limit_text::LimitText;
 use case_reader::run::Run;
-use plaintext::number::say_count;
 use plaintext::template::say_part;
-use plaintext::text::say;
 use plaintext::update::say_updates;
 use primitives::limit::limit;
 use records::run::RunTerms;
@@ -49,11 +48,10 @@ fn say_terms(output: &mut Output, end: &mut usize, terms: Card) {
     say_part(output, end, template, 0, 0, terms);
 }
 
-pub fn say_asked(output: &mut Output, end: &mut usize, number: usize, run: Run) {
-    say(output, end, b"run ");
-    say_count(output, end, number);
-    say(output, end, b"\nlast session's metadata\n");
+pub fn say_asked(output: &mut Output, end: &mut usize, number: usize, run: Run, offers: &[u8]) {
+    let heading = b"run %0\nlast session's metadata\n";
+    say_part(output, end, heading, 0, 0, counted(number, 0));
     say_with_conditions(output, end, run.metadata);
     say_terms(output, end, terms_card(run.terms, limit_of(run.limit)));
-    say_updates(output, end, b"updates", run.updates);
+    say_updates(output, end, b"updates", run.updates, offers);
 }

@@ -1,7 +1,6 @@
 // What a history needs to keep its answers, and rows to stay apart: said of metadata after its tables, and of a change log.
 use plaintext::metadata::say_metadata;
-use plaintext::text::say;
-use plaintext::text::say_line;
+use plaintext::text::say_between;
 use records::metadata::TableMetadata;
 use std::num::wrapping_add_usize;
 use tokens::output::Output;
@@ -14,23 +13,18 @@ const WHOLE: usize = 0;
 
 const APART: usize = 2;
 
-const REMOVES_AND_ADDS: usize = 4;
+pub const REMOVES_AND_ADDS: usize = 4;
 
-fn say_condition(output: &mut Output, end: &mut usize, condition: usize, holds: bool) {
+pub fn say_condition(output: &mut Output, end: &mut usize, condition: usize, holds: bool) {
     let conditions =
-        b"  history: the snapshot log names a snapshot that is not held, or the metadata is not well formed\n\
-        \x20 history: every snapshot that the snapshot log names is held\n\
-        \x20 row ranges: a row id is held twice or is not below the next row id, or the metadata is not well formed\n\
-        \x20 row ranges: no row id is held twice, and all are below the next row id\n\
-        \x20 history: no snapshot is both removed and added\n\
+        b"  history: the snapshot log names a snapshot that is not held, or the metadata is not well formed\n|\
+        \x20 history: every snapshot that the snapshot log names is held\n|\
+        \x20 row ranges: a row id is held twice or is not below the next row id, or the metadata is not well formed\n|\
+        \x20 row ranges: no row id is held twice, and all are below the next row id\n|\
+        \x20 history: no snapshot is both removed and added\n|\
         \x20 history: a snapshot is both removed and added\n";
-    let line = wrapping_add_usize(condition, holds as usize);
-    say_line(output, end, conditions, line);
-    say(output, end, b"\n");
-}
-
-pub fn say_removes_and_adds(output: &mut Output, end: &mut usize, both: bool) {
-    say_condition(output, end, REMOVES_AND_ADDS, both);
+    let part = wrapping_add_usize(condition, holds as usize);
+    say_between(output, end, conditions, b'|', part);
 }
 
 pub fn say_with_conditions(output: &mut Output, end: &mut usize, metadata: TableMetadata) {

@@ -101,5 +101,7 @@ pub fn run_of(step: usize) -> Run {
     let mut place = start(0);
     hold_line(&mut input, &mut place, starts, start_of(step));
     hold_line(&mut input, &mut place, asked, step);
-    read_run(RUN, &mut input, &mut place)
+    // No example offers anything, so there is no room for what is offered.
+    let mut offers = [0u8; 1];
+    read_run(RUN, &mut input, &mut place, &mut offers)
 }

@@ -5,7 +5,7 @@ use crate::example::FILES;
 use crate::example::HISTORY;
 use cards::card::Card;
 use cards::record::file;
-use plaintext::number::say_i64;
+use cards::record::log_entry;
 use plaintext::table::say_comma;
 use plaintext::table::say_none;
 use plaintext::template::say_part;
@@ -43,14 +43,12 @@ pub fn say_label(output: &mut Output, end: &mut usize, step: usize) {
     say_line(output, end, labels, step);
 }
 
+// The braces of JSON stand outside of the template, where they would be marks.
 fn say_entry(output: &mut Output, end: &mut usize, at: usize, entry: SnapshotLogEntry) {
-    if at > 0 {
-        say(output, end, b",");
-    }
-    say(output, end, b"{\"snapshot-id\":");
-    say_i64(output, end, entry.snapshot_id.0);
-    say(output, end, b",\"timestamp-ms\":");
-    say_i64(output, end, entry.timestamp_ms.0);
+    let starts = b"{\n,{\n";
+    let template = b"\"snapshot-id\":#0,\"timestamp-ms\":#1";
+    say_line(output, end, starts, (at > 0) as usize);
+    say_part(output, end, template, 0, 0, log_entry(entry));
     say(output, end, b"}");
 }
 
@@ -78,6 +76,7 @@ fn say_files(output: &mut Output, end: &mut usize, log: MetadataLog) {
     }
 }
 
+// No example offers anything.
 fn say_changes(output: &mut Output, end: &mut usize, changes: UpdateList) {
     let n = with_slots(changes.count, UPDATES);
     say_none(output, end, n);
@@ -85,7 +84,7 @@ fn say_changes(output: &mut Output, end: &mut usize, changes: UpdateList) {
     while i < n {
         let update = changes.items[i];
         say_comma(output, end, i);
-        say_update(output, end, update);
+        say_update(output, end, update, b"");
         i += 1;
     }
 }

@@ -8,6 +8,7 @@ use Rattle.rules.specs.Window.{isBefore}
 use Rattle.rules.specs.Walk.{follow, ancestors}
 use Rattle.rules.specs.WellFormed.{snapshotsFormed, refsFormed, snapshotLogFormed, metadataLogFormed, schemasFormed, ordersFormed, statisticsFormed, refsHeld, mainAgrees, currentSchemaHeld, defaultOrderHeld, fieldsFormed, metadataFormed, updateFormed}
 use Rattle.rules.specs.ChangeLog.{logsAddition, logsMain, logsRemoval}
+use Rattle.rules.specs.Offers.{offeredSchema, isTidyOffer, offerFormed}
 use Rattle.rules.specs.SingleUpdates.{assignUuid, upgradeFormatVersionChecks, upgradeFormatVersion, setLocation}
 use Rattle.rules.specs.SnapshotUpdates.{addSnapshotChecks, addSnapshot, removeSnapshots}
 use Rattle.rules.specs.RefUpdates.{setRefChecks, setRef, setBranchSnapshotChecks, setBranchSnapshot, removeRef}
@@ -25,7 +26,7 @@ use Rattle.rules.specs.Examples.{Example, replyTo, examples}
 
 -- a run, such that whoever opens this opens every definition that a run comes to
 unfoldable pub computed : Terms → Metadata → List Update → Outcome
-unfolding limitOf trimmed isBefore snapshotsFormed refsFormed snapshotLogFormed metadataLogFormed schemasFormed ordersFormed statisticsFormed refsHeld mainAgrees currentSchemaHeld defaultOrderHeld fieldsFormed metadataFormed updateFormed logsAddition logsMain logsRemoval assignUuid upgradeFormatVersionChecks upgradeFormatVersion setLocation addSnapshotChecks addSnapshot removeSnapshots setRefChecks setRef setBranchSnapshotChecks setBranchSnapshot removeRef addSchemaChecks addSchema setCurrentSchemaChecks setCurrentSchema removeSchemasChecks removeSchemas addSortOrderChecks addSortOrder setDefaultSortOrderChecks setDefaultSortOrder setStatisticsChecks setStatistics removeStatistics checks updateNumber effect isDefaultUnfit intermediates rebuilt endsElsewhere expired staying closeChecks closed listSum runFrom close startChecks run
+unfolding limitOf trimmed isBefore snapshotsFormed refsFormed snapshotLogFormed metadataLogFormed schemasFormed ordersFormed statisticsFormed refsHeld mainAgrees currentSchemaHeld defaultOrderHeld fieldsFormed metadataFormed updateFormed offeredSchema isTidyOffer offerFormed logsAddition logsMain logsRemoval assignUuid upgradeFormatVersionChecks upgradeFormatVersion setLocation addSnapshotChecks addSnapshot removeSnapshots setRefChecks setRef setBranchSnapshotChecks setBranchSnapshot removeRef addSchemaChecks addSchema setCurrentSchemaChecks setCurrentSchema removeSchemasChecks removeSchemas addSortOrderChecks addSortOrder setDefaultSortOrderChecks setDefaultSortOrder setStatisticsChecks setStatistics removeStatistics checks updateNumber effect isDefaultUnfit intermediates rebuilt endsElsewhere expired staying closeChecks closed listSum runFrom close startChecks run
 computed terms m us = run terms m us
 
 pub examples-hold : map (λ (e : Example). replyTo (e .asked)) examples ≡ map (λ (e : Example). e .reply) examples

@@ -17,9 +17,14 @@ use Rattle.rules.specs.Blanks.{isTidyMetadata}
 use Rattle.rules.specs.Layout.{given, readText, readMetadata, laidMetadata, laidMetadataLog}
 use Rattle.rules.specs.Kinds.{readUpdates, laidUpdates}
 
--- the limit text is lent beside the terms; an absent text and an empty one both give 100
-abbrev pub readTerms : RunTerms → List ℕ → Terms
-readTerms t limit = record { clock = t .«clock_ms» .0; tolerance = t .«tolerance_ms» .0; file = given (t .«has_file») (readText (t .file)); limit = some limit }
+-- what is lent to a run beside its terms: the limit text, and the bytes of what its updates offer
+pub record Lent : Type 0 where
+  pub text : List ℕ
+  pub offers : List ℕ
+
+-- an absent limit text and an empty one both give 100
+abbrev pub readTerms : RunTerms → Lent → Terms
+readTerms t lent = record { clock = t .«clock_ms» .0; tolerance = t .«tolerance_ms» .0; file = given (t .«has_file») (readText (t .file)); limit = some (lent .text); offers = lent .offers }
 
 -- the place of an accepted run is 0
 unfoldable pub laidOutcome : TableMetadata → Outcome → Answer
@@ -27,5 +32,5 @@ laidOutcome m (Refused number place) = record { number = number; place = place; 
 laidOutcome m (Accepted m′ log expired) = record { number = accepted; place = 0; metadata = laidMetadata m′; changes = laidUpdates log; expired = laidMetadataLog expired }
 
 -- 1 also where an unused place of the metadata is not blank
-unfoldable pub answer : TableMetadata → UpdateList → RunTerms → List ℕ → Answer
-answer m us terms limit = laidOutcome m (cond (isTidyMetadata m) (run (readTerms terms limit) (readMetadata m) (readUpdates us)) (Refused startNotFormed 0))
+unfoldable pub answer : TableMetadata → UpdateList → RunTerms → Lent → Answer
+answer m us terms lent = laidOutcome m (cond (isTidyMetadata m) (run (readTerms terms lent) (readMetadata m) (readUpdates us)) (Refused startNotFormed 0))

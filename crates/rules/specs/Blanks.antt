@@ -8,7 +8,7 @@ use lib.IntN.{ℤ, pos}
 use lib.ListN.{length, take, drop}
 use Rattle.records.specs.declared.counters.SnapshotId.{SnapshotId}
 use Rattle.records.specs.declared.counters.SchemaId.{SchemaId}
-use Rattle.records.specs.declared.text.RefName.{RefName}
+use Rattle.records.specs.declared.text.Name.{Name}
 use Rattle.records.specs.declared.text.Text.{Text}
 use Rattle.records.specs.declared.snapshot.Snapshot.{Snapshot}
 use Rattle.records.specs.declared.snapshot.Snapshots.{Snapshots}
@@ -21,6 +21,7 @@ use Rattle.records.specs.declared.reference.Refs.{Refs}
 use Rattle.records.specs.declared.schema.SchemaField.{SchemaField}
 use Rattle.records.specs.declared.schema.Schema.{Schema}
 use Rattle.records.specs.declared.schema.Schemas.{Schemas}
+use Rattle.records.specs.declared.schema.SchemaOffer.{SchemaOffer}
 use Rattle.records.specs.declared.schema.SchemaIds.{SchemaIds}
 use Rattle.records.specs.declared.«sort_order».SortField.{SortField}
 use Rattle.records.specs.declared.«sort_order».SortOrder.{SortOrder}
@@ -32,7 +33,7 @@ use Rattle.records.specs.declared.metadata.MetadataLog.{MetadataLog}
 use Rattle.records.specs.declared.metadata.SingleFields.{SingleFields}
 use Rattle.records.specs.declared.metadata.TableMetadata.{TableMetadata}
 use Rattle.rules.specs.Words.{eqZ, all}
-use Rattle.rules.specs.Capacities.{snapshotRoom, refRoom, snapshotLogRoom, metadataLogRoom, schemaRoom, schemaFieldRoom, sortOrderRoom, sortFieldRoom, statisticsRoom, removalRoom, refNameRoom, textRoom}
+use Rattle.rules.specs.Capacities.{snapshotRoom, refRoom, snapshotLogRoom, metadataLogRoom, schemaRoom, schemaFieldRoom, sortOrderRoom, sortFieldRoom, statisticsRoom, removalRoom, nameRoom, textRoom}
 
 -- ---- numbers and slots
 
@@ -59,11 +60,11 @@ noneUsed room isBlank items n = isZero n && restBlank room isBlank items 0
 abbrev pub isBlankUuid : List ℕ → Bool
 isBlankUuid uuid = restBlank 16 isZero uuid 0
 
-abbrev pub isTidyRefName : RefName → Bool
-isTidyRefName t = restBlank refNameRoom isZero (t .bytes) (t .len)
+abbrev pub isTidyName : Name → Bool
+isTidyName t = restBlank nameRoom isZero (t .bytes) (t .len)
 
-abbrev pub isBlankRefName : RefName → Bool
-isBlankRefName t = noneUsed refNameRoom isZero (t .bytes) (t .len)
+abbrev pub isBlankName : Name → Bool
+isBlankName t = noneUsed nameRoom isZero (t .bytes) (t .len)
 
 abbrev pub isTidyText : Text → Bool
 isTidyText t = restBlank textRoom isZero (t .bytes) (t .len)
@@ -127,10 +128,10 @@ isBlankReference r =
     && isZeroZ (r .«max_ref_age_ms» .0)
 
 unfoldable pub isTidyRef : NamedRef → Bool
-isTidyRef r = isTidyRefName (r .name) && isTidyReference (r .reference)
+isTidyRef r = isTidyName (r .name) && isTidyReference (r .reference)
 
 unfoldable pub isBlankRef : NamedRef → Bool
-isBlankRef r = isBlankRefName (r .name) && isBlankReference (r .reference)
+isBlankRef r = isBlankName (r .name) && isBlankReference (r .reference)
 
 unfoldable pub isTidyRefs : Refs → Bool
 isTidyRefs t = tidySlots refRoom isTidyRef isBlankRef (t .items) (t .count)
@@ -148,6 +149,9 @@ isBlankSchema s = isZeroZ (s .«schema_id» .0) && noneUsed schemaFieldRoom isBl
 
 unfoldable pub isTidySchemas : Schemas → Bool
 isTidySchemas t = tidySlots schemaRoom isTidySchema isBlankSchema (t .items) (t .count)
+
+abbrev pub isBlankSchemaOffer : SchemaOffer → Bool
+isBlankSchemaOffer o = isZeroZ (o .«schema_id» .0) && isZero (o .at) && isZero (o .count)
 
 abbrev pub isBlankSchemaId : SchemaId → Bool
 isBlankSchemaId i = isZeroZ (i .0)

@@ -33,8 +33,8 @@ statisticsRoom = 32
 abbrev pub removalRoom : ℕ
 removalRoom = 16
 
-abbrev pub refNameRoom : ℕ
-refNameRoom = 32
+abbrev pub nameRoom : ℕ
+nameRoom = 32
 
 -- the slots of a location, a file name or a path; which of them may be used is said next
 abbrev pub textRoom : ℕ
@@ -51,6 +51,10 @@ fileNameRoom = 96
 abbrev pub listRoom : ℕ
 listRoom = 64
 
+-- the bytes in which a field of a schema is offered
+abbrev pub fieldBytes : ℕ
+fieldBytes = 38
+
 -- "2^64 - 1": the largest end of a row range, and the largest number of the limit text
 abbrev pub largestUnsigned : ℕ
 largestUnsigned = 18446744073709551615
@@ -58,6 +62,10 @@ largestUnsigned = 18446744073709551615
 -- "the type's largest": in the Rust schema ids are i32 and sort-order ids i64
 abbrev pub largestSchemaId : ℤ
 largestSchemaId = pos 2147483647
+
+-- field ids are i32 too
+abbrev pub largestFieldId : ℕ
+largestFieldId = 2147483647
 
 abbrev pub largestSortOrderId : ℤ
 largestSortOrderId = pos 9223372036854775807

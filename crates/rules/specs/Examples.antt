@@ -2,7 +2,7 @@
 -- and, each with a name, examples of clauses that no P shows; docs/RULES.md cites them by these names.
 -- That the rules give these replies is one statement over the list (`examples-hold`, in proofs/Examples).
 -- `tools/clauses` changes the rules one clause at a time and says which example then fails.
-use Prim.Native.Nat.{ℕ, zero, suc}
+use Prim.Native.Nat.{ℕ, zero, suc, _*_, _-_}
 use mathlib.Core.Bool.{Bool, true, false}
 use mathlib.Core.List.{List, [], _∷_, _++_, map}
 use mathlib.Core.Option.{Option, none, some}
@@ -13,7 +13,7 @@ use Rattle.records.specs.declared.counters.RowId.{RowId}
 use Rattle.rules.specs.Words.{eqZ, total}
 use Rattle.rules.specs.Names.{mainName}
 use Rattle.rules.specs.Window.{defaultTolerance}
-use Rattle.rules.specs.Register.{RowRange, Snapshot, Reference, NamedRef, LogEntry, FileEntry, Schema, SortField, SortOrder, StatisticsFile, StatisticsTable, Metadata, Update, Terms, Outcome, statisticsOf, withFields, withSnapshots, withRefs, withSnapshotLog, withMetadataLog, withSchemas, withOrders, withStatistics, withVersion, withLocation, withLastSequence, withCurrentSchema, withDefaultOrder}
+use Rattle.rules.specs.Register.{RowRange, Snapshot, Reference, NamedRef, LogEntry, FileEntry, Schema, SchemaOffer, SortField, SortOrder, StatisticsFile, StatisticsTable, Metadata, Update, Terms, Outcome, statisticsOf, withFields, withSnapshots, withRefs, withSnapshotLog, withMetadataLog, withSchemas, withOrders, withStatistics, withVersion, withLocation, withLastSequence, withCurrentSchema, withDefaultOrder}
 use Rattle.rules.specs.Register.StatisticsTable.{Statistics, PartitionStatistics}
 use Rattle.rules.specs.Register.Outcome.{Refused, Accepted}
 use Rattle.rules.specs.Register.Update.{AssignUuid, UpgradeFormatVersion, SetLocation, AddSnapshot, SetBranchSnapshot, RemoveSnapshots, SetRef, RemoveRef, AddSchema, SetCurrentSchema, RemoveSchemas, AddSortOrder, SetDefaultSortOrder, SetStatistics, RemoveStatistics, NotFormed}
@@ -21,6 +21,8 @@ use Rattle.rules.specs.Limit.{limitGiven}
 use Rattle.rules.specs.RowIds.{rowNumber, rowNext}
 use Rattle.rules.specs.Walk.{Walk, Listed, Twice, Bad, ancestors, recordAncestors, walkNumber, walkCount, walkBuffer}
 use Rattle.rules.specs.WellFormed.{metadataFormed, updateFormed}
+use Rattle.rules.specs.Capacities.{fieldBytes}
+use Rattle.rules.specs.Offers.{offerFormed}
 use Rattle.rules.specs.Moment.{currentAt, entriesRead, isWhole, removesAndAdds}
 use Rattle.rules.specs.Run.{listSum, run}
 use Rattle.rules.specs.Rows.{newSnapshots, endOver, nextRowOf, hasRows, rangesOf, endOf, hasRow, climbs, isApart}
@@ -169,9 +171,43 @@ toDraft id = SetRef draft (branchTo id)
 abbrev pub file : ℕ → ℕ → FileEntry
 file name time = record { file = name ∷ []; time = pos time }
 
+-- ---- what the examples offer
+
+-- 0 up to a number
+abbrev pub below : ℕ → List ℕ
+below zero = []
+below (suc n) = below n ++ (n ∷ [])
+
+abbrev pub many : {A : Type 0} → ℕ → (ℕ → A) → List A
+many n make = map make (below n)
+
+abbrev pub allOf : List (List ℕ) → List ℕ
+allOf [] = []
+allOf (l ∷ ls) = l ++ allOf ls
+
+-- the bytes of a field, by the four of its id
+abbrev pub fieldOffer : List ℕ → List ℕ
+fieldOffer id = id ++ replicate 34 0
+
+-- 1 to 33, then 0, then 1 2 1, then 2 9 4, then 2 1
+abbrev pub offeredIds : List ℕ
+offeredIds = many 33 suc ++ (0 ∷ 1 ∷ 2 ∷ 1 ∷ 2 ∷ 9 ∷ 4 ∷ 2 ∷ 1 ∷ [])
+
+-- after them the largest id and one more than that
+abbrev pub offers : List ℕ
+offers = allOf (map (λ (id : ℕ). fieldOffer (id ∷ 0 ∷ 0 ∷ 0 ∷ [])) offeredIds) ++ fieldOffer (255 ∷ 255 ∷ 255 ∷ 127 ∷ []) ++ fieldOffer (0 ∷ 0 ∷ 0 ∷ 128 ∷ [])
+
+-- so many of these fields, from one on, counted from 0
+abbrev pub offerFrom : ℕ → ℕ → ℕ → SchemaOffer
+offerFrom first count id = record { id = pos id; at = first * fieldBytes; count = count }
+
+-- one field, of 1 to 33
+abbrev pub offerOf : ℕ → ℕ → SchemaOffer
+offerOf field id = offerFrom (field - 1) 1 id
+
 -- a clock reading and a tolerance, no file name, an empty limit text. A call always has a limit text (`Answer.readTerms`)
 abbrev pub plainTerms : ℤ → ℤ → Terms
-plainTerms clock tolerance = record { clock = clock; tolerance = tolerance; file = none; limit = some [] }
+plainTerms clock tolerance = record { clock = clock; tolerance = tolerance; file = none; limit = some []; offers = offers }
 
 abbrev pub clockAt : ℤ → Terms
 clockAt clock = plainTerms clock defaultTolerance
@@ -184,7 +220,7 @@ terms = tolerating defaultTolerance
 
 -- the current file `d`, and the limit `2`
 abbrev pub fileTerms : Terms
-fileTerms = record { clock = pos 500000; tolerance = defaultTolerance; file = some (100 ∷ []); limit = some (50 ∷ []) }
+fileTerms = record { clock = pos 500000; tolerance = defaultTolerance; file = some (100 ∷ []); limit = some (50 ∷ []); offers = offers }
 
 -- one schema with field 1, and the order of no fields
 abbrev pub register : ℕ → ℕ → ℕ → ℤ → List Snapshot → Option ℤ → List NamedRef → List LogEntry → List FileEntry → Metadata
@@ -316,14 +352,6 @@ named name = record { name = name; reference = branchTo 1 }
 abbrev pub partitionFile : ℕ → ℕ → Update
 partitionFile id size = SetStatistics PartitionStatistics (attached id size)
 
--- 0 up to a number
-abbrev pub below : ℕ → List ℕ
-below zero = []
-below (suc n) = below n ++ (n ∷ [])
-
-abbrev pub many : {A : Type 0} → ℕ → (ℕ → A) → List A
-many n make = map make (below n)
-
 abbrev pub backwards : {A : Type 0} → List A → List A
 backwards [] = []
 backwards (x ∷ xs) = backwards xs ++ (x ∷ [])
@@ -362,7 +390,7 @@ restocking =
     ∷ UpgradeFormatVersion 2
     ∷ adding 6 500000
     ∷ toMain 2
-    ∷ AddSchema (schemaOf 10 3)
+    ∷ AddSchema (offerOf 10 3)
     ∷ SetCurrentSchema (pos 2)
     ∷ AddSortOrder (orderBy 3 (by (pos 2) 0 1 ∷ []))
     ∷ SetDefaultSortOrder (pos 2)
@@ -425,7 +453,7 @@ oneOfEach =
     ∷ RemoveSnapshots []
     ∷ toDraft 4
     ∷ RemoveRef draft
-    ∷ AddSchema (schemaOf 1 0)
+    ∷ AddSchema (offerOf 1 0)
     ∷ SetCurrentSchema (pos 0)
     ∷ RemoveSchemas []
     ∷ AddSortOrder (unordered 0)
@@ -437,7 +465,7 @@ oneOfEach =
 
 -- a name of the current file, and the limit `200`
 abbrev pub fileNamed : List ℕ → Terms
-fileNamed name = record { clock = pos 500000; tolerance = defaultTolerance; file = some name; limit = some (50 ∷ 48 ∷ 48 ∷ []) }
+fileNamed name = record { clock = pos 500000; tolerance = defaultTolerance; file = some name; limit = some (50 ∷ 48 ∷ 48 ∷ []); offers = offers }
 
 -- version 3 and next row id 9, with these snapshots
 abbrev pub withRows : List Snapshot → Metadata
@@ -503,7 +531,7 @@ examples =
     ∷ (OfRun AtHistory terms (withSnapshotLog (entry 3 300000 ∷ entry 1 400000 ∷ []) three) [] gives History (entry 3 300000 ∷ entry 1 400000 ∷ []))
     ∷ (OfRun AtHistory terms astray [] gives History (entry 1 100000 ∷ entry 2 50000 ∷ []))
     -- -1: it is logged for the id of the last added schema
-    ∷ (OfRun AtLog terms three (AddSchema (schemaOf 2 0) ∷ SetCurrentSchema (pos 1) ∷ []) gives Log (AddSchema (schemaOf 2 1) ∷ SetCurrentSchema (negsuc 0) ∷ []))
+    ∷ (OfRun AtLog terms three (AddSchema (offerOf 2 0) ∷ SetCurrentSchema (pos 1) ∷ []) gives Log (AddSchema (offerOf 2 1) ∷ SetCurrentSchema (negsuc 0) ∷ []))
     -- equal ref: it does not raise the last update
     ∷ (OfRun AtUpdated terms three
     (AddSnapshot (snap 4 (some (pos 3)) 6 (pos 420000)) ∷ toDraft 4 ∷ AddSnapshot (snap 5 (some (pos 4)) 7 (pos 410000)) ∷ toDraft 4 ∷ [])
@@ -595,21 +623,21 @@ examples =
     -- absent refs: of the removals of `mai`, `mains` and `main` the last is logged
     ∷ (OfRun AtLog terms (empty 2 0 (pos 0) []) (RemoveRef (109 ∷ 97 ∷ 105 ∷ []) ∷ RemoveRef (109 ∷ 97 ∷ 105 ∷ 110 ∷ 115 ∷ []) ∷ RemoveRef mainName ∷ []) gives Log (RemoveRef mainName ∷ []))
     -- schema ids: highest + 1, whatever was offered; removed in table order
-    ∷ (OfRun AtLog terms three (AddSchema (schemaOf 2 7) ∷ AddSchema (schemaOf 3 7) ∷ RemoveSchemas (pos 1 ∷ []) ∷ AddSchema (schemaOf 4 7) ∷ RemoveSchemas (pos 3 ∷ pos 2 ∷ []) ∷ [])
-    gives Log (AddSchema (schemaOf 2 1) ∷ AddSchema (schemaOf 3 2) ∷ RemoveSchemas (pos 1 ∷ []) ∷ AddSchema (schemaOf 4 3) ∷ RemoveSchemas (pos 2 ∷ pos 3 ∷ []) ∷ []))
+    ∷ (OfRun AtLog terms three (AddSchema (offerOf 2 7) ∷ AddSchema (offerOf 3 7) ∷ RemoveSchemas (pos 1 ∷ []) ∷ AddSchema (offerOf 4 7) ∷ RemoveSchemas (pos 3 ∷ pos 2 ∷ []) ∷ [])
+    gives Log (AddSchema (offerOf 2 1) ∷ AddSchema (offerOf 3 2) ∷ RemoveSchemas (pos 1 ∷ []) ∷ AddSchema (offerOf 4 3) ∷ RemoveSchemas (pos 2 ∷ pos 3 ∷ []) ∷ []))
     -- schema reused: logged as offered, not again while it is the last added, and -1 stands for it
-    ∷ (OfRun AtLog terms three (AddSchema (schemaOf 1 9) ∷ AddSchema (schemaOf 1 8) ∷ SetCurrentSchema (negsuc 0) ∷ []) gives Log (AddSchema (schemaOf 1 9) ∷ []))
+    ∷ (OfRun AtLog terms three (AddSchema (offerOf 1 9) ∷ AddSchema (offerOf 1 8) ∷ SetCurrentSchema (negsuc 0) ∷ []) gives Log (AddSchema (offerOf 1 9) ∷ []))
     -- last column: raised to a new schema's highest field id, and not lowered
-    ∷ (OfRun AtColumn terms three (AddSchema (schemaOf 9 0) ∷ AddSchema (schemaOf 4 0) ∷ []) gives Column (pos 9))
+    ∷ (OfRun AtColumn terms three (AddSchema (offerOf 9 0) ∷ AddSchema (offerOf 4 0) ∷ []) gives Column (pos 9))
     -- schema by id: one that is not the last added
-    ∷ (OfRun AtLog terms three (AddSchema (schemaOf 2 0) ∷ AddSchema (schemaOf 3 0) ∷ SetCurrentSchema (pos 1) ∷ [])
-    gives Log (AddSchema (schemaOf 2 1) ∷ AddSchema (schemaOf 3 2) ∷ SetCurrentSchema (pos 1) ∷ []))
+    ∷ (OfRun AtLog terms three (AddSchema (offerOf 2 0) ∷ AddSchema (offerOf 3 0) ∷ SetCurrentSchema (pos 1) ∷ [])
+    gives Log (AddSchema (offerOf 2 1) ∷ AddSchema (offerOf 3 2) ∷ SetCurrentSchema (pos 1) ∷ []))
     -- nothing added: -1 stands for nothing
     ∷ (OfRun AtLog terms three (SetCurrentSchema (negsuc 0) ∷ []) gives Refusal 14 0)
     ∷ (OfRun AtLog terms three (SetDefaultSortOrder (negsuc 0) ∷ []) gives Refusal 14 0)
     -- unknown id: also that of -1, where the last added is gone again
     ∷ (OfRun AtLog terms three (SetDefaultSortOrder (pos 7) ∷ []) gives Refusal 15 0)
-    ∷ (OfRun AtLog terms three (AddSchema (schemaOf 2 0) ∷ RemoveSchemas (pos 1 ∷ []) ∷ SetCurrentSchema (negsuc 0) ∷ []) gives Refusal 15 2)
+    ∷ (OfRun AtLog terms three (AddSchema (offerOf 2 0) ∷ RemoveSchemas (pos 1 ∷ []) ∷ SetCurrentSchema (negsuc 0) ∷ []) gives Refusal 15 2)
     -- current schema: a removal list that names it is refused
     ∷ (OfRun AtLog terms three (RemoveSchemas (pos 7 ∷ pos 0 ∷ []) ∷ []) gives Refusal 16 0)
     -- order ids: a new order and a reused one are logged with their final ids; the reused one again, and the same default again, are not logged
@@ -618,7 +646,7 @@ examples =
     -- field not there: a new order names a field that the current schema has not
     ∷ (OfRun AtLog terms three (AddSortOrder (orderOf 2 0) ∷ []) gives Refusal 17 0)
     -- order unfit: the default order names such a field at the close; 20 comes before 21
-    ∷ (OfRun AtLog terms three (AddSortOrder (orderOf 1 0) ∷ SetDefaultSortOrder (negsuc 0) ∷ AddSchema (schemaOf 2 0) ∷ SetCurrentSchema (negsuc 0) ∷ RemoveSnapshots (pos 3 ∷ []) ∷ [])
+    ∷ (OfRun AtLog terms three (AddSortOrder (orderOf 1 0) ∷ SetDefaultSortOrder (negsuc 0) ∷ AddSchema (offerOf 2 0) ∷ SetCurrentSchema (negsuc 0) ∷ RemoveSnapshots (pos 3 ∷ []) ∷ [])
     gives Refusal 20 5)
     -- clock back: last update becomes the clock, even if that goes back
     ∷ (OfRun AtUpdated terms (empty 2 0 (pos 900000) []) [] gives Updated (pos 500000))
@@ -812,7 +840,7 @@ examples =
     ∷ SetRef (replicate 32 97) (keeping (pos 0) 1 (some (pos 1)) (some (pos 1)) (some (pos 1)))
     ∷ SetRef [] (keeping (pos 0) 2 none none (some (pos 1)))
     ∷ RemoveRef (replicate 32 97)
-    ∷ AddSchema (schemaWith (many 32 (λ (i : ℕ). pos (suc i))) 0)
+    ∷ AddSchema (offerOf 1 0)
     ∷ SetCurrentSchema (negsuc 0)
     ∷ RemoveSchemas (replicate 16 (pos 0))
     ∷ AddSortOrder (orderBy 0 (replicate 8 (by (pos 1) 1 1)))
@@ -822,6 +850,13 @@ examples =
     ∷ RemoveStatistics Statistics (pos 0)
     ∷ []))
     gives Tests (replicate 17 true))
+    -- offers: as many fields as there may be, the largest id, no field, none past the last byte; and one more field, no id, an id twice, an id past the largest, a byte that is not there, a schema id below 0
+    ∷ (OfTests (map (offerFormed offers) (offerFrom 0 32 0 ∷ offerFrom 42 1 0 ∷ offerFrom 44 0 0 ∷ offerFrom 40 2 7 ∷ [])) gives Tests (replicate 4 true))
+    ∷ (OfTests (map (offerFormed offers) (offerFrom 0 33 0 ∷ offerFrom 33 1 0 ∷ offerFrom 34 3 0 ∷ offerFrom 43 1 0 ∷ offerFrom 44 1 0 ∷ offerFrom 45 0 0 ∷ record { id = negsuc 0; at = 0; count = 1 } ∷ [])) gives Tests (replicate 7 false))
+    -- an offered id of four bytes
+    ∷ (OfRun AtColumn terms three (AddSchema (offerFrom 42 1 0) ∷ []) gives Column (pos 2147483647))
+    -- an offer that is not well formed is 3, also where a table is full
+    ∷ (OfRun AtLog terms (crowded 1 0 0 0 16 1 1 1 0 0) (AddSchema (offerFrom 33 1 0) ∷ []) gives Refusal 3 0)
     -- out of bounds: one more, or one less
     ∷ (OfTests (map updateFormed
     (UpgradeFormatVersion 0
@@ -843,10 +878,7 @@ examples =
     ∷ SetRef draft (keeping (pos 0) 1 none (some (pos 0)) none)
     ∷ SetRef draft (keeping (pos 0) 1 none none (some (pos 0)))
     ∷ RemoveRef (replicate 33 97)
-    ∷ AddSchema (record { id = negsuc 0; fields = [] })
-    ∷ AddSchema (schemaWith (many 33 (λ (i : ℕ). pos (suc i))) 0)
-    ∷ AddSchema (schemaWith (pos 0 ∷ []) 0)
-    ∷ AddSchema (schemaWith (pos 1 ∷ pos 2 ∷ pos 1 ∷ []) 0)
+    ∷ AddSchema (record { id = negsuc 0; at = 0; count = 0 })
     ∷ SetCurrentSchema (negsuc 1)
     ∷ RemoveSchemas (replicate 17 (pos 0))
     ∷ RemoveSchemas (negsuc 0 ∷ [])
@@ -858,7 +890,7 @@ examples =
     ∷ SetDefaultSortOrder (negsuc 1)
     ∷ NotFormed 1
     ∷ []))
-    gives Tests (replicate 33 false))
+    gives Tests (replicate 30 false))
     -- weights: one of each kind, of which the branch commit counts 2 and one that is not formed 5; and by the kind alone
     ∷ (OfNumbers (listSum oneOfEach ∷ total kindWeight (4 ∷ 5 ∷ 6 ∷ []) ∷ []) gives Numbers (21 ∷ 4 ∷ []))
     -- file's name: 96 bytes pass, 97 are 1
@@ -867,7 +899,7 @@ examples =
     -- held trimmed: a location that was trimmed is equal to the next one
     ∷ (OfRun AtLog terms three (SetLocation (117 ∷ 47 ∷ []) ∷ SetLocation (117 ∷ []) ∷ []) gives Log (SetLocation (117 ∷ []) ∷ []))
     -- own update: a schema leaves the run's last update
-    ∷ (OfRun AtUpdated terms three (adding 4 400000 ∷ AddSchema (schemaOf 2 1) ∷ []) gives Updated (pos 400000))
+    ∷ (OfRun AtUpdated terms three (adding 4 400000 ∷ AddSchema (offerOf 2 1) ∷ []) gives Updated (pos 400000))
     -- full of snapshots: 63 leave room for one, 64 do not; 11 comes before 19
     ∷ (OfRun AtSequence terms (crowded 63 0 0 0 1 1 1 1 0 0) (adding 64 0 ∷ []) gives Sequence (record { 0 = pos 64 }))
     ∷ (OfRun AtSequence terms (crowded 64 0 0 0 1 1 1 1 0 0) (adding 64 0 ∷ []) gives Refusal 19 0)
@@ -900,20 +932,20 @@ examples =
     -- the bytes of main: an absent ref of this name is logged
     ∷ (OfRun AtLog terms (empty 2 0 (pos 0) []) (RemoveRef (109 ∷ 97 ∷ 105 ∷ 110 ∷ []) ∷ []) gives Log (RemoveRef (109 ∷ 97 ∷ 105 ∷ 110 ∷ []) ∷ []))
     -- smallest id: of several schemas of equal fields, here the current one, and of several orders; fields in another order are not equal
-    ∷ (OfRun AtLog terms (crowded 1 0 0 0 3 2 3 1 0 0) (AddSchema (schemaWith (pos 1 ∷ pos 2 ∷ []) 9) ∷ SetCurrentSchema (negsuc 0) ∷ AddSortOrder (orderAt 1 2) ∷ AddSchema (schemaWith (pos 2 ∷ pos 1 ∷ []) 3) ∷ [])
-    gives Log (AddSchema (schemaWith (pos 1 ∷ pos 2 ∷ []) 9) ∷ AddSortOrder (orderAt 1 1) ∷ AddSchema (schemaWith (pos 2 ∷ pos 1 ∷ []) 3) ∷ []))
+    ∷ (OfRun AtLog terms (crowded 1 0 0 0 3 2 3 1 0 0) (AddSchema (offerFrom 0 2 9) ∷ SetCurrentSchema (negsuc 0) ∷ AddSortOrder (orderAt 1 2) ∷ AddSchema (offerFrom 40 2 3) ∷ [])
+    gives Log (AddSchema (offerFrom 0 2 9) ∷ AddSortOrder (orderAt 1 1) ∷ AddSchema (offerFrom 40 2 3) ∷ []))
     -- highest field: last column id is the highest field id, wherever it stands
-    ∷ (OfRun AtColumn terms three (AddSchema (schemaWith (pos 2 ∷ pos 9 ∷ pos 4 ∷ []) 1) ∷ []) gives Column (pos 9))
+    ∷ (OfRun AtColumn terms three (AddSchema (offerFrom 37 3 1) ∷ []) gives Column (pos 9))
     -- largest schema id: 2147483647 may be given; then 18, before 19, and not for one that is reused
-    ∷ (OfRun AtLog terms (withSchemas (schemaOf 1 0 ∷ schemaOf 1 2147483646 ∷ []) three) (AddSchema (schemaOf 2 2147483647) ∷ []) gives Log (AddSchema (schemaOf 2 2147483647) ∷ []))
-    ∷ (OfRun AtLog terms (withSchemas (many 15 (schemaOf 1) ++ (schemaOf 1 2147483647 ∷ [])) three) (AddSchema (schemaOf 2 0) ∷ []) gives Refusal 18 0)
-    ∷ (OfRun AtLog terms (withSchemas (many 15 (schemaOf 1) ++ (schemaOf 1 2147483647 ∷ [])) three) (AddSchema (schemaOf 1 0) ∷ []) gives Log (AddSchema (schemaOf 1 0) ∷ []))
+    ∷ (OfRun AtLog terms (withSchemas (schemaOf 1 0 ∷ schemaOf 1 2147483646 ∷ []) three) (AddSchema (offerOf 2 2147483647) ∷ []) gives Log (AddSchema (offerOf 2 2147483647) ∷ []))
+    ∷ (OfRun AtLog terms (withSchemas (many 15 (schemaOf 1) ++ (schemaOf 1 2147483647 ∷ [])) three) (AddSchema (offerOf 2 0) ∷ []) gives Refusal 18 0)
+    ∷ (OfRun AtLog terms (withSchemas (many 15 (schemaOf 1) ++ (schemaOf 1 2147483647 ∷ [])) three) (AddSchema (offerOf 1 0) ∷ []) gives Log (AddSchema (offerOf 1 0) ∷ []))
     -- full of schemas: 15 leave room for one, 16 do not
-    ∷ (OfRun AtLog terms (crowded 1 0 0 0 15 1 1 1 0 0) (AddSchema (schemaOf 2 15) ∷ []) gives Log (AddSchema (schemaOf 2 15) ∷ []))
-    ∷ (OfRun AtLog terms (crowded 1 0 0 0 16 1 1 1 0 0) (AddSchema (schemaOf 2 16) ∷ []) gives Refusal 19 0)
+    ∷ (OfRun AtLog terms (crowded 1 0 0 0 15 1 1 1 0 0) (AddSchema (offerOf 2 15) ∷ []) gives Log (AddSchema (offerOf 2 15) ∷ []))
+    ∷ (OfRun AtLog terms (crowded 1 0 0 0 16 1 1 1 0 0) (AddSchema (offerOf 2 16) ∷ []) gives Refusal 19 0)
     -- last added stays: an order and a snapshot leave what -1 stands for among schemas, a schema what it stands for among orders; the id is set, so its removal is 16
-    ∷ (OfRun AtLog terms three (AddSortOrder (orderOf 1 1) ∷ AddSchema (schemaOf 2 1) ∷ SetDefaultSortOrder (negsuc 0) ∷ []) gives Log (AddSortOrder (orderOf 1 1) ∷ AddSchema (schemaOf 2 1) ∷ SetDefaultSortOrder (negsuc 0) ∷ []))
-    ∷ (OfRun AtLog terms three (AddSchema (schemaOf 2 1) ∷ AddSortOrder (orderOf 1 1) ∷ adding 4 400000 ∷ SetCurrentSchema (negsuc 0) ∷ RemoveSchemas (pos 1 ∷ []) ∷ []) gives Refusal 16 4)
+    ∷ (OfRun AtLog terms three (AddSortOrder (orderOf 1 1) ∷ AddSchema (offerOf 2 1) ∷ SetDefaultSortOrder (negsuc 0) ∷ []) gives Log (AddSortOrder (orderOf 1 1) ∷ AddSchema (offerOf 2 1) ∷ SetDefaultSortOrder (negsuc 0) ∷ []))
+    ∷ (OfRun AtLog terms three (AddSchema (offerOf 2 1) ∷ AddSortOrder (orderOf 1 1) ∷ adding 4 400000 ∷ SetCurrentSchema (negsuc 0) ∷ RemoveSchemas (pos 1 ∷ []) ∷ []) gives Refusal 16 4)
     -- unequal orders: orders that differ in source, direction or nulls; one id is left out, and highest + 1 comes next
     ∷ (OfRun AtLog terms (withOrders (unordered 0 ∷ orderOf 2 1 ∷ orderOf 3 5 ∷ []) stocked) (SetCurrentSchema (pos 2) ∷ AddSortOrder (orderBy 6 (by (pos 2) 1 0 ∷ [])) ∷ AddSortOrder (orderBy 7 (by (pos 2) 0 1 ∷ [])) ∷ AddSortOrder (orderOf 3 0) ∷ [])
     gives Log (SetCurrentSchema (pos 2) ∷ AddSortOrder (orderBy 6 (by (pos 2) 1 0 ∷ [])) ∷ AddSortOrder (orderBy 7 (by (pos 2) 0 1 ∷ [])) ∷ AddSortOrder (orderOf 3 5) ∷ []))
@@ -930,7 +962,7 @@ examples =
     ∷ (OfRun AtLog terms (crowded 1 0 0 0 1 1 16 1 0 0) (AddSortOrder (orderOf 2 16) ∷ []) gives Refusal 17 0)
     ∷ (OfRun AtLog terms (withOrders (many 16 (λ (i : ℕ). orderOf 1 (suc i))) (withFields (withDefaultOrder (pos 1) (three .fields)) three)) (AddSortOrder (unordered 0) ∷ []) gives Refusal 19 0)
     -- other order unfit: one that is not the default may name a field that the current schema has not
-    ∷ (OfRun AtLog terms three (AddSortOrder (orderOf 1 1) ∷ AddSchema (schemaOf 2 1) ∷ SetCurrentSchema (negsuc 0) ∷ []) gives Log (AddSortOrder (orderOf 1 1) ∷ AddSchema (schemaOf 2 1) ∷ SetCurrentSchema (negsuc 0) ∷ []))
+    ∷ (OfRun AtLog terms three (AddSortOrder (orderOf 1 1) ∷ AddSchema (offerOf 2 1) ∷ SetCurrentSchema (negsuc 0) ∷ []) gives Log (AddSortOrder (orderOf 1 1) ∷ AddSchema (offerOf 2 1) ∷ SetCurrentSchema (negsuc 0) ∷ []))
     -- other removals: of schemas, of a ref and of statistics; none of them is one of snapshots, so the log stays
     ∷ (OfRun AtHistory terms gapped (RemoveSchemas (pos 7 ∷ []) ∷ toDraft 1 ∷ RemoveRef draft ∷ attaching 9 1 ∷ RemoveStatistics Statistics (pos 9) ∷ []) gives History (entry 2 50000 ∷ entry 1 100000 ∷ []))
     -- removed intermediate: 4 was `main` on the way to 5 and is removed, so the history begins after its entry

@@ -17,12 +17,12 @@ use Rattle.records.specs.declared.counters.SchemaId.{SchemaId}
 use Rattle.records.specs.declared.counters.SnapshotId.{SnapshotId}
 use Rattle.records.specs.declared.counters.SortOrderId.{SortOrderId}
 use Rattle.records.specs.declared.text.Text.{Text}
-use Rattle.records.specs.declared.text.RefName.{RefName}
+use Rattle.records.specs.declared.text.Name.{Name}
 use Rattle.records.specs.declared.snapshot.Snapshot.{Snapshot}
 use Rattle.records.specs.declared.snapshot.SnapshotIds.{SnapshotIds}
 use Rattle.records.specs.declared.reference.SnapshotReference.{SnapshotReference}
 use Rattle.records.specs.declared.reference.NamedRef.{NamedRef}
-use Rattle.records.specs.declared.schema.Schema.{Schema}
+use Rattle.records.specs.declared.schema.SchemaOffer.{SchemaOffer}
 use Rattle.records.specs.declared.schema.SchemaIds.{SchemaIds}
 use Rattle.records.specs.declared.«sort_order».SortOrder.{SortOrder}
 use Rattle.records.specs.declared.statistics.StatisticsFile.{StatisticsFile}
@@ -31,8 +31,8 @@ use Rattle.rules.specs.Capacities.{listRoom}
 use Rattle.rules.specs.Register.{StatisticsTable, Update}
 use Rattle.rules.specs.Register.StatisticsTable.{Statistics, PartitionStatistics}
 use Rattle.rules.specs.Register.Update.{AssignUuid, UpgradeFormatVersion, SetLocation, AddSnapshot, SetBranchSnapshot, RemoveSnapshots, SetRef, RemoveRef, AddSchema, SetCurrentSchema, RemoveSchemas, AddSortOrder, SetDefaultSortOrder, SetStatistics, RemoveStatistics, NotFormed}
-use Rattle.rules.specs.Blanks.{isZero, isZeroZ, isBlankUuid, isTidyText, isBlankText, isTidySnapshot, isBlankSnapshot, isTidySnapshotIds, isBlankSnapshotIds, isTidyRefName, isBlankRefName, isTidyReference, isBlankReference, isTidySchema, isBlankSchema, isTidySchemaIds, isBlankSchemaIds, isTidySortOrder, isBlankSortOrder, isTidyStatisticsFile, isBlankStatisticsFile}
-use Rattle.rules.specs.Layout.{counted, pad, readRefName, laidRefName, readText, laidText, readSnapshot, laidSnapshot, readSnapshotIds, laidSnapshotIds, readReference, laidReference, readSchema, laidSchema, readSchemaIds, laidSchemaIds, readSortOrder, laidSortOrder, readStatisticsFile, laidStatisticsFile}
+use Rattle.rules.specs.Blanks.{isZero, isZeroZ, isBlankUuid, isTidyText, isBlankText, isTidySnapshot, isBlankSnapshot, isTidySnapshotIds, isBlankSnapshotIds, isTidyName, isBlankName, isTidyReference, isBlankReference, isBlankSchemaOffer, isTidySchemaIds, isBlankSchemaIds, isTidySortOrder, isBlankSortOrder, isTidyStatisticsFile, isBlankStatisticsFile}
+use Rattle.rules.specs.Layout.{counted, pad, readName, laidName, readText, laidText, readSnapshot, laidSnapshot, readSnapshotIds, laidSnapshotIds, readReference, laidReference, readSchemaOffer, laidSchemaOffer, readSchemaIds, laidSchemaIds, readSortOrder, laidSortOrder, readStatisticsFile, laidStatisticsFile}
 
 -- ---- the kinds, in the order of a table's life
 
@@ -133,7 +133,7 @@ referenceKinds = setRefKind ∷ []
 
 unfoldable pub isTidyRefsPart : ℕ → NamedRef → Bool
 isTidyRefsPart kind p =
-    fitsKinds refNameKinds kind (isBlankRefName (p .name)) (isTidyRefName (p .name))
+    fitsKinds refNameKinds kind (isBlankName (p .name)) (isTidyName (p .name))
     && fitsKinds referenceKinds kind (isBlankReference (p .reference)) (isTidyReference (p .reference))
 
 abbrev pub schemaKinds : List ℕ
@@ -147,7 +147,7 @@ schemaIdsKinds = removeSchemasKind ∷ []
 
 unfoldable pub isTidySchemasPart : ℕ → SchemasPart → Bool
 isTidySchemasPart kind p =
-    fitsKinds schemaKinds kind (isBlankSchema (p .added)) (isTidySchema (p .added))
+    usedBy schemaKinds kind (isBlankSchemaOffer (p .added))
     && usedBy schemaIdKinds kind (isZeroZ (p .chosen .0))
     && fitsKinds schemaIdsKinds kind (isBlankSchemaIds (p .removed)) (isTidySchemaIds (p .removed))
 
@@ -200,11 +200,11 @@ readings u =
     ∷ (upgradeFormatVersionKind, UpgradeFormatVersion (u .fields .«format_version»))
     ∷ (setLocationKind, SetLocation (readText (u .fields .location)))
     ∷ (addSnapshotKind, AddSnapshot (readSnapshot (u .snapshots .added)))
-    ∷ (setBranchSnapshotKind, SetBranchSnapshot (readRefName (u .refs .name)) (readSnapshot (u .snapshots .added)))
+    ∷ (setBranchSnapshotKind, SetBranchSnapshot (readName (u .refs .name)) (readSnapshot (u .snapshots .added)))
     ∷ (removeSnapshotsKind, RemoveSnapshots (readSnapshotIds (u .snapshots .removed)))
-    ∷ (setRefKind, SetRef (readRefName (u .refs .name)) (readReference (u .refs .reference)))
-    ∷ (removeRefKind, RemoveRef (readRefName (u .refs .name)))
-    ∷ (addSchemaKind, AddSchema (readSchema (u .schemas .added)))
+    ∷ (setRefKind, SetRef (readName (u .refs .name)) (readReference (u .refs .reference)))
+    ∷ (removeRefKind, RemoveRef (readName (u .refs .name)))
+    ∷ (addSchemaKind, AddSchema (readSchemaOffer (u .schemas .added)))
     ∷ (setCurrentSchemaKind, SetCurrentSchema (u .schemas .chosen .0))
     ∷ (removeSchemasKind, RemoveSchemas (readSchemaIds (u .schemas .removed)))
     ∷ (addSortOrderKind, AddSortOrder (readSortOrder (u .«sort_orders» .added)))
@@ -265,14 +265,14 @@ withSnapshot x p = record { added = x; removed = p .removed }
 abbrev pub withSnapshotIds : SnapshotIds → SnapshotsPart → SnapshotsPart
 withSnapshotIds x p = record { added = p .added; removed = x }
 
-abbrev pub withRefName : RefName → NamedRef → NamedRef
+abbrev pub withRefName : Name → NamedRef → NamedRef
 withRefName x p = record { name = x; reference = p .reference }
 
 abbrev pub withReference : SnapshotReference → NamedRef → NamedRef
 withReference x p = record { name = p .name; reference = x }
 
-abbrev pub withSchema : Schema → SchemasPart → SchemasPart
-withSchema x p = record { added = x; chosen = p .chosen; removed = p .removed }
+abbrev pub withSchemaOffer : SchemaOffer → SchemasPart → SchemasPart
+withSchemaOffer x p = record { added = x; chosen = p .chosen; removed = p .removed }
 
 abbrev pub withSchemaId : SchemaId → SchemasPart → SchemasPart
 withSchemaId x p = record { added = p .added; chosen = x; removed = p .removed }
@@ -308,11 +308,11 @@ laidUpdate (AssignUuid uuid) = withFieldsPart (withUuid uuid noFieldsPart) (ofKi
 laidUpdate (UpgradeFormatVersion v) = withFieldsPart (withFormatVersion v noFieldsPart) (ofKind upgradeFormatVersionKind)
 laidUpdate (SetLocation location) = withFieldsPart (withLocation (laidText location) noFieldsPart) (ofKind setLocationKind)
 laidUpdate (AddSnapshot s) = withSnapshotsPart (withSnapshot (laidSnapshot s) noSnapshotsPart) (ofKind addSnapshotKind)
-laidUpdate (SetBranchSnapshot name s) = withRefsPart (withRefName (laidRefName name) noRef) (withSnapshotsPart (withSnapshot (laidSnapshot s) noSnapshotsPart) (ofKind setBranchSnapshotKind))
+laidUpdate (SetBranchSnapshot name s) = withRefsPart (withRefName (laidName name) noRef) (withSnapshotsPart (withSnapshot (laidSnapshot s) noSnapshotsPart) (ofKind setBranchSnapshotKind))
 laidUpdate (RemoveSnapshots ids) = withSnapshotsPart (withSnapshotIds (laidSnapshotIds ids) noSnapshotsPart) (ofKind removeSnapshotsKind)
-laidUpdate (SetRef name r) = withRefsPart (record { name = laidRefName name; reference = laidReference r }) (ofKind setRefKind)
-laidUpdate (RemoveRef name) = withRefsPart (withRefName (laidRefName name) noRef) (ofKind removeRefKind)
-laidUpdate (AddSchema s) = withSchemasPart (withSchema (laidSchema s) noSchemasPart) (ofKind addSchemaKind)
+laidUpdate (SetRef name r) = withRefsPart (record { name = laidName name; reference = laidReference r }) (ofKind setRefKind)
+laidUpdate (RemoveRef name) = withRefsPart (withRefName (laidName name) noRef) (ofKind removeRefKind)
+laidUpdate (AddSchema o) = withSchemasPart (withSchemaOffer (laidSchemaOffer o) noSchemasPart) (ofKind addSchemaKind)
 laidUpdate (SetCurrentSchema id) = withSchemasPart (withSchemaId (record { 0 = id }) noSchemasPart) (ofKind setCurrentSchemaKind)
 laidUpdate (RemoveSchemas ids) = withSchemasPart (withSchemaIds (laidSchemaIds ids) noSchemasPart) (ofKind removeSchemasKind)
 laidUpdate (AddSortOrder o) = withSortOrdersPart (withSortOrder (laidSortOrder o) noSortOrdersPart) (ofKind addSortOrderKind)

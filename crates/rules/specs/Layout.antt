@@ -11,7 +11,7 @@ use Rattle.records.specs.Blanks.{noSnapshotId, noSnapshot, noLogEntry, noRef, n
 use Rattle.records.specs.declared.counters.RowId.{RowId}
 use Rattle.records.specs.declared.counters.SnapshotId.{SnapshotId}
 use Rattle.records.specs.declared.counters.SchemaId.{SchemaId}
-use Rattle.records.specs.declared.text.RefName.{RefName}
+use Rattle.records.specs.declared.text.Name.{Name}
 use Rattle.records.specs.declared.text.Text.{Text}
 use Rattle.records.specs.declared.snapshot.Snapshot.{Snapshot}
 use Rattle.records.specs.declared.snapshot.Snapshots.{Snapshots}
@@ -23,6 +23,7 @@ use Rattle.records.specs.declared.reference.NamedRef.{NamedRef}
 use Rattle.records.specs.declared.reference.Refs.{Refs}
 use Rattle.records.specs.declared.schema.SchemaField.{SchemaField}
 use Rattle.records.specs.declared.schema.Schema.{Schema}
+use Rattle.records.specs.declared.schema.SchemaOffer.{SchemaOffer}
 use Rattle.records.specs.declared.schema.Schemas.{Schemas}
 use Rattle.records.specs.declared.schema.SchemaIds.{SchemaIds}
 use Rattle.records.specs.declared.«sort_order».SortField.{SortField}
@@ -35,7 +36,7 @@ use Rattle.records.specs.declared.metadata.MetadataLog.{MetadataLog}
 use Rattle.records.specs.declared.metadata.SingleFields.{SingleFields}
 use Rattle.records.specs.declared.metadata.TableMetadata.{TableMetadata}
 use Rattle.rules.specs.Words.{isSome, orElse}
-use Rattle.rules.specs.Capacities.{snapshotRoom, refRoom, snapshotLogRoom, metadataLogRoom, schemaRoom, schemaFieldRoom, sortOrderRoom, sortFieldRoom, statisticsRoom, removalRoom, refNameRoom, textRoom}
+use Rattle.rules.specs.Capacities.{snapshotRoom, refRoom, snapshotLogRoom, metadataLogRoom, schemaRoom, schemaFieldRoom, sortOrderRoom, sortFieldRoom, statisticsRoom, removalRoom, nameRoom, textRoom}
 use Rattle.rules.specs.Register as plain
 
 -- ---- slots and flags
@@ -56,11 +57,11 @@ module _ {A : Type 0} where
 
 -- ---- texts
 
-abbrev pub readRefName : RefName → List ℕ
-readRefName t = counted 0 (t .bytes) (t .len)
+abbrev pub readName : Name → List ℕ
+readName t = counted 0 (t .bytes) (t .len)
 
-unfoldable pub laidRefName : List ℕ → RefName
-laidRefName l = record { bytes = pad refNameRoom 0 l; len = length l }
+unfoldable pub laidName : List ℕ → Name
+laidName l = record { bytes = pad nameRoom 0 l; len = length l }
 
 abbrev pub readText : Text → List ℕ
 readText t = counted 0 (t .bytes) (t .len)
@@ -151,10 +152,10 @@ laidReference r =
     }
 
 abbrev pub readRef : NamedRef → plain.NamedRef
-readRef r = record { name = readRefName (r .name); reference = readReference (r .reference) }
+readRef r = record { name = readName (r .name); reference = readReference (r .reference) }
 
 unfoldable pub laidRef : plain.NamedRef → NamedRef
-laidRef r = record { name = laidRefName (r .name); reference = laidReference (r .reference) }
+laidRef r = record { name = laidName (r .name); reference = laidReference (r .reference) }
 
 abbrev pub readRefs : Refs → List plain.NamedRef
 readRefs t = map readRef (counted noRef (t .items) (t .count))
@@ -181,6 +182,12 @@ readSchemas t = map readSchema (counted noSchema (t .items) (t .count))
 
 unfoldable pub laidSchemas : List plain.Schema → Schemas
 laidSchemas l = record { items = pad schemaRoom noSchema (map laidSchema l); count = length l }
+
+abbrev pub readSchemaOffer : SchemaOffer → plain.SchemaOffer
+readSchemaOffer o = record { id = o .«schema_id» .0; at = o .at; count = o .count }
+
+abbrev pub laidSchemaOffer : plain.SchemaOffer → SchemaOffer
+laidSchemaOffer o = record { «schema_id» = record { 0 = o .id }; at = o .at; count = o .count }
 
 abbrev pub readSchemaIds : SchemaIds → List ℤ
 readSchemaIds t = map (λ (i : SchemaId). i .0) (counted noSchemaId (t .items) (t .count))

@@ -1,4 +1,4 @@
--- Document 01, in the order in which it is read: words, records, leaves, well-formed records, updates, the close, the run, the layout of records;
+-- Document 01, in the order in which it is read: words, records, leaves, well-formed records, what updates offer, updates, the close, the run, the layout of records;
 -- and what document 02 adds: statistics files (StatisticsUpdates), which snapshot was current at a time (Moment), row ids over a sequence of runs (Rows). During is this project's own.
 pub mod Words
 pub mod Replies
@@ -10,6 +10,7 @@ pub mod RowIds
 pub mod Names
 pub mod Walk
 pub mod WellFormed
+pub mod Offers
 pub mod ChangeLog
 pub mod SingleUpdates
 pub mod SnapshotUpdates

@@ -49,6 +49,12 @@ pub record Schema : Type 0 where
   pub id : ℤ
   pub fields : List SchemaField
 
+-- a schema as an update offers it: its id, where its fields stand among the offers of the run, and how many they are
+pub record SchemaOffer : Type 0 where
+  pub id : ℤ
+  pub at : ℕ
+  pub count : ℕ
+
 -- direction: 0 ascending, 1 descending; nulls: 0 first, 1 last
 pub record SortField : Type 0 where
   pub source : ℤ
@@ -105,7 +111,7 @@ pub data Update : Type 0 where
   RemoveSnapshots : List ℤ → Update
   SetRef : List ℕ → Reference → Update
   RemoveRef : List ℕ → Update
-  AddSchema : Schema → Update
+  AddSchema : SchemaOffer → Update
   SetCurrentSchema : ℤ → Update
   RemoveSchemas : List ℤ → Update
   AddSortOrder : SortOrder → Update
@@ -118,12 +124,13 @@ pub data Update : Type 0 where
 -- ---- a run
 
 -- "a clock reading, an optional name of the current metadata file, and the optional text of the property that limits the metadata log";
--- document 02, request (v): "a tolerance in milliseconds"
+-- document 02, request (v): "a tolerance in milliseconds"; beside them the bytes of all that the updates of the list offer, which Offers reads
 pub record Terms : Type 0 where
   pub clock : ℤ
   pub tolerance : ℤ
   pub file : Option (List ℕ)
   pub limit : Option (List ℕ)
+  pub offers : List ℕ
 
 -- the ids that the run added last
 pub record LastAdded : Type 0 where

@@ -9,7 +9,7 @@ use lib.ListN.{length}
 use Rattle.rules.specs.Words.{eqZ, larger, isSome, orElse, someWith, any, keep, first, isEmpty, sameList, isIn, highest, put, Check}
 use Rattle.rules.specs.Replies.{nothingAdded, unknownId, currentSchemaRemoved, idsExhausted, tableFull}
 use Rattle.rules.specs.Capacities.{schemaRoom, largestSchemaId}
-use Rattle.rules.specs.Register.{SchemaField, Schema, State, withSchemas, withMetadata, withAdded, withLastColumn, withCurrentSchema, onFields, logged, lastAdded}
+use Rattle.rules.specs.Register.{SchemaField, Schema, SchemaOffer, State, withSchemas, withMetadata, withAdded, withLastColumn, withCurrentSchema, onFields, logged, lastAdded}
 use Rattle.rules.specs.Register.Update.{AddSchema, SetCurrentSchema, RemoveSchemas}
 use Rattle.rules.specs.WellFormed.{fieldIds, schemaBelow, hasSchema}
 
@@ -38,21 +38,26 @@ addSchemaChecks s st =
     ∷ [])
 
 -- "Reuse is logged, as offered, only if that id is not already the last added; either way it becomes so."
-abbrev pub reuseSchema : Schema → ℤ → State → State
-reuseSchema s id st = cond (someWith (eqZ id) (st .added .schema)) st (logged (AddSchema s) (addedSchema id st))
+abbrev pub reuseSchema : SchemaOffer → ℤ → State → State
+reuseSchema o id st = cond (someWith (eqZ id) (st .added .schema)) st (logged (AddSchema o) (addedSchema id st))
 
--- "A new schema raises last column id to its highest field id, if larger."
-abbrev pub newSchema : Schema → State → State
-newSchema s st =
-    logged (AddSchema s)
+-- the offer under another id
+abbrev pub offeredAs : ℤ → SchemaOffer → SchemaOffer
+offeredAs id o = record { id = id; at = o .at; count = o .count }
+
+-- "A new schema raises last column id to its highest field id, if larger." It is logged with its new id.
+abbrev pub newSchema : SchemaOffer → Schema → State → State
+newSchema o s st =
+    logged (AddSchema (offeredAs (s .id) o))
     (addedSchema (s .id)
     (onFields (λ f. withLastColumn (larger (f .lastColumn) (highest (fieldIds s))) f)
     (withMetadata (withSchemas (put schemaBelow s (st .metadata .schemas)) (st .metadata)) st)))
 
-unfoldable pub addSchema : Schema → State → State
-addSchema s st = elim (reusedSchema s (st .metadata .schemas)) [
-  | none ↦ newSchema (record { id = sucℤ (highest (schemaIds (st .metadata .schemas))); fields = s .fields }) st
-  | some id ↦ reuseSchema s id st
+-- an offer, and the schema that it offers
+unfoldable pub addSchema : SchemaOffer → Schema → State → State
+addSchema o s st = elim (reusedSchema s (st .metadata .schemas)) [
+  | none ↦ newSchema o (record { id = sucℤ (highest (schemaIds (st .metadata .schemas))); fields = s .fields }) st
+  | some id ↦ reuseSchema o id st
 ]
 
 -- ---- set schema

@@ -7,6 +7,7 @@ use Rattle.rules.specs.Replies.{updateNotFormed}
 use Rattle.rules.specs.Register.{Update, Terms, State}
 use Rattle.rules.specs.Register.Update.{AssignUuid, UpgradeFormatVersion, SetLocation, AddSnapshot, SetBranchSnapshot, RemoveSnapshots, SetRef, RemoveRef, AddSchema, SetCurrentSchema, RemoveSchemas, AddSortOrder, SetDefaultSortOrder, SetStatistics, RemoveStatistics, NotFormed}
 use Rattle.rules.specs.WellFormed.{updateFormed}
+use Rattle.rules.specs.Offers.{offeredSchema, offerFormed}
 use Rattle.rules.specs.SingleUpdates.{assignUuid, upgradeFormatVersionChecks, upgradeFormatVersion, setLocation}
 use Rattle.rules.specs.SnapshotUpdates.{addSnapshotChecks, addSnapshot, removeSnapshots}
 use Rattle.rules.specs.RefUpdates.{setRefChecks, setRef, setBranchSnapshotChecks, setBranchSnapshot, removeRef}
@@ -14,7 +15,7 @@ use Rattle.rules.specs.SchemaUpdates.{addSchemaChecks, addSchema, setCur
 use Rattle.rules.specs.OrderUpdates.{addSortOrderChecks, addSortOrder, setDefaultSortOrderChecks, setDefaultSortOrder}
 use Rattle.rules.specs.StatisticsUpdates.{setStatisticsChecks, setStatistics, removeStatistics}
 
--- the checks of an update beside its own form
+-- the checks of an update beside its own form; what it offers has its form in the offers, which is asked first
 unfoldable pub checks : Terms → Update → State → List Check
 checks terms (AssignUuid uuid) st = []
 checks terms (UpgradeFormatVersion v) st = upgradeFormatVersionChecks v st
@@ -24,7 +25,7 @@ checks terms (SetBranchSnapshot name s) st = setBranchSnapshotChecks (terms .tol
 checks terms (RemoveSnapshots ids) st = []
 checks terms (SetRef name r) st = setRefChecks name r st
 checks terms (RemoveRef name) st = []
-checks terms (AddSchema s) st = addSchemaChecks s st
+checks terms (AddSchema o) st = (not (offerFormed (terms .offers) o), updateNotFormed) ∷ addSchemaChecks (offeredSchema (terms .offers) o) st
 checks terms (SetCurrentSchema id) st = setCurrentSchemaChecks id st
 checks terms (RemoveSchemas ids) st = removeSchemasChecks ids st
 checks terms (AddSortOrder o) st = addSortOrderChecks o st
@@ -47,7 +48,7 @@ effect terms (SetBranchSnapshot name s) st = setBranchSnapshot terms name s st
 effect terms (RemoveSnapshots ids) st = removeSnapshots ids st
 effect terms (SetRef name r) st = setRef terms name r st
 effect terms (RemoveRef name) st = removeRef name st
-effect terms (AddSchema s) st = addSchema s st
+effect terms (AddSchema o) st = addSchema o (offeredSchema (terms .offers) o) st
 effect terms (SetCurrentSchema id) st = setCurrentSchema id st
 effect terms (RemoveSchemas ids) st = removeSchemas ids st
 effect terms (AddSortOrder o) st = addSortOrder o st

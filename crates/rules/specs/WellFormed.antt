@@ -10,7 +10,7 @@ use lib.IntN.{ℤ, pos}
 use lib.Signed.{ltZ, leZ, nonNeg}
 use lib.ListN.{length}
 use Rattle.rules.specs.Words.{eqZ, isSome, ifSome, sameOption, all, any, first, isEmpty, unequal, ascending}
-use Rattle.rules.specs.Capacities.{snapshotRoom, refRoom, snapshotLogRoom, metadataLogRoom, schemaRoom, schemaFieldRoom, sortOrderRoom, sortFieldRoom, statisticsRoom, removalRoom, refNameRoom, locationRoom, fileNameRoom}
+use Rattle.rules.specs.Capacities.{snapshotRoom, refRoom, snapshotLogRoom, metadataLogRoom, schemaRoom, schemaFieldRoom, sortOrderRoom, sortFieldRoom, statisticsRoom, removalRoom, nameRoom, locationRoom, fileNameRoom}
 use Rattle.rules.specs.Names.{nameBelow, isMain}
 use Rattle.rules.specs.Register.{Snapshot, Reference, NamedRef, LogEntry, FileEntry, SchemaField, Schema, SortField, SortOrder, StatisticsFile, SingleFields, Metadata, Update, lastAdded}
 use Rattle.rules.specs.Register.Update.{AssignUuid, UpgradeFormatVersion, SetLocation, AddSnapshot, SetBranchSnapshot, RemoveSnapshots, SetRef, RemoveRef, AddSchema, SetCurrentSchema, RemoveSchemas, AddSortOrder, SetDefaultSortOrder, SetStatistics, RemoveStatistics, NotFormed}
@@ -25,8 +25,8 @@ atLeastOne x = leZ (pos 1) x
 abbrev pub versionFormed : ℕ → Bool
 versionFormed v = leb 1 v && leb v 3
 
-abbrev pub refNameFormed : List ℕ → Bool
-refNameFormed name = leb (length name) refNameRoom
+abbrev pub nameFormed : List ℕ → Bool
+nameFormed name = leb (length name) nameRoom
 
 abbrev pub locationFormed : List ℕ → Bool
 locationFormed location = leb (length location) locationRoom
@@ -56,7 +56,7 @@ abbrev pub referenceFormed : Reference → Bool
 referenceFormed r = nonNeg (r .snapshot) && kindFormed r && retentionFormed r
 
 abbrev pub refFormed : NamedRef → Bool
-refFormed r = refNameFormed (r .name) && referenceFormed (r .reference)
+refFormed r = nameFormed (r .name) && referenceFormed (r .reference)
 
 abbrev pub fieldIds : Schema → List ℤ
 fieldIds s = map (λ (f : SchemaField). f .id) (s .fields)
@@ -194,11 +194,11 @@ updateFormed (AssignUuid uuid) = true
 updateFormed (UpgradeFormatVersion v) = versionFormed v
 updateFormed (SetLocation location) = locationFormed location
 updateFormed (AddSnapshot s) = snapshotFormed s
-updateFormed (SetBranchSnapshot name s) = refNameFormed name && snapshotFormed s
+updateFormed (SetBranchSnapshot name s) = nameFormed name && snapshotFormed s
 updateFormed (RemoveSnapshots ids) = removalFormed ids
-updateFormed (SetRef name r) = refNameFormed name && referenceFormed r
-updateFormed (RemoveRef name) = refNameFormed name
-updateFormed (AddSchema s) = schemaFormed s
+updateFormed (SetRef name r) = nameFormed name && referenceFormed r
+updateFormed (RemoveRef name) = nameFormed name
+updateFormed (AddSchema o) = nonNeg (o .id)
 updateFormed (SetCurrentSchema id) = choiceFormed id
 updateFormed (RemoveSchemas ids) = removalFormed ids
 updateFormed (AddSortOrder o) = offeredOrderFormed o

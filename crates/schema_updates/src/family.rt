@@ -20,17 +20,17 @@ use records::update::REMOVE_SCHEMAS;
 use records::update::SET_CURRENT_SCHEMA;
 use records::update::TableUpdate;
 
-pub fn decide(b: TableMetadataBuilder, t: Schemas, u: TableUpdate) -> Decision
+pub fn decide(b: TableMetadataBuilder, t: Schemas, u: TableUpdate, offers: &[u8]) -> Decision
     requires { ⌜ LaidSchemas t ⌝ }
     requires { ⌜ ascending schemaBelow (readSchemas t) ≡ true ⌝ }
     requires { ⌜ isTidyUpdate u ≡ true ⌝ }
     requires { ⌜ updateFormed (readKind u) ≡ true ⌝ }
     requires { ⌜ (addSchemaKind ≤ u .kind) × (u .kind ≤ removeSchemasKind) ⌝ }
-    ensures { λ r. ⌜ SchemasDecided b t u r ⌝ }
+    ensures { λ r. ⌜ SchemasDecided b t u (now (offers .entry)) r ⌝ }
 {
     let kind = u.kind;
     if kind == ADD_SCHEMA {
-        return add_schema(b, t, u);
+        return add_schema(b, t, u, offers);
     }
     if kind == SET_CURRENT_SCHEMA {
         return set_current_schema(b, t, u);
@@ -39,14 +39,14 @@ pub fn decide(b: TableMetadataBuilder, t: Schemas, u: TableUpdate) -> Decision
 }
 
 // A new schema is put into the table, and those that a removal names go.
-pub fn after(t: Schemas, u: TableUpdate, d: Decision) -> Schemas
+pub fn after(t: Schemas, u: TableUpdate, d: Decision, offers: &[u8]) -> Schemas
     requires { ⌜ LaidSchemas t ⌝ }
-    requires { ⌜ SchemasNext t u d ⌝ }
-    ensures { λ r. ⌜ r ≡ schemasAfter t u d ⌝ }
+    requires { ⌜ SchemasNext t u (now offers) d ⌝ }
+    ensures { λ r. ⌜ r ≡ schemasAfter t u (now (offers .entry)) d ⌝ }
 {
     let kind = u.kind;
     if kind == ADD_SCHEMA {
-        return schemas_after(t, d);
+        return schemas_after(t, d, offers);
     }
     if kind == REMOVE_SCHEMAS {
         return tables::schemas::without(t, u.schemas.removed);

@@ -9,7 +9,8 @@ ghost use Rattle.rules.specs.Capacities.{largestSchemaId};
 ghost use Rattle.rules.specs.Register.{Terms, State};
 ghost use Rattle.rules.specs.WellFormed.{fieldIds, schemaBelow, updateFormed};
 ghost use Rattle.rules.specs.SchemaUpdates.{reusedSchema, schemaIds, setCurrentSchemaChecks, setCurrentSchema};
-ghost use Rattle.rules.specs.Layout.{given, readSchema, readSchemas, laidSchemas};
+ghost use Rattle.rules.specs.Offers.{offeredSchema};
+ghost use Rattle.rules.specs.Layout.{given, readSchema, readSchemas, laidSchemas, readSchemaOffer};
 ghost use Rattle.rules.specs.Kinds.{isTidyUpdate, readKind, ofKind, withSchemasPart, withSchemaId, addSchemaKind, setCurrentSchemaKind, removeSchemasKind};
 ghost use Rattle.tables.specs.Laid.{LaidSchema, LaidSchemas};
 ghost use Rattle.builder.specs.Pieces.{laidBuilder};
@@ -29,6 +30,7 @@ use records::replies::ACCEPTED;
 use records::replies::CURRENT_SCHEMA_REMOVED;
 use records::replies::IDS_EXHAUSTED;
 use records::replies::TABLE_FULL;
+use records::replies::UPDATE_NOT_FORMED;
 use records::schema::Schema;
 use records::schema::Schemas;
 use records::update::TableUpdate;
@@ -177,18 +179,25 @@ fn schema_choice(b: TableMetadataBuilder, t: Schemas, id: SchemaId) -> SchemaSet
 
 // ---- the updates of a list
 
-pub fn add_schema(b: TableMetadataBuilder, t: Schemas, u: TableUpdate) -> Decision
+// An offer that is not well formed is 3. The entry has the offer, under the id that a new schema gets.
+pub fn add_schema(b: TableMetadataBuilder, t: Schemas, u: TableUpdate, offers: &[u8]) -> Decision
     requires { ⌜ LaidSchemas t ⌝ }
     requires { ⌜ isTidyUpdate u ≡ true ⌝ }
-    requires { ⌜ updateFormed (readKind u) ≡ true ⌝ }
     requires { ⌜ u .kind ≡ addSchemaKind ⌝ }
-    ensures { λ r. ⌜ SchemaDecided b t u r ⌝ }
+    ensures { λ r. ⌜ SchemaDecided b t u (now (offers .entry)) r ⌝ }
 {
     let mut part = u.schemas;
-    let x = schema_addition(b, t, part.added);
+    let mut offer = part.added;
+    let offered = offers::schema(offer, offers);
+    if !offered.formed {
+        return decided(UPDATE_NOT_FORMED, false, b, u);
+    }
+    let x = schema_addition(b, t, offered.schema);
     let y = x.schema;
     let c = x.builder;
-    part.added = y;
+    let id = y.schema_id;
+    offer.schema_id = id;
+    part.added = offer;
     let mut e = u;
     e.schemas = part;
     Decision {
@@ -201,13 +210,14 @@ pub fn add_schema(b: TableMetadataBuilder, t: Schemas, u: TableUpdate) -> Decisi
 }
 
 // The table after an addition: a new schema is put into it.
-pub fn schemas_after(t: Schemas, d: Decision) -> Schemas
+pub fn schemas_after(t: Schemas, d: Decision, offers: &[u8]) -> Schemas
     requires { ⌜ LaidSchemas t ⌝ }
-    requires { ⌜ (d .grows ≡ true → NewSchema t (d .entry .schemas .added)) ⌝ }
-    ensures { λ r. ⌜ r ≡ cond (d .grows) (laidSchemas (put schemaBelow (readSchema (d .entry .schemas .added)) (readSchemas t))) t ⌝ }
+    requires { ⌜ (d .grows ≡ true → NewSchema t (now offers) (readSchemaOffer (d .entry .schemas .added))) ⌝ }
+    ensures { λ r. ⌜ r ≡ cond (d .grows) (laidSchemas (put schemaBelow (offeredSchema (now (offers .entry)) (readSchemaOffer (d .entry .schemas .added))) (readSchemas t))) t ⌝ }
 {
     if d.grows {
-        return tables::schemas::put(t, d.entry.schemas.added);
+        let offered = offers::schema(d.entry.schemas.added, offers);
+        return tables::schemas::put(t, offered.schema);
     }
     t
 }

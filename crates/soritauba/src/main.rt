@@ -6,18 +6,15 @@ use case_reader::run::read_ending;
 use case_reader::run::read_run;
 use commands::advance;
 use commands::begin;
-use commands::tell::is_in_words;
 use commands::tell::put_answer_of;
-use commands::tell::tell_example;
 use commands::turn::ASKED;
 use commands::turn::CLOSED;
 use commands::turn::END;
 use commands::turn::JUDGED;
+use commands::turn::RUN;
 use commands::turn::SHOWN;
 use commands::turn::Turn;
-use commands::turn::first_of;
-use commands::turn::step_of;
-use commands::turn::times_of;
+use records::capacities::OFFERS;
 use records::metadata::MetadataLog;
 use records::metadata::TableMetadata;
 use records::run::Answer;
@@ -31,7 +28,9 @@ use report::example::form_of;
 use report::example::run_of;
 use report::judged::Judged;
 use report::judged::say_judged;
+use report::shown::say_shown;
 use slot_bounds::lent;
+use std::num::wrapping_sub_usize;
 use tokens::input::Input;
 use tokens::input::Place;
 use tokens::input::empty_input;
@@ -63,53 +62,101 @@ fn run_times(
     us: UpdateList,
     terms: RunTerms,
     limit: &[u8],
+    offers: &[u8],
 ) -> Answer {
     let mut answer = unasked(m);
     let mut left = times;
     while left > 0 {
-        answer = register::run(m, us, terms, limit);
+        answer = register::run(m, us, terms, limit, offers);
         left -= 1;
     }
     answer
 }
 
-fn ask(times: u64, run: Run) -> Answer {
+fn ask(run: Run, offers: &[u8]) -> Answer {
     let text = run.limit;
     let bytes = text.bytes;
     let slots: &[u8] = &bytes;
     let len = lent(slots, text.len);
-    if times == 1 {
-        return register::run(run.metadata, run.updates, run.terms, &slots[..len]);
-    }
-    run_times(times, run.metadata, run.updates, run.terms, &slots[..len])
+    register::run(run.metadata, run.updates, run.terms, &slots[..len], offers)
 }
 
-// Nothing is said before the whole run is read, so that no part of its answer stands above `bad input`.
-fn run(turn: &Turn, input: &mut Input, place: &mut Place, output: &mut Output, end: &mut usize) {
-    let run = read_run(first_of(turn), input, place);
-    if !is_good(place) {
-        return;
-    }
-    if is_in_words(turn) {
-        say_asked(output, end, piece_of(place), run);
-        say_answer(output, end, run.terms, ask(1, run));
-    } else {
-        put_answer_of(output, end, run.given, ask(times_of(turn), run));
-    }
-}
-
-fn judge(text: LimitText, run: Run, ending: TableMetadata) -> Verdict {
+// The run, or the close by itself, again and again.
+fn ask_again(wanted: usize, times: u64, run: Run, offers: &[u8]) -> Answer {
+    let text = run.limit;
     let bytes = text.bytes;
     let slots: &[u8] = &bytes;
     let len = lent(slots, text.len);
-    verdict::judge(run.metadata, run.updates, run.terms, &slots[..len], ending)
+    if wanted == CLOSED {
+        return close_alone::close(times, run.metadata, run.terms, &slots[..len]);
+    }
+    run_times(
+        times,
+        run.metadata,
+        run.updates,
+        run.terms,
+        &slots[..len],
+        offers,
+    )
+}
+
+fn put_run(turn: Turn, run: Run, offers: &[u8], output: &mut Output, end: &mut usize) {
+    if turn.times == 1 && turn.wanted == ASKED {
+        put_answer_of(output, end, run.given, ask(run, offers), offers);
+    } else {
+        put_answer_of(
+            output,
+            end,
+            run.given,
+            ask_again(turn.wanted, turn.times, run, offers),
+            offers,
+        );
+    }
+}
+
+fn say_run(number: usize, run: Run, offers: &[u8], output: &mut Output, end: &mut usize) {
+    say_asked(output, end, number, run, offers);
+    say_answer(output, end, run.terms, ask(run, offers), offers);
+}
+
+// Nothing is said before the whole run is read, so that no part of its answer stands above `bad input`.
+fn run(
+    turn: Turn,
+    input: &mut Input,
+    place: &mut Place,
+    offers: &mut [u8],
+    output: &mut Output,
+    end: &mut usize,
+) {
+    let run = read_run(turn.first, input, place, offers);
+    if is_good(place) {
+        if turn.command == RUN {
+            say_run(piece_of(place), run, &offers[..], output, end);
+        } else {
+            put_run(turn, run, &offers[..], output, end);
+        }
+    }
+}
+
+fn judge(text: LimitText, run: Run, offers: &[u8], ending: TableMetadata) -> Verdict {
+    let bytes = text.bytes;
+    let slots: &[u8] = &bytes;
+    let len = lent(slots, text.len);
+    verdict::judge(
+        run.metadata,
+        run.updates,
+        run.terms,
+        &slots[..len],
+        offers,
+        ending,
+    )
 }
 
 // What was read of a bad question is judged too, and its verdict is not said.
-fn read_judged(first: u64, input: &mut Input, place: &mut Place) -> Judged {
-    let run = read_run(first, input, place);
+fn read_judged(first: u64, input: &mut Input, place: &mut Place, offers: &mut [u8]) -> Judged {
+    let run = read_run(first, input, place, offers);
     let ending = read_ending(run.given, input, place);
-    let verdict = judge(run.limit, run, ending);
+    let verdict = judge(run.limit, run, &offers[..], ending);
     let fault = fault_of(verdict.number, run.metadata, run.terms);
     let difference = verdict.difference;
     let tolerance_ms = run.terms.tolerance_ms;
@@ -122,53 +169,49 @@ fn read_judged(first: u64, input: &mut Input, place: &mut Place) -> Judged {
     }
 }
 
-fn replay(turn: &Turn, input: &mut Input, place: &mut Place, output: &mut Output, end: &mut usize) {
-    let judged = read_judged(first_of(turn), input, place);
+fn replay(
+    turn: Turn,
+    input: &mut Input,
+    place: &mut Place,
+    offers: &mut [u8],
+    output: &mut Output,
+    end: &mut usize,
+) {
+    let judged = read_judged(turn.first, input, place, offers);
     if is_good(place) {
         say_judged(output, end, judged);
     }
 }
 
-// Of P10 the changes of the run are run too.
+// Of P10 the changes of the run are run too. No example offers anything.
 fn answer_of(step: usize) -> Answer {
     let mut run = run_of(step);
     if form_of(step) == CHANGES_OF_REPLAY {
-        let first = ask(1, run);
+        let first = ask(run, b"");
         let changes = first.changes;
         run.updates = changes;
     }
-    ask(1, run)
+    ask(run, b"")
 }
 
-fn close_of(times: u64, run: Run) -> Answer {
-    let text = run.limit;
-    let bytes = text.bytes;
-    let slots: &[u8] = &bytes;
-    let len = lent(slots, text.len);
-    close_alone::close(times, run.metadata, run.terms, &slots[..len])
-}
-
-fn close(turn: &Turn, input: &mut Input, place: &mut Place, output: &mut Output, end: &mut usize) {
-    let run = read_run(first_of(turn), input, place);
-    if is_good(place) {
-        put_answer_of(output, end, run.given, close_of(times_of(turn), run));
-    }
+fn show(step: usize, output: &mut Output, end: &mut usize) {
+    say_shown(output, end, form_of(step), answer_of(step));
 }
 
 // What a step wants of the run.
 fn answer(
-    wanted: usize,
-    turn: &mut Turn,
+    turn: Turn,
     input: &mut Input,
     place: &mut Place,
+    offers: &mut [u8],
     output: &mut Output,
     end: &mut usize,
 ) {
+    let wanted = turn.wanted;
     match wanted {
-        ASKED => run(turn, input, place, output, end),
-        JUDGED => replay(turn, input, place, output, end),
-        SHOWN => tell_example(turn, output, end, answer_of(step_of(turn))),
-        CLOSED => close(turn, input, place, output, end),
+        ASKED | CLOSED => run(turn, input, place, offers, output, end),
+        JUDGED => replay(turn, input, place, offers, output, end),
+        SHOWN => show(wrapping_sub_usize(turn.step, 1), output, end),
         _ => {}
     }
 }
@@ -179,20 +222,20 @@ fn main() {
     let mut turn = begin();
     let mut input = empty_input();
     let mut place = start(0);
+    let mut offers = [0u8; OFFERS];
     let mut output = empty_output();
     let mut end: usize = 0;
     let mut left = u64::MAX;
-    let mut wanted = advance(&mut turn, &mut input, &mut place, &mut output, &mut end);
-    while left > 0 && wanted != END {
+    while left > 0 && turn.wanted != END {
         answer(
-            wanted,
-            &mut turn,
+            turn,
             &mut input,
             &mut place,
+            &mut offers,
             &mut output,
             &mut end,
         );
-        wanted = advance(&mut turn, &mut input, &mut place, &mut output, &mut end);
+        turn = advance(turn, &mut input, &mut place, &mut output, &mut end);
         left -= 1;
     }
     flush(&output, end);

@@ -18,7 +18,7 @@ use Rattle.rules.specs.Register.{Update}
 use Rattle.rules.specs.Register.Update.{AddSnapshot, SetBranchSnapshot, RemoveSnapshots, SetRef, RemoveRef, NotFormed}
 use Rattle.rules.specs.WellFormed.{updateFormed}
 use Rattle.rules.specs.Run.{weight}
-use Rattle.rules.specs.Layout.{counted, readRefName, readSnapshot, readReference, readSnapshotIds}
+use Rattle.rules.specs.Layout.{counted, readName, readSnapshot, readReference, readSnapshotIds}
 use Rattle.rules.specs.Kinds.{isTidyUpdate, kindWeight, atKind, readings, readKind, readUpdate, readUpdates, assignUuidKind, upgradeFormatVersionKind, setLocationKind, addSnapshotKind, setBranchSnapshotKind, removeSnapshotsKind, setRefKind, removeRefKind, addSchemaKind, setCurrentSchemaKind, removeSchemasKind, addSortOrderKind, setDefaultSortOrderKind, setStatisticsKind, removeStatisticsKind, setPartitionStatisticsKind, removePartitionStatisticsKind}
 use Rattle.rules.proofs.Checks.{and-left, and-right, by-either, neither, by-test}
 use Rattle.rules.proofs.Slots.Relaid.{counted-take, length-counted}
@@ -50,16 +50,16 @@ module _ (u : TableUpdate) (f : updateFormed (readUpdate u) ≡ true) where
   pub read-add-snapshot : u .kind ≡ addSnapshotKind → readUpdate u ≡ AddSnapshot (readSnapshot (u .snapshots .added))
   read-add-snapshot e = read-tidy u (formed-tidy u f) ∙ rw e
 
-  pub read-set-branch-snapshot : u .kind ≡ setBranchSnapshotKind → readUpdate u ≡ SetBranchSnapshot (readRefName (u .refs .name)) (readSnapshot (u .snapshots .added))
+  pub read-set-branch-snapshot : u .kind ≡ setBranchSnapshotKind → readUpdate u ≡ SetBranchSnapshot (readName (u .refs .name)) (readSnapshot (u .snapshots .added))
   read-set-branch-snapshot e = read-tidy u (formed-tidy u f) ∙ rw e
 
   pub read-remove-snapshots : u .kind ≡ removeSnapshotsKind → readUpdate u ≡ RemoveSnapshots (readSnapshotIds (u .snapshots .removed))
   read-remove-snapshots e = read-tidy u (formed-tidy u f) ∙ rw e
 
-  pub read-set-ref : u .kind ≡ setRefKind → readUpdate u ≡ SetRef (readRefName (u .refs .name)) (readReference (u .refs .reference))
+  pub read-set-ref : u .kind ≡ setRefKind → readUpdate u ≡ SetRef (readName (u .refs .name)) (readReference (u .refs .reference))
   read-set-ref e = read-tidy u (formed-tidy u f) ∙ rw e
 
-  pub read-remove-ref : u .kind ≡ removeRefKind → readUpdate u ≡ RemoveRef (readRefName (u .refs .name))
+  pub read-remove-ref : u .kind ≡ removeRefKind → readUpdate u ≡ RemoveRef (readName (u .refs .name))
   read-remove-ref e = read-tidy u (formed-tidy u f) ∙ rw e
 
   -- its form by its kind alone

@@ -21,12 +21,12 @@ use Rattle.rules.specs.Run.{listSum, runFrom, started, closeRan, startChecks, r
 use Rattle.rules.specs.Blanks.{isTidyMetadata}
 use Rattle.rules.specs.Layout.{given, counted, readText, readMetadata}
 use Rattle.rules.specs.Kinds.{readUpdates}
-use Rattle.rules.specs.Answer.{readTerms, laidOutcome, answer}
+use Rattle.rules.specs.Answer.{Lent, readTerms, laidOutcome, answer}
 use Rattle.rules.proofs.Checks.{only-then, both, and-left, and-right, passed}
 use Rattle.rules.proofs.Sound.Accepted.{run-started}
 use Rattle.rules.proofs.Slots.Relaid.{length-counted}
 use Rattle.records.specs.Blanks.{noUpdate}
-use Rattle.start.specs.Start.{startNumber}
+use Rattle.start.specs.Start.{noneLent, startNumber}
 use Rattle.start.proofs.Reading.{weighs}
 
 module _ (m : TableMetadata) (us : UpdateList) (terms : RunTerms) where
@@ -45,7 +45,7 @@ module _ (m : TableMetadata) (us : UpdateList) (terms : RunTerms) where
   unfolding startNumber startChecks
   starts e =
       let k = only-then (isTidyMetadata m) (λ (z : startNotFormed ≡ 0). omega arith) e in
-      let p = passed (startChecks (readTerms terms []) (readMetadata m) (readUpdates us)) refl (k .1) in
+      let p = passed (startChecks (readTerms terms noneLent) (readMetadata m) (readUpdates us)) refl (k .1) in
       let f = not-false (metadataFormed (readMetadata m) && fileFits) (p .0) in
       record {
         tidy = k .0;
@@ -56,13 +56,13 @@ module _ (m : TableMetadata) (us : UpdateList) (terms : RunTerms) where
       }
 
   -- a run that starts is the run of its updates and the close
-  pub started-answer : (text : List ℕ) → Starts → answer m us terms text ≡ laidOutcome m (closeRan (readTerms terms text) (readUpdates us) (runFrom (readTerms terms text) (readUpdates us) 0 (started (readMetadata m))))
+  pub started-answer : (lent : Lent) → Starts → answer m us terms lent ≡ laidOutcome m (closeRan (readTerms terms lent) (readUpdates us) (runFrom (readTerms terms lent) (readUpdates us) 0 (started (readMetadata m))))
   unfolding answer
-  started-answer text s = rw (s .tidy, run-started (readTerms terms text) (readMetadata m) (readUpdates us) (both (s .formed) (s .file)) (s .sum) (s .tolerated))
+  started-answer lent s = rw (s .tidy, run-started (readTerms terms lent) (readMetadata m) (readUpdates us) (both (s .formed) (s .file)) (s .sum) (s .tolerated))
 
-  pub refused-start : (text : List ℕ) (n : ℕ) → startNumber m us terms ≡ n → (n ≡ 0 → ⊥) → laidOutcome m (Refused n 0) ≡ answer m us terms text
+  pub refused-start : (lent : Lent) (n : ℕ) → startNumber m us terms ≡ n → (n ≡ 0 → ⊥) → laidOutcome m (Refused n 0) ≡ answer m us terms lent
   unfolding startNumber answer run startChecks
-  refused-start text n e z = go (isTidyMetadata m) _ _ e
+  refused-start lent n e z = go (isTidyMetadata m) _ _ e
     where
       go : (tidy : Bool) (k : ℕ) (o : Outcome) → cond tidy k startNotFormed ≡ n → laidOutcome m (Refused n 0) ≡ laidOutcome m (cond tidy (cond (eqb k accepted) o (Refused k 0)) (Refused startNotFormed 0))
       go true k o e = rw (e, ne-eqb n 0 z)

@@ -11,8 +11,11 @@ use Rattle.rules.specs.Run.{startChecks}
 use Rattle.rules.specs.Blanks.{isTidyMetadata}
 use Rattle.rules.specs.Layout.{readMetadata}
 use Rattle.rules.specs.Kinds.{readUpdates}
-use Rattle.rules.specs.Answer.{readTerms}
+use Rattle.rules.specs.Answer.{Lent, readTerms}
 
--- the limit text is not asked for: any will do
+-- the limit text and the offers are not asked for: any will do
+abbrev pub noneLent : Lent
+noneLent = record { text = []; offers = [] }
+
 unfoldable pub startNumber : TableMetadata → UpdateList → RunTerms → ℕ
-startNumber m us terms = cond (isTidyMetadata m) (firstOf (startChecks (readTerms terms []) (readMetadata m) (readUpdates us))) startNotFormed
+startNumber m us terms = cond (isTidyMetadata m) (firstOf (startChecks (readTerms terms noneLent) (readMetadata m) (readUpdates us))) startNotFormed

@@ -29,7 +29,7 @@ use Rattle.records.specs.declared.statistics.StatisticsFiles.{StatisticsFiles}
 use Rattle.records.specs.declared.metadata.MetadataLogEntry.{MetadataLogEntry}
 use Rattle.records.specs.declared.metadata.MetadataLog.{MetadataLog}
 use Rattle.rules.specs.Register as plain
-use Rattle.rules.specs.Capacities.{refNameRoom, removalRoom, snapshotRoom, refRoom, schemaRoom, sortOrderRoom, statisticsRoom, snapshotLogRoom, metadataLogRoom, schemaFieldRoom, sortFieldRoom}
+use Rattle.rules.specs.Capacities.{nameRoom, removalRoom, snapshotRoom, refRoom, schemaRoom, sortOrderRoom, statisticsRoom, snapshotLogRoom, metadataLogRoom, schemaFieldRoom, sortFieldRoom}
 use Rattle.rules.specs.Layout.{readSnapshotIds, laidSnapshotIds, readSchemaIds, laidSchemaIds, readSnapshot, laidSnapshot, laidSnapshots, readRef, laidRef, laidRefs, readSchema, laidSchema, laidSchemas, readSortOrder, laidSortOrder, laidSortOrders, readStatisticsFile, laidStatisticsFile, laidStatistics, readLogEntry, laidLogEntry, laidSnapshotLog, readMetadataLogEntry, laidMetadataLogEntry, laidMetadataLog, readSchemaField, laidSchemaField, readSortField, laidSortField}
 use Rattle.rules.proofs.Slots.Reread.{reread-snapshot-ids, reread-schema-ids}
 use Rattle.tables.specs.Laid.{LaidName, LaidRef, LaidSnapshotIds, LaidSchemaIds, LaidSnapshots, LaidRefs, LaidSchemas, LaidOrders, LaidStatistics, LaidSnapshotLog, LaidMetadataLog, LaidSchema, LaidOrder}
@@ -155,7 +155,7 @@ unfolding laidRef
 name-of h = record { back = ap (λ (r : NamedRef). r .name) (h .back); fits = h .fits }
 
 pub ref-at : {t : Refs} → LaidRefs t → (i : ℕ) (d : NamedRef) → i < t .count → LaidRef (getD (t .items) i d)
-ref-at h i d b = record { back = element-back (tidy-refs h) i d b; fits = leb-true _ _ (each-at (tidy-refs h) i d b (λ (r : plain.NamedRef). leb (length (r .name)) refNameRoom) (h .names)) }
+ref-at h i d b = record { back = element-back (tidy-refs h) i d b; fits = leb-true _ _ (each-at (tidy-refs h) i d b (λ (r : plain.NamedRef). leb (length (r .name)) nameRoom) (h .names)) }
 
 pub schema-at : {t : Schemas} → LaidSchemas t → (i : ℕ) (d : Schema) → i < t .count → LaidSchema (getD (t .items) i d)
 schema-at h i d b = record { back = element-back (tidy-schemas h) i d b; fits = leb-true _ _ (each-at (tidy-schemas h) i d b (λ (s : plain.Schema). leb (length (s .fields)) schemaFieldRoom) (h .fields)) }

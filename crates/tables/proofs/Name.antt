@@ -4,21 +4,21 @@ use native.Mathlib.Omega.{arith}
 use mathlib.Core.Path.{_≡_, sym, ap}
 use lib.ListN.{length, take, replicate, length-append}
 use lib.Seq.{length-take-le}
-use Rattle.records.specs.declared.text.RefName.{RefName}
-use Rattle.rules.specs.Capacities.{refNameRoom}
-use Rattle.rules.specs.Layout.{pad, readRefName, laidRefName}
+use Rattle.records.specs.declared.text.Name.{Name}
+use Rattle.rules.specs.Capacities.{nameRoom}
+use Rattle.rules.specs.Layout.{pad, readName, laidName}
 use Rattle.rules.proofs.Slots.Relaid.{counted-take, length-counted}
 use Rattle.tables.specs.Laid.{LaidName}
 
-module _ {a : RefName} (h : LaidName a) where
+module _ {a : Name} (h : LaidName a) where
   pub name-within : a .len ≤ length (a .bytes)
-  unfolding laidRefName
+  unfolding laidName
   name-within =
-      let e : length (a .bytes) ≡ length (pad refNameRoom 0 (readRefName a)) = ap (λ (t : RefName). length (t .bytes)) (sym (h .back)) in
-      omega (arith, e, length-append (readRefName a) (replicate (refNameRoom - length (readRefName a)) 0), length-counted 0 (a .bytes) (a .len))
+      let e : length (a .bytes) ≡ length (pad nameRoom 0 (readName a)) = ap (λ (t : Name). length (t .bytes)) (sym (h .back)) in
+      omega (arith, e, length-append (readName a) (replicate (nameRoom - length (readName a)) 0), length-counted 0 (a .bytes) (a .len))
 
   pub name-counted : a .len ≡ length (take (a .len) (a .bytes))
   name-counted = sym (length-take-le (a .len) (a .bytes) name-within)
 
-  pub name-read : take (a .len) (a .bytes) ≡ readRefName a
+  pub name-read : take (a .len) (a .bytes) ≡ readName a
   name-read = sym (counted-take 0 (a .bytes) (a .len) name-within)

@@ -4,7 +4,7 @@ use mathlib.Core.Path.{_≡_}
 use mathlib.Core.Bool.{true}
 use lib.Dec.{leb}
 use lib.ListN.{length}
-use Rattle.records.specs.declared.text.RefName.{RefName}
+use Rattle.records.specs.declared.text.Name.{Name}
 use Rattle.records.specs.declared.snapshot.Snapshots.{Snapshots}
 use Rattle.records.specs.declared.snapshot.SnapshotIds.{SnapshotIds}
 use Rattle.records.specs.declared.snapshot.SnapshotLog.{SnapshotLog}
@@ -19,21 +19,21 @@ use Rattle.records.specs.declared.statistics.StatisticsFile.{StatisticsFile}
 use Rattle.records.specs.declared.statistics.StatisticsFiles.{StatisticsFiles}
 use Rattle.records.specs.declared.metadata.MetadataLog.{MetadataLog}
 use Rattle.rules.specs.Words.{all}
-use Rattle.rules.specs.Capacities.{snapshotRoom, refRoom, snapshotLogRoom, metadataLogRoom, schemaRoom, schemaFieldRoom, sortOrderRoom, sortFieldRoom, statisticsRoom, removalRoom, refNameRoom}
-use Rattle.rules.specs.Layout.{readRefName, laidRefName, readSnapshots, laidSnapshots, readSnapshotIds, laidSnapshotIds, readSnapshotLog, laidSnapshotLog, readRef, laidRef, readRefs, laidRefs, readSchema, laidSchema, readSchemas, laidSchemas, readSchemaIds, laidSchemaIds, readSortOrder, laidSortOrder, readSortOrders, laidSortOrders, readStatisticsFile, laidStatisticsFile, readStatistics, laidStatistics, readMetadataLog, laidMetadataLog}
+use Rattle.rules.specs.Capacities.{snapshotRoom, refRoom, snapshotLogRoom, metadataLogRoom, schemaRoom, schemaFieldRoom, sortOrderRoom, sortFieldRoom, statisticsRoom, removalRoom, nameRoom}
+use Rattle.rules.specs.Layout.{readName, laidName, readSnapshots, laidSnapshots, readSnapshotIds, laidSnapshotIds, readSnapshotLog, laidSnapshotLog, readRef, laidRef, readRefs, laidRefs, readSchema, laidSchema, readSchemas, laidSchemas, readSchemaIds, laidSchemaIds, readSortOrder, laidSortOrder, readSortOrders, laidSortOrders, readStatisticsFile, laidStatisticsFile, readStatistics, laidStatistics, readMetadataLog, laidMetadataLog}
 use Rattle.rules.specs.Register as plain
 
 -- ---- texts
 
-pub record LaidName (t : RefName) : Type 0 where
-  pub back : laidRefName (readRefName t) ≡ t
-  pub fits : length (readRefName t) ≤ refNameRoom
+pub record LaidName (t : Name) : Type 0 where
+  pub back : laidName (readName t) ≡ t
+  pub fits : length (readName t) ≤ nameRoom
 
 -- ---- records
 
 pub record LaidRef (r : NamedRef) : Type 0 where
   pub back : laidRef (readRef r) ≡ r
-  pub fits : length (readRefName (r .name)) ≤ refNameRoom
+  pub fits : length (readName (r .name)) ≤ nameRoom
 
 pub record LaidSchema (s : Schema) : Type 0 where
   pub back : laidSchema (readSchema s) ≡ s
@@ -55,7 +55,7 @@ pub record LaidSnapshots (t : Snapshots) : Type 0 where
 pub record LaidRefs (t : Refs) : Type 0 where
   pub back : laidRefs (readRefs t) ≡ t
   pub fits : length (readRefs t) ≤ refRoom
-  pub names : all (λ (r : plain.NamedRef). leb (length (r .name)) refNameRoom) (readRefs t) ≡ true
+  pub names : all (λ (r : plain.NamedRef). leb (length (r .name)) nameRoom) (readRefs t) ≡ true
 
 pub record LaidSchemas (t : Schemas) : Type 0 where
   pub back : laidSchemas (readSchemas t) ≡ t

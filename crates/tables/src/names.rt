@@ -1,18 +1,18 @@
-// Ref names as records.
+// Names as records.
 ghost use mathlib.Core.Path.{_≡_};
 ghost use Rattle.rules.specs.Words.{sameBytes};
 ghost use Rattle.rules.specs.Names.{isMain, nameBelow};
-ghost use Rattle.rules.specs.Layout.{readRefName};
+ghost use Rattle.rules.specs.Layout.{readName};
 ghost use Rattle.tables.specs.Laid.{LaidName};
 use primitives::names::is_main;
 use primitives::names::name_below;
 use primitives::names::same_bytes;
-use records::text::RefName;
+use records::text::Name;
 
-pub fn same_name(a: RefName, b: RefName) -> bool
+pub fn same_name(a: Name, b: Name) -> bool
     requires { ⌜ LaidName a ⌝ }
     requires { ⌜ LaidName b ⌝ }
-    ensures { λ r. ⌜ r ≡ sameBytes (readRefName a) (readRefName b) ⌝ }
+    ensures { λ r. ⌜ r ≡ sameBytes (readName a) (readName b) ⌝ }
 {
     let m = a.len;
     let n = b.len;
@@ -21,10 +21,10 @@ pub fn same_name(a: RefName, b: RefName) -> bool
     same_bytes(&x[..m], &y[..n])
 }
 
-pub fn name_is_below(a: RefName, b: RefName) -> bool
+pub fn name_is_below(a: Name, b: Name) -> bool
     requires { ⌜ LaidName a ⌝ }
     requires { ⌜ LaidName b ⌝ }
-    ensures { λ r. ⌜ r ≡ nameBelow (readRefName a) (readRefName b) ⌝ }
+    ensures { λ r. ⌜ r ≡ nameBelow (readName a) (readName b) ⌝ }
 {
     let m = a.len;
     let n = b.len;
@@ -33,9 +33,9 @@ pub fn name_is_below(a: RefName, b: RefName) -> bool
     name_below(&x[..m], &y[..n])
 }
 
-pub fn is_main_name(a: RefName) -> bool
+pub fn is_main_name(a: Name) -> bool
     requires { ⌜ LaidName a ⌝ }
-    ensures { λ r. ⌜ r ≡ isMain (readRefName a) ⌝ }
+    ensures { λ r. ⌜ r ≡ isMain (readName a) ⌝ }
 {
     let m = a.len;
     let x = a.bytes;

@@ -9,7 +9,7 @@ ghost use Rattle.rules.specs.Words.{put as putBy, any, keep, ascending, isIn};
 ghost use Rattle.rules.specs.Names.{nameBelow};
 ghost use Rattle.rules.specs.WellFormed.{refBelow};
 ghost use Rattle.rules.specs.RefUpdates.{hasName};
-ghost use Rattle.rules.specs.Layout.{readRefName, readRef, readRefs, laidRefs};
+ghost use Rattle.rules.specs.Layout.{readName, readRef, readRefs, laidRefs};
 ghost use Rattle.search.specs.Places.{indexOf};
 ghost use Rattle.tables.specs.Laid.{LaidName, LaidRef, LaidRefs};
 use crate::ids::is_held;
@@ -17,13 +17,13 @@ use crate::names::name_is_below;
 use crate::names::same_name;
 use records::reference::NamedRef;
 use records::reference::Refs;
-use records::text::RefName;
+use records::text::Name;
 
 // Where the name stands; the count where it is not held.
-pub fn find(t: Refs, name: RefName) -> usize
+pub fn find(t: Refs, name: Name) -> usize
     requires { ⌜ LaidRefs t ⌝ }
     requires { ⌜ LaidName name ⌝ }
-    ensures { λ r. ⌜ r ≡ indexOf (hasName (readRefName name)) (readRefs t) ⌝ }
+    ensures { λ r. ⌜ r ≡ indexOf (hasName (readName name)) (readRefs t) ⌝ }
 {
     let n = t.count;
     let mut i = 0;
@@ -38,10 +38,10 @@ pub fn find(t: Refs, name: RefName) -> usize
     n
 }
 
-fn place(t: Refs, name: RefName) -> usize
+fn place(t: Refs, name: Name) -> usize
     requires { ⌜ LaidRefs t ⌝ }
     requires { ⌜ LaidName name ⌝ }
-    ensures { λ r. ⌜ r ≡ indexOf (λ x. not (nameBelow (x .name) (readRefName name))) (readRefs t) ⌝ }
+    ensures { λ r. ⌜ r ≡ indexOf (λ x. not (nameBelow (x .name) (readName name))) (readRefs t) ⌝ }
 {
     let n = t.count;
     let mut i = 0;
@@ -81,7 +81,7 @@ fn insert_at(t: Refs, at: usize, x: NamedRef) -> Refs
 pub fn put(t: Refs, x: NamedRef) -> Refs
     requires { ⌜ LaidRefs t ⌝ }
     requires { ⌜ LaidRef x ⌝ }
-    requires { ⌜ (any (hasName (readRefName (x .name))) (readRefs t) ≡ false → t .count < 16) ⌝ }
+    requires { ⌜ (any (hasName (readName (x .name))) (readRefs t) ≡ false → t .count < 16) ⌝ }
     requires { ⌜ ascending refBelow (readRefs t) ≡ true ⌝ }
     ensures { λ r. ⌜ r ≡ laidRefs (putBy refBelow (readRef x) (readRefs t)) ⌝ }
 {
@@ -100,10 +100,10 @@ pub fn put(t: Refs, x: NamedRef) -> Refs
     insert_at(t, at, x)
 }
 
-pub fn without(t: Refs, name: RefName) -> Refs
+pub fn without(t: Refs, name: Name) -> Refs
     requires { ⌜ LaidRefs t ⌝ }
     requires { ⌜ LaidName name ⌝ }
-    ensures { λ r. ⌜ r ≡ laidRefs (keep (λ x. not (hasName (readRefName name) x)) (readRefs t)) ⌝ }
+    ensures { λ r. ⌜ r ≡ laidRefs (keep (λ x. not (hasName (readName name) x)) (readRefs t)) ⌝ }
 {
     let n = t.count;
     let mut r = Refs::blank();

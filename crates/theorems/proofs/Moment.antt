@@ -15,7 +15,7 @@ use Rattle.rules.specs.Answer.{readTerms}
 use Rattle.rules.proofs.Answer.Laws.{answer-read}
 use Rattle.rules.proofs.History.Whole.{whole-stays, whole-after-removal}
 use Rattle.rules.proofs.History.Kept.{joinedBy, HistoryKept, history-kept, MomentKept, moment-kept}
-use Rattle.theorems.proofs.Run.{Call, start, updates, terms, text, says}
+use Rattle.theorems.proofs.Run.{Call, start, updates, terms, lent, says}
 
 module _ (c : Call) where
   -- what is given, read
@@ -26,7 +26,7 @@ module _ (c : Call) where
   asked = readUpdates (updates c)
 
   abbrev pub under : Terms
-  under = readTerms (terms c) (text c)
+  under = readTerms (terms c) (lent c)
 
   -- what is answered, read
   abbrev pub after : Metadata
@@ -44,7 +44,7 @@ module _ (c : Call) (e : c .answered .number ≡ 0) where
   accepted : run (under c) (before c) (asked c) ≡ Accepted (after c) (changes c) (readMetadataLog (c .answered .expired))
   accepted =
       subst (λ (x : Answer). run (under c) (before c) (asked c) ≡ Accepted (readMetadata (x .metadata)) (readUpdates (x .changes)) (readMetadataLog (x .expired))) (sym (says c))
-      (answer-read (start c) (updates c) (terms c) (text c) (sym (ap (λ (x : Answer). x .number) (says c)) ∙ e))
+      (answer-read (start c) (updates c) (terms c) (lent c) (sym (ap (λ (x : Answer). x .number) (says c)) ∙ e))
 
   -- an accepted run from a whole history, one that names held snapshots alone, answers a whole one
   pub run-whole-stays : isWhole (before c) ≡ true → isWhole (after c) ≡ true

@@ -16,7 +16,7 @@ use Rattle.rules.proofs.Rows.Runs.{Adds, adds-none, adds-on}
 use Rattle.rules.proofs.Rows.ApartExactly.{apart-means, disjoint-from-held}
 use Rattle.rules.proofs.Rows.Above.{adds-above}
 use Rattle.rules.proofs.Answer.Rows.{newIn, answer-logs-new, answer-adds, answer-apart-stays, answer-rows-apart-stays}
-use Rattle.theorems.proofs.Run.{Call, start, updates, terms, text, says}
+use Rattle.theorems.proofs.Run.{Call, start, updates, terms, lent, says}
 
 -- each call starts from what the one before answered, the first from m
 abbrev pub Chain : TableMetadata → List Call → Type 0
@@ -36,8 +36,8 @@ endOver m (c ∷ cs) = endOver (c .answered .metadata) cs
 -- what one call adds
 call-adds : (m : TableMetadata) (c : Call) → start c ≡ m → m .fields .«format_version» ≡ 3 → Adds (readMetadata m) (readMetadata (c .answered .metadata)) (newIn (c .answered))
 call-adds m c e v =
-    subst (λ (x : Answer). Adds (readMetadata m) (readMetadata (x .metadata)) (newIn x)) (sym (says c ∙ ap (λ (x : TableMetadata). answer x (updates c) (terms c) (text c)) e))
-    (answer-adds m (updates c) (terms c) (text c) v)
+    subst (λ (x : Answer). Adds (readMetadata m) (readMetadata (x .metadata)) (newIn x)) (sym (says c ∙ ap (λ (x : TableMetadata). answer x (updates c) (terms c) (lent c)) e))
+    (answer-adds m (updates c) (terms c) (lent c) v)
 
 chain-adds : (m : TableMetadata) (cs : List Call) → Chain m cs → m .fields .«format_version» ≡ 3 → Adds (readMetadata m) (readMetadata (endOver m cs)) (newOver cs)
 chain-adds m [] h v = adds-none (readMetadata m) v
@@ -50,7 +50,7 @@ chain-adds m (c ∷ cs) h v =
 pub run-logs-new : (c : Call) → start c .fields .«format_version» ≡ 3 → c .answered .number ≡ 0 → newIn (c .answered) ≡ newSnapshots (readUpdates (updates c))
 run-logs-new c v e =
     subst (λ (x : Answer). newIn x ≡ newSnapshots (readUpdates (updates c))) (sym (says c))
-    (answer-logs-new (start c) (updates c) (terms c) (text c) v (sym (ap (λ (x : Answer). x .number) (says c)) ∙ e))
+    (answer-logs-new (start c) (updates c) (terms c) (lent c) v (sym (ap (λ (x : Answer). x .number) (says c)) ∙ e))
 
 -- Over any chain of calls from a start of version 3:
 module _ (m : TableMetadata) (cs : List Call) (h : Chain m cs) (v : m .fields .«format_version» ≡ 3) where
@@ -72,12 +72,12 @@ module _ (m : TableMetadata) (cs : List Call) (h : Chain m cs) (v : m .fields .�
 
 -- metadata that is apart is answered by metadata that is apart
 pub run-apart-stays : (c : Call) → isApart (readMetadata (start c)) ≡ true → isApart (readMetadata (c .answered .metadata)) ≡ true
-run-apart-stays c h = subst (λ (x : Answer). isApart (readMetadata (x .metadata)) ≡ true) (sym (says c)) (answer-apart-stays (start c) (updates c) (terms c) (text c) h)
+run-apart-stays c h = subst (λ (x : Answer). isApart (readMetadata (x .metadata)) ≡ true) (sym (says c)) (answer-apart-stays (start c) (updates c) (terms c) (lent c) h)
 
 -- where what `row_ranges::rows_apart` answers is true of the metadata that a call is given, it is true of the metadata of its answer, accepted or refused:
 -- whoever asks once knows it of every later answer
 pub run-rows-apart-stays : (c : Call) → isFormedAndApart (start c) ≡ true → isFormedAndApart (c .answered .metadata) ≡ true
-run-rows-apart-stays c h = subst (λ (x : Answer). isFormedAndApart (x .metadata) ≡ true) (sym (says c)) (answer-rows-apart-stays (start c) (updates c) (terms c) (text c) h)
+run-rows-apart-stays c h = subst (λ (x : Answer). isFormedAndApart (x .metadata) ≡ true) (sym (says c)) (answer-rows-apart-stays (start c) (updates c) (terms c) (lent c) h)
 
 -- over any chain of calls from metadata that is apart no row id is given out that was held at its start
 pub run-rows-never-held : (m : TableMetadata) (cs : List Call) → Chain m cs → isApart (readMetadata m) ≡ true

@@ -54,10 +54,6 @@ pub fn put_i64(output: &mut Output, end: &mut usize, number: i64)
     put_number(output, end, is_negative, absolute(number));
 }
 
-pub fn put_i32(output: &mut Output, end: &mut usize, number: i32) {
-    put_i64(output, end, number as i64);
-}
-
 pub fn put_count(output: &mut Output, end: &mut usize, count: usize) {
     put_u64(output, end, count as u64);
 }

@@ -34,16 +34,9 @@ pub fn limit(input: &mut Input, place: &mut Place, output: &mut Output, end: &mu
     }
 }
 
-pub fn window(input: &mut Input, place: &mut Place, output: &mut Output, end: &mut usize) {
-    let time = Time(read_i64(input, place));
-    let last = Time(read_i64(input, place));
-    let tolerance = Age(DEFAULT_TOLERANCE_MS);
-    if is_good(place) {
-        put_flag(output, end, !is_before(tolerance, time, last));
-    }
-}
-
-pub fn window_given_tolerance(
+// At the usual tolerance, or at one that is read.
+pub fn window(
+    has_tolerance: bool,
     input: &mut Input,
     place: &mut Place,
     output: &mut Output,
@@ -51,9 +44,12 @@ pub fn window_given_tolerance(
 ) {
     let time = Time(read_i64(input, place));
     let last = Time(read_i64(input, place));
-    let tolerance = Age(read_i64(input, place));
+    let mut tolerance = DEFAULT_TOLERANCE_MS;
+    if has_tolerance {
+        tolerance = read_i64(input, place);
+    }
     if is_good(place) {
-        put_flag(output, end, !is_before(tolerance, time, last));
+        put_flag(output, end, !is_before(Age(tolerance), time, last));
     }
 }
 

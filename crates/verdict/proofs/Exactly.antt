@@ -14,7 +14,7 @@ use Rattle.records.specs.declared.metadata.TableMetadata.{TableMetadata}
 use Rattle.records.specs.declared.update.UpdateList.{UpdateList}
 use Rattle.records.specs.declared.run.RunTerms.{RunTerms}
 use Rattle.records.specs.declared.run.Answer.{Answer}
-use Rattle.rules.specs.Answer.{answer}
+use Rattle.rules.specs.Answer.{Lent, answer}
 use Rattle.rules.proofs.Checks.{parts, both}
 use Rattle.compare.specs.Parts.{firstDifference}
 use Rattle.compare.proofs.Exactly.{same-exactly}
@@ -44,10 +44,10 @@ module _ (a : Answer) (ending : TableMetadata) where
 abbrev Exactly : Verdict → Answer → TableMetadata → Type 0
 Exactly v a ending = (leadsThere v ≡ true → EndsAt a ending) × (EndsAt a ending → leadsThere v ≡ true)
 
-pub leads-exactly : (m : TableMetadata) (us : UpdateList) (terms : RunTerms) (limit : List ℕ) (ending : TableMetadata) → Exactly (verdict m us terms limit ending) (answer m us terms limit) ending
+pub leads-exactly : (m : TableMetadata) (us : UpdateList) (terms : RunTerms) (lent : Lent) (ending : TableMetadata) → Exactly (verdict m us terms lent ending) (answer m us terms lent) ending
 unfolding verdict
-leads-exactly m us terms limit ending = (judged-ends (answer m us terms limit) ending, ends-judged (answer m us terms limit) ending)
+leads-exactly m us terms lent ending = (judged-ends (answer m us terms lent) ending, ends-judged (answer m us terms lent) ending)
 
 -- a call of `judge`, and a verdict that its contract allows
-pub judge-leads-exactly : (κs : Lfts 1) (a : Dens κs ps) (v : Verdict) (s : AtExit (endedOf 1 ps r) κs) → Post κs a v s → Exactly v (answer (a .0) (a .1 .0) (a .1 .1 .0) (now (a .1 .1 .1 .0))) (a .1 .1 .1 .1 .0)
-judge-leads-exactly κs a v s p = rw p (leads-exactly (a .0) (a .1 .0) (a .1 .1 .0) (now (a .1 .1 .1 .0)) (a .1 .1 .1 .1 .0))
+pub judge-leads-exactly : (κs : Lfts 2) (a : Dens κs ps) (v : Verdict) (s : AtExit (endedOf 2 ps r) κs) → Post κs a v s → Exactly v (answer (a .0) (a .1 .0) (a .1 .1 .0) (record { text = now (a .1 .1 .1 .0); offers = now (a .1 .1 .1 .1 .0) })) (a .1 .1 .1 .1 .1 .0)
+judge-leads-exactly κs a v s p = rw p (leads-exactly (a .0) (a .1 .0) (a .1 .1 .0) (record { text = now (a .1 .1 .1 .0); offers = now (a .1 .1 .1 .1 .0) }) (a .1 .1 .1 .1 .1 .0))

@@ -8,7 +8,7 @@ use Rattle.records.specs.declared.update.UpdateList.{UpdateList}
 use Rattle.records.specs.declared.run.RunTerms.{RunTerms}
 use Rattle.records.specs.declared.run.Answer.{Answer}
 use Rattle.rules.specs.Replies.{accepted}
-use Rattle.rules.specs.Answer.{answer}
+use Rattle.rules.specs.Answer.{Lent, answer}
 use Rattle.compare.specs.Parts.{firstDifference, noDifference}
 use Rattle.verdict.specs.declared.Verdict.{Verdict}
 
@@ -21,8 +21,8 @@ judged a ending =
       difference = cond (eqb (a .number) accepted) (firstDifference (a .metadata) ending) noDifference;
     }
 
-unfoldable pub verdict : TableMetadata → UpdateList → RunTerms → List ℕ → TableMetadata → Verdict
-verdict m us terms limit ending = judged (answer m us terms limit) ending
+unfoldable pub verdict : TableMetadata → UpdateList → RunTerms → Lent → TableMetadata → Verdict
+verdict m us terms lent ending = judged (answer m us terms lent) ending
 
 -- the run is accepted, and nothing differs
 abbrev pub leadsThere : Verdict → Bool

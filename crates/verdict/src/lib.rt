@@ -1,5 +1,5 @@
 // The auditor's first question: whether a stored log leads from a starting metadata to an ending one, and if not, what stands in the way.
-// Nothing is refused: any metadata, log, terms, limit text and ending get a verdict.
+// Nothing is refused: any metadata, log, terms, limit text, offers and ending get a verdict.
 ghost use mathlib.Core.Path.{_≡_};
 ghost use Rattle.verdict.specs.Judged.{leadsThere, verdict};
 use compare::difference::Difference;
@@ -20,11 +20,12 @@ pub fn judge(
     us: UpdateList,
     terms: RunTerms,
     limit: &[u8],
+    offers: &[u8],
     ending: TableMetadata,
 ) -> Verdict
-    ensures { λ r. ⌜ r ≡ verdict m us terms (now (limit .entry)) ending ⌝ }
+    ensures { λ r. ⌜ r ≡ verdict m us terms (record { text = now (limit .entry); offers = now (offers .entry) }) ending ⌝ }
 {
-    let answer = register::run(m, us, terms, limit);
+    let answer = register::run(m, us, terms, limit, offers);
     let number = answer.number;
     let place = answer.place;
     if number != 0 {

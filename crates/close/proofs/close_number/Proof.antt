@@ -13,15 +13,15 @@ use Rattle.close.proofs.Facts.{ends-is}
 use Rattle.close.proofs.close_number.Statement.{statement}
 use Rattle.close.proofs.close_number.Tie as tie
 
-unfit : (c : tie.After-is-default-unfit) {p : Metadata} {t : Bool} → Handed p (c .before .args .f) (c .before .args .refs) (c .before .args .schemas) (c .before .args .orders) → c .is-default-unfit .result ≡ t → isDefaultUnfit p ≡ t
-unfit c {p} q e = sym (c .is-default-unfit .ensures p (q .single) (q .columns) (q .sorts)) ∙ e
+unfit : (c : tie.After-is-default-unfit) {p : Metadata} {t : Bool} → Handed p (c .before .args .f) (c .before .args .refs) (c .before .args .schema) (c .before .args .orders) → c .is-default-unfit .result ≡ t → isDefaultUnfit p ≡ t
+unfit c {p} q e = sym (c .is-default-unfit .ensures p (q .single) (q .current) (q .sorts)) ∙ e
 
 ends : (c : tie.After-ends-elsewhere) {l : List Update} {p : Metadata} {t : Bool} → HistoryOf l p (c .before .before .before .args .h)
-    → Handed p (c .before .before .before .args .f) (c .before .before .before .args .refs) (c .before .before .before .args .schemas) (c .before .before .before .args .orders)
+    → Handed p (c .before .before .before .args .f) (c .before .before .before .args .refs) (c .before .before .before .args .schema) (c .before .before .before .args .orders)
     → c .ends-elsewhere .result ≡ t → endsElsewhere l p ≡ t
 ends c k q e = sym (c .ends-elsewhere .ensures ∙ ends-is (c .before .before .before .args .f) k (q .single)) ∙ e
 
-main : (c : tie.After-main-agrees) {p : Metadata} {t : Bool} → Handed p (c .before .before .before .before .before .args .f) (c .before .before .before .before .before .args .refs) (c .before .before .before .before .before .args .schemas) (c .before .before .before .before .before .args .orders)
+main : (c : tie.After-main-agrees) {p : Metadata} {t : Bool} → Handed p (c .before .before .before .before .before .args .f) (c .before .before .before .before .before .args .refs) (c .before .before .before .before .before .args .schema) (c .before .before .before .before .before .args .orders)
     → c .main-agrees .result ≡ t → mainAgrees p ≡ t
 unfolding mainAgrees
 main c q e = sym (c .main-agrees .ensures ∙ (λ i. sameOption eqZ (q .single i .current) (mainSnapshot (q .named i)))) ∙ e

@@ -11,7 +11,7 @@ use Rattle.builder.specs.Pieces.{idsOf}
 use Rattle.builder.proofs.Positions.{ids-ascend}
 use Rattle.close.specs.Facts.{additions, Told}
 use Rattle.refinement.specs.Standing.{Represents, termsOf}
-use Rattle.refinement.proofs.Beginning.{read-fields, read-snapshots, read-log, snapshots-ascend, laid-refs, laid-log, laid-schemas, laid-orders, schema-held, order-held}
+use Rattle.refinement.proofs.Beginning.{read-fields, read-snapshots, read-log, snapshots-ascend, laid-refs, laid-log, laid-schemas, laid-orders, schema-held, current-is, order-held}
 use Rattle.refinement.proofs.Closed.{handed, files-laid, files-fit, gone-fits, overfull-is, joins-fit, checks}
 use Rattle.close_alone.proofs.Before.{removal, asked, pieces, state, stands}
 use Rattle.close_alone.proofs.close_once.Statement.{statement}
@@ -45,14 +45,14 @@ module _ (c : tie.After-surplus) where
 
 module _ (c : tie.After-close-number) where
   abbrev filing : tie.After-surplus
-  filing = c .before .before
+  filing = c .before .before .before
 
   numbered : c .close-number .result ≡ firstOf (checks (E (start filing)))
   numbered =
       let s = start filing in
       let e = E s in
-      c .close-number .ensures (termsOf (asked (s .args .m) (s .args .terms) (s .args .text .now))) removal (now-state s .metadata) (filing .before .before .close-log .ensures .0 removal (now-state s .metadata) (told s)) (handed e)
-      (overfull-is e (filing .before .limit .ensures) (filing .surplus .ensures) (c .before .is-overfull .ensures))
+      c .close-number .ensures (termsOf (asked (s .args .m) (s .args .terms) (s .args .text .now))) removal (now-state s .metadata) (filing .before .before .close-log .ensures .0 removal (now-state s .metadata) (told s)) (handed e (c .before .get .result) (current-is e (c .before .get .result) (c .before .get .ensures .0)))
+      (overfull-is e (filing .before .limit .ensures) (filing .surplus .ensures) (c .before .before .is-overfull .ensures))
 
 pub close-once-spec : {M : Type 1} → statement M
 close-once-spec =
@@ -63,7 +63,8 @@ close-once-spec =
     (λ c κs. search needs)
     (λ c κs. files-fit (E (c .before .before .before .before .before)))
     (λ c κs. (files-fit (E (start c)), gone-within c))
-    (λ c κs. let e = E (start (c .before)) in (c .before .before .before .close-log .ensures .1, (laid-refs e, (laid-schemas e, (laid-orders e, (schema-held e, order-held e))))))
+    (λ c κs. let e = E (start (c .before)) in (laid-schemas e, schema-held e))
+    (λ c κs. let e = E (start (c .before .before)) in (c .before .before .before .before .close-log .ensures .1, (laid-refs e, (c .get .ensures .1, (laid-orders e, order-held e)))))
     (λ c κs. search needs)
     (λ c. search needs)
     (λ c κs. let f = filing (c .before) in (files-laid (E (start f)), (search needs, gone-within f)))

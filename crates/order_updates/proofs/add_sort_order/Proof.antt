@@ -14,14 +14,14 @@ use Rattle.order_updates.proofs.add_sort_order.Tie as tie
 -- the update, of kind 12
 module _ (s : tie.Start) where
   as-kind : s .args .u ≡ byKind 12 (s .args .u)
-  as-kind = of-kind (s .args .u) (s .pre .1 .1 .1 .1 .0) 12 (s .pre .1 .1 .1 .1 .1 .1)
+  as-kind = of-kind (s .args .u) (s .pre .1 .1 .1 .0) 12 (s .pre .1 .1 .1 .1 .1)
 
   read : readUpdate (s .args .u) ≡ readKind (byKind 12 (s .args .u))
-  read = read-kind (s .args .u) (s .pre .1 .1 .1 .1 .0) 12 (s .pre .1 .1 .1 .1 .1 .1)
+  read = read-kind (s .args .u) (s .pre .1 .1 .1 .0) 12 (s .pre .1 .1 .1 .1 .1)
 
   offered : LaidOrder (s .args .u .«sort_orders» .added)
   unfolding updateFormed
-  offered = given-order (s .args .u) (s .pre .1 .1 .1 .1 .0) (formed-kind (s .args .u) (s .pre .1 .1 .1 .1 .0) 12 (s .pre .1 .1 .1 .1 .1 .1) (s .pre .1 .1 .1 .1 .1 .0))
+  offered = given-order (s .args .u) (s .pre .1 .1 .1 .0) (formed-kind (s .args .u) (s .pre .1 .1 .1 .0) 12 (s .pre .1 .1 .1 .1 .1) (s .pre .1 .1 .1 .1 .0))
 
 returns : tie.Need-returns
 unfolding checks effect
@@ -40,5 +40,5 @@ add-sort-order-spec =
     tie.close
     (tie.spec
     (λ c κs. let s = c .before in
-    (s .pre .1 .1 .0, (s .pre .1 .1 .1 .0, (s .pre .0, (s .pre .1 .0, offered s)))))
+    (s .pre .1 .0, (s .pre .1 .1 .0, (s .pre .0, offered s))))
     returns)

@@ -13,26 +13,25 @@ use lib.ListN.{length}
 use Rattle.records.specs.Blanks.{noSortOrdersPart}
 use Rattle.records.specs.declared.counters.SortOrderId.{SortOrderId}
 use Rattle.records.specs.declared.schema.Schema.{Schema}
-use Rattle.records.specs.declared.schema.Schemas.{Schemas}
 use Rattle.records.specs.declared.«sort_order».SortOrder.{SortOrder}
 use Rattle.records.specs.declared.«sort_order».SortOrders.{SortOrders}
-use Rattle.rules.specs.Words.{eqZ, someWith, any, first, isEmpty, isIn, highest, put, firstOf, Check}
+use Rattle.rules.specs.Words.{eqZ, someWith, any, isEmpty, isIn, highest, put, firstOf, Check}
 use Rattle.rules.specs.Capacities.{sortOrderRoom, largestSortOrderId}
 use Rattle.rules.specs.Register as plain
 use Rattle.rules.specs.Register.{State, withOrders, withMetadata}
 use Rattle.rules.specs.Register.Update.{AddSortOrder}
-use Rattle.rules.specs.WellFormed.{fieldIds, hasSchema, orderBelow, ordersFormed}
+use Rattle.rules.specs.WellFormed.{fieldIds, orderBelow, ordersFormed}
 use Rattle.rules.specs.OrderUpdates.{reusedOrder, orderIds, newOrderId, isUnfit, addSortOrderChecks, addSortOrder}
 use Rattle.rules.specs.OrderUpdates as rule
-use Rattle.rules.specs.Layout.{readSchema, readSchemas, laidSchemas, readSortOrder, laidSortOrder, readSortOrders, laidSortOrders, laidFields}
+use Rattle.rules.specs.Layout.{readSchema, readSortOrder, laidSortOrder, readSortOrders, laidSortOrders, laidFields}
 use Rattle.rules.specs.Kinds.{laidUpdate, ofKind, withSortOrdersPart, withSortOrder, addSortOrderKind}
 use Rattle.rules.proofs.Checks.{by-test, Passed, passed}
-use Rattle.rules.proofs.Slots.Reread.{reread-schemas, reread-sort-orders}
+use Rattle.rules.proofs.Slots.Reread.{reread-sort-orders}
 use Rattle.tables.specs.Laid.{LaidOrder}
 use Rattle.tables.proofs.Table.{listed-length}
 use Rattle.tables.proofs.Each.{sortOrders}
 use Rattle.builder.specs.declared.builder.TableMetadataBuilder.{TableMetadataBuilder}
-use Rattle.builder.specs.Pieces.{laidBuilder}
+use Rattle.builder.specs.Pieces.{laidBuilder, IsCurrent}
 use Rattle.order_updates.specs.Orders.{addedOrder, OrderGrown}
 use Rattle.builder.proofs.Steps.{stepped-unless}
 use Rattle.builder.proofs.Choices.{given-back}
@@ -53,7 +52,7 @@ order-renamed : (o : SortOrder) → LaidOrder o → (id : SortOrderId) → LaidO
 unfolding laidSortOrder
 order-renamed o h id = record { back = λ i. record { «order_id» = id; items = h .back i .items; count = h .back i .count }; fits = h .fits }
 
-module _ (b : TableMetadataBuilder) (t : SortOrders) (schemas : Schemas) (o : SortOrder) (k : LaidOrder o) (id : SortOrderId) where
+module _ (b : TableMetadataBuilder) (t : SortOrders) (s : Schema) (o : SortOrder) (k : LaidOrder o) (id : SortOrderId) where
   at-state : (st : State) → t ≡ laidSortOrders (st .metadata .orders) → readSortOrders t ≡ st .metadata .orders
   at-state st q = ap (λ (x : SortOrders). readSortOrders x) q ∙ reread-sort-orders (st .metadata .orders)
 
@@ -63,11 +62,11 @@ module _ (b : TableMetadataBuilder) (t : SortOrders) (schemas : Schemas) (o : So
     held-at-state : (st : State) → t ≡ laidSortOrders (st .metadata .orders) → reusedOrder (readSortOrder o) (st .metadata .orders) ≡ some (id .0)
     held-at-state st q = ap (reusedOrder (readSortOrder o)) (sym (at-state st q)) ∙ e
 
-    held : (last : Bool) → last ≡ someWith (eqZ (id .0)) (addedOrder b) → OrderGrown b t schemas o (record { number = 0; logs = not last; grows = false; order = renamed id o; builder = after id b })
+    held : (last : Bool) → last ≡ someWith (eqZ (id .0)) (addedOrder b) → OrderGrown b t s o (record { number = 0; logs = not last; grows = false; order = renamed id o; builder = after id b })
     unfolding addSortOrderChecks addSortOrder laidBuilder laidFields laidUpdate
     held last x =
         record {
-          answers = λ st p s q.
+          answers = λ st p _ q.
               let l : last ≡ someWith (eqZ (id .0)) (st .added .order) = x ∙ ap (someWith (eqZ (id .0))) (ap (λ (y : TableMetadataBuilder). addedOrder y) p ∙ given-back (st .added .order)) in (
                 rw (held-at-state st q),
                 λ z. rw (held-at-state st q, addSortOrder, l, p) (stepped-unless (someWith (eqZ (id .0)) (st .added .order)) st (rule.addedOrder (id .0) st) (AddSortOrder (readSortOrder (renamed id o))) _ _ refl refl (ap (λ (y : SortOrder). withSortOrdersPart (withSortOrder y noSortOrdersPart) (ofKind addSortOrderKind)) (sym (order-renamed o k id .back)))),
@@ -92,7 +91,7 @@ module _ (b : TableMetadataBuilder) (t : SortOrders) (schemas : Schemas) (o : So
 
   module _ (e : reusedOrder (readSortOrder o) (readSortOrders t) ≡ none) (formed : ordersFormed (readSortOrders t) ≡ true)
       (exhausted : Bool) (x : exhausted ≡ largest (readSortOrders t)) (g : largest (readSortOrders t) ≡ false → id .0 ≡ newOrderId (readSortOrder o) (readSortOrders t))
-      (s : Schema) (c : first (hasSchema (b .fields .«current_schema_id» .0)) (readSchemas schemas) ≡ some (readSchema s)) (unfit : Bool) (v : unfit ≡ unfitFor (some (readSchema s)))
+      (unfit : Bool) (v : unfit ≡ unfitFor (some (readSchema s)))
       (number : ℕ) (n : number ≡ cond exhausted 18 (cond unfit 17 (cond (leb sortOrderRoom (t .count)) 19 0))) where
     new-at-state : (st : State) → t ≡ laidSortOrders (st .metadata .orders) → reusedOrder (readSortOrder o) (st .metadata .orders) ≡ none
     new-at-state st q = ap (reusedOrder (readSortOrder o)) (sym (at-state st q)) ∙ e
@@ -106,16 +105,10 @@ module _ (b : TableMetadataBuilder) (t : SortOrders) (schemas : Schemas) (o : So
     numbered : (st : State) → t ≡ laidSortOrders (st .metadata .orders) → number ≡ 0 → id .0 ≡ newOrderId (readSortOrder o) (st .metadata .orders)
     numbered st q z = g (accepted z .0) ∙ ap (newOrderId (readSortOrder o)) (at-state st q)
 
-    unfit-at-state : (st : State) → b ≡ laidBuilder st → schemas ≡ laidSchemas (st .metadata .schemas) → unfit ≡ isUnfit (readSortOrder o) (st .metadata)
-    unfolding laidBuilder laidFields
-    unfit-at-state st p r =
-        let y : first (hasSchema (st .metadata .fields .currentSchema)) (st .metadata .schemas) ≡ some (readSchema s) =
-        ap (first (hasSchema (st .metadata .fields .currentSchema))) (sym (ap (λ (d : Schemas). readSchemas d) r ∙ reread-schemas (st .metadata .schemas)))
-        ∙ ap (λ (d : TableMetadataBuilder). first (hasSchema (d .fields .«current_schema_id» .0)) (readSchemas schemas)) (sym p)
-        ∙ c in
-        v ∙ ap unfitFor (sym y)
+    unfit-at-state : (st : State) → IsCurrent (st .metadata) s → unfit ≡ isUnfit (readSortOrder o) (st .metadata)
+    unfit-at-state st y = v ∙ ap unfitFor (sym y)
 
-    new : OrderGrown b t schemas o (record { number = number; logs = true; grows = eqb number 0; order = renamed id o; builder = after id b })
+    new : OrderGrown b t s o (record { number = number; logs = true; grows = eqb number 0; order = renamed id o; builder = after id b })
     unfolding addSortOrderChecks addSortOrder laidBuilder laidFields laidUpdate
     new =
         record {
@@ -123,7 +116,7 @@ module _ (b : TableMetadataBuilder) (t : SortOrders) (schemas : Schemas) (o : So
               let m = st .metadata in
               let one : plain.SortOrder = record { id = newOrderId (readSortOrder o) (m .orders); fields = readSortOrder o .fields } in
               let end : State = rule.addedOrder (one .id) (withMetadata (withOrders (put orderBelow one (m .orders)) m) st) in (
-                checked ∙ rw (new-at-state st q, at-state st q, unfit-at-state st p r),
+                checked ∙ rw (new-at-state st q, at-state st q, unfit-at-state st r),
                 λ z.
                     let i : id ≡ record { 0 = one .id } = λ j. record { 0 = numbered st q z j } in
                     let y : laidSortOrder one ≡ renamed id o = ap (λ (d : ℤ). laidSortOrder (record { id = d; fields = readSortOrder o .fields })) (sym (numbered st q z)) ∙ order-renamed o k id .back in
@@ -141,20 +134,19 @@ returns c =
     let a = f .before in
     let r = f .reuse-or-create-new-sort-id in
     let yes = c .before .if1 .taken in
-    held (a .args .b) (a .args .t) (a .args .schemas) (a .args .o) (a .pre .1 .1 .1 .1) (r .result .id) (r .ensures .held yes) (r .result .«is_last») (r .ensures .again yes)
+    held (a .args .b) (a .args .t) (a .args .s) (a .args .o) (a .pre .1 .1 .1) (r .result .id) (r .ensures .held yes) (r .result .«is_last») (r .ensures .again yes)
 
 returns-2 : tie.Need-returns-2
 returns-2 c =
     let u = c .before .before .before in
-    let w = u .before in
-    let j = w .before .before in
+    let j = u .before in
     let f = j .before .before in
     let a = f .before in
     let r = f .reuse-or-create-new-sort-id in
     let no = j .if1 .left in
-    new (a .args .b) (a .args .t) (a .args .schemas) (a .args .o) (a .pre .1 .1 .1 .1) (r .result .id) (r .ensures .new no) (a .pre .1 .0)
+    new (a .args .b) (a .args .t) (a .args .s) (a .args .o) (a .pre .1 .1 .1) (r .result .id) (r .ensures .new no) (a .pre .1 .0)
     (r .result .exhausted) (r .ensures .over no) (r .ensures .gets no)
-    (w .get .result) (w .get .ensures .0) (u .is-unfit .result) (u .is-unfit .ensures)
+    (u .is-unfit .result) (u .is-unfit .ensures)
     (c .choose3 .result)
     (c .choose3 .ensures ∙ ap (cond (r .result .exhausted) 18) (c .before .choose2 .ensures ∙ ap (cond (u .is-unfit .result) 17) (c .before .before .choose .ensures)))
 
@@ -164,7 +156,6 @@ order-addition-spec =
     (tie.spec
     (λ c κs. search needs)
     returns
-    (λ c κs. search needs)
     (λ c κs. search needs)
     (λ c κs. search needs)
     (λ c κs. search needs)

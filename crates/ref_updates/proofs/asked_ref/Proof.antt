@@ -11,7 +11,7 @@ use Rattle.records.specs.Blanks.{noRef}
 use Rattle.records.specs.declared.reference.NamedRef.{NamedRef}
 use Rattle.rules.specs.Register as plain
 use Rattle.rules.specs.RefUpdates.{refNamed, sameReference}
-use Rattle.rules.specs.Layout.{given, readRefName, readReference, laidReference, readRef, laidRef, readRefs}
+use Rattle.rules.specs.Layout.{given, readName, readReference, laidReference, readRef, laidRef, readRefs}
 use Rattle.tables.proofs.Each.{ref-at}
 use Rattle.ref_updates.specs.Refs.{askedRef}
 use Rattle.ref_updates.proofs.Named.{named, named-there, named-within}
@@ -25,10 +25,10 @@ module _ (j : tie.Joined1) where
   begin = j .before .before .before .before
 
   -- the ref of the name, if there is one
-  known : refNamed (readRefName (begin .args .u .refs .name)) (readRefs (begin .args .t1)) ≡ given (ltb (j .before .before .find .result) (begin .args .t1 .count)) (readRef (j .if1 .old))
+  known : refNamed (readName (begin .args .u .refs .name)) (readRefs (begin .args .t1)) ≡ given (ltb (j .before .before .find .result) (begin .args .t1 .count)) (readRef (j .if1 .old))
   known =
       let f = j .before .before in
-      let n = readRefName (begin .args .u .refs .name) in
+      let n = readName (begin .args .u .refs .name) in
       ⊎-elim
       (λ w. named-there (begin .pre .0) n (f .find .ensures) _ (w .2))
       (λ w. named (begin .pre .0) n noRef (f .find .ensures) ∙ rw (le-ltb (f .find .result) (begin .args .t1 .count) (w .0 .left)))
@@ -50,7 +50,7 @@ returns c =
     let j = q .before .before in
     let s = begin j in
     let l = readRefs (s .args .t1) in
-    let n = readRefName (s .args .u .refs .name) in
+    let n = readName (s .args .u .refs .name) in
     let i = j .before .before .find .result in
     let held = ltb i (s .args .t1 .count) in
     let read : readReference (q .wanted .result) ≡ askedRef (s .args .u) l = rw (q .wanted .ensures) (wanted-read (s .args .u) held (j .if1 .old) n l (known j)) in

@@ -11,7 +11,7 @@ use Rattle.records.specs.declared.reference.NamedRef.{NamedRef}
 use Rattle.rules.specs.Register as plain
 use Rattle.rules.specs.RefUpdates.{isTag}
 use Rattle.rules.specs.WellFormed.{tag}
-use Rattle.rules.specs.Layout.{given, readRefName, readRef, readRefs}
+use Rattle.rules.specs.Layout.{given, readName, readRef, readRefs}
 use Rattle.ref_updates.proofs.Options.{of-set}
 use Rattle.ref_updates.proofs.Named.{named-within, named}
 use Rattle.ref_updates.proofs.is_tag.Statement.{statement}
@@ -19,8 +19,8 @@ use Rattle.ref_updates.proofs.is_tag.Tie as tie
 
 -- the rule's answer, by what stands at the place
 answer : (c : tie.After-find) (d : NamedRef) → let s = c .before in
-    isTag (readRefName (s .args .name)) (readRefs (s .args .t1)) ≡ someWith (λ (r : plain.NamedRef). eqb (r .reference .kind) tag) (given (ltb (c .find .result) (s .args .t1 .count)) (readRef (getD (s .args .t1 .items) (c .find .result) d)))
-answer c d = ap (someWith (λ (r : plain.NamedRef). eqb (r .reference .kind) tag)) (named (c .before .pre .0) (readRefName (c .before .args .name)) d (c .find .ensures))
+    isTag (readName (s .args .name)) (readRefs (s .args .t1)) ≡ someWith (λ (r : plain.NamedRef). eqb (r .reference .kind) tag) (given (ltb (c .find .result) (s .args .t1 .count)) (readRef (getD (s .args .t1 .items) (c .find .result) d)))
+answer c d = ap (someWith (λ (r : plain.NamedRef). eqb (r .reference .kind) tag)) (named (c .before .pre .0) (readName (c .before .args .name)) d (c .find .ensures))
 
 pub is-tag-spec : {M : Type 1} → statement M
 is-tag-spec =

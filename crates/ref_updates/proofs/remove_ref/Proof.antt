@@ -15,7 +15,7 @@ use Rattle.rules.specs.Names.{isMain}
 use Rattle.rules.specs.Register.{State, RemoveRef, withCurrent, onFields}
 use Rattle.rules.specs.RefUpdates.{refNamed, removeRef}
 use Rattle.rules.specs.Updates.{checks, effect}
-use Rattle.rules.specs.Layout.{readRefName, readRef, readRefs, laidRefs}
+use Rattle.rules.specs.Layout.{readName, readRef, readRefs, laidRefs}
 use Rattle.rules.specs.Kinds.{readUpdate, laidUpdate}
 use Rattle.rules.proofs.Slots.Relaid.{flag-given}
 use Rattle.rules.proofs.Slots.Reread.{reread-refs}
@@ -41,19 +41,19 @@ module _ (name : List ℕ) (st : State) {b : TableMetadataBuilder} {e : TableUpd
 -- ---- the update
 
 module _ (s : tie.Start) where
-  read : readUpdate (s .args .u) ≡ RemoveRef (readRefName (s .args .u .refs .name))
+  read : readUpdate (s .args .u) ≡ RemoveRef (readName (s .args .u .refs .name))
   read = read-kind (s .args .u) (s .pre .1 .1 .0) 8 (s .pre .1 .1 .1)
 
-  entry : s .args .u ≡ laidUpdate (RemoveRef (readRefName (s .args .u .refs .name)))
+  entry : s .args .u ≡ laidUpdate (RemoveRef (readName (s .args .u .refs .name)))
   unfolding laidUpdate
   entry = of-kind (s .args .u) (s .pre .1 .1 .0) 8 (s .pre .1 .1 .1) ∙ rw (s .pre .1 .0 .back)
 
 -- the name is held exactly if the place is within the count
 is-named : (c : tie.After-find) (st : State) → let s = c .before .before .before in
-    s .args .t ≡ laidRefs (st .metadata .refs) → isSome (refNamed (readRefName (s .args .u .refs .name)) (st .metadata .refs)) ≡ ltb (c .find .result) (s .args .t .count)
+    s .args .t ≡ laidRefs (st .metadata .refs) → isSome (refNamed (readName (s .args .u .refs .name)) (st .metadata .refs)) ≡ ltb (c .find .result) (s .args .t .count)
 is-named c st r =
     let s = c .before .before .before in
-    let n = readRefName (s .args .u .refs .name) in
+    let n = readName (s .args .u .refs .name) in
     ap isSome (ap (refNamed n) (sym (ap (λ (t : Refs). readRefs t) r ∙ reread-refs (st .metadata .refs))) ∙ named (s .pre .0) n noRef (c .find .ensures)) ∙ flag-given (ltb (c .find .result) (s .args .t .count)) (readRef (getD (s .args .t .items) (c .find .result) noRef))
 
 returns : tie.Need-returns
@@ -61,14 +61,14 @@ unfolding checks effect
 returns c terms st p q =
     let k = c .before .before .before in
     let s = k .before .before .before in
-    rw (c .decided .ensures, read s) (refl, λ z. main-gone (readRefName (s .args .u .refs .name)) st (entry s) (sym (k .before .is-main-name .ensures) ∙ c .before .before .if1 .taken) (c .before .without-current .ensures st p))
+    rw (c .decided .ensures, read s) (refl, λ z. main-gone (readName (s .args .u .refs .name)) st (entry s) (sym (k .before .is-main-name .ensures) ∙ c .before .before .if1 .taken) (c .before .without-current .ensures st p))
 
 returns-2 : tie.Need-returns-2
 unfolding checks effect
 returns-2 c terms st p q =
     let k = c .before .before in
     let s = k .before .before .before in
-    rw (c .decided2 .ensures, read s) (refl, λ z. other-gone (readRefName (s .args .u .refs .name)) st (entry s) (sym (k .before .is-main-name .ensures) ∙ c .before .if1 .left) (ltb (k .find .result) (s .args .t .count)) (is-named k st q) p)
+    rw (c .decided2 .ensures, read s) (refl, λ z. other-gone (readName (s .args .u .refs .name)) st (entry s) (sym (k .before .is-main-name .ensures) ∙ c .before .if1 .left) (ltb (k .find .result) (s .args .t .count)) (is-named k st q) p)
 
 pub remove-ref-spec : {M : Type 1} → statement M
 remove-ref-spec =

@@ -11,7 +11,7 @@ use Rattle.rules.specs.Register as plain
 use Rattle.rules.specs.Register.{SetRef}
 use Rattle.rules.specs.Words.{firstOf}
 use Rattle.rules.specs.RefUpdates.{isHeldRef, ownAfter}
-use Rattle.rules.specs.Layout.{readRefName, readReference, readRefs}
+use Rattle.rules.specs.Layout.{readName, readReference, readRefs}
 use Rattle.rules.specs.Kinds.{laidUpdate}
 use Rattle.rules.proofs.Checks.{and-left, and-right}
 use Rattle.rules.proofs.Slots.Reread.{reread-refs}
@@ -24,7 +24,7 @@ use Rattle.ref_updates.proofs.set_ref.Tie as tie
 
 -- the entry, laid out from what is read of the ref
 entry : (c : tie.After-setting) → let A = c .before .before .before .before .before .before .before in
-    c .setting .result ≡ laidUpdate (SetRef (readRefName (A .before .before .args .u .refs .name)) (readReference (A .asked-ref .result .reference)))
+    c .setting .result ≡ laidUpdate (SetRef (readName (A .before .before .args .u .refs .name)) (readReference (A .asked-ref .result .reference)))
 entry c =
     let A = c .before .before .before .before .before .before .before in
     let s = A .before .before in
@@ -48,7 +48,7 @@ new c z f =
     let r : c .setting .result .refs .reference ≡ x .result .reference = ap (λ (e : TableUpdate). e .refs .reference) (entry c) ∙ x .ensures .laid in
     record {
       laid = rw (n, r) (laid-ref (s .args .u .refs .name) (x .result .reference) (s .pre .1 .0) (x .ensures .laid));
-      room = λ e. has-room (s .args .held) (x .result .named) (s .args .t .count) (ch .before .before .is-main-name .result) (s .args .entries) (none-fails ch z f) (x .ensures .named ∙ unnamed (readRefName (s .args .u .refs .name)) (readRefs (s .args .t)) (rw n at e));
+      room = λ e. has-room (s .args .held) (x .result .named) (s .args .t .count) (ch .before .before .is-main-name .result) (s .args .entries) (none-fails ch z f) (x .ensures .named ∙ unnamed (readName (s .args .u .refs .name)) (readRefs (s .args .t)) (rw n at e));
     }
 
 returns : tie.Need-returns
@@ -60,7 +60,7 @@ returns c =
     let s = A .before .before in
     let x = A .asked-ref in
     let u = s .args .u in
-    let name = readRefName (u .refs .name) in
+    let name = readName (u .refs .name) in
     record {
       answers = λ terms st F.
           let l : readRefs (s .args .t) ≡ st .metadata .refs = ap (λ (t : Refs). readRefs t) (F .refs) ∙ reread-refs (st .metadata .refs) in

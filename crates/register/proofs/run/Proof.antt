@@ -25,7 +25,7 @@ use Rattle.rules.specs.Register.StatisticsTable.{Statistics, PartitionStatistic
 use Rattle.rules.specs.WellFormed.{updateFormed, snapshotBelow}
 use Rattle.rules.specs.SnapshotUpdates.{addSnapshotChecks}
 use Rattle.rules.specs.Run.{weight, listSum}
-use Rattle.rules.specs.Layout.{pad, readSnapshot, laidSnapshot, laidSnapshots, readSnapshotIds, readRefName}
+use Rattle.rules.specs.Layout.{pad, readSnapshot, laidSnapshot, laidSnapshots, readSnapshotIds, readName}
 use Rattle.rules.specs.Kinds.{isTidyUpdate, readUpdate, readUpdates, addSnapshotKind, setBranchSnapshotKind, setRefKind, addSchemaKind, readKind}
 use Rattle.close.specs.Answers.{HistoryOf}
 use Rattle.rules.proofs.Checks.{and-left, and-right, by-either, neither}
@@ -42,7 +42,7 @@ use Rattle.start.proofs.Started.{refused-start}
 use Rattle.refinement.specs.Standing.{Given, termsOf, Pieces, Represents, Standing, OwnTable, Slots, withTable, ownLists, laidOf}
 use Rattle.refinement.specs.Standing.OwnTable.{ofSchemas, ofOrders, ofStatistics}
 use Rattle.refinement.specs.Turns.{nothing, updateAt, nameAt, Midway, Stands, Decided, Turn}
-use Rattle.refinement.proofs.Beginning.{start-snapshots, start-log, start-short, standing-start, laid-snapshots, laid-refs, laid-log, laid-schemas, laid-orders, laid-statistics, statistics-ascend, location-fits, snapshots-ascend, schemas-ascend, refs-ascend, orders-formed, schema-held, order-held}
+use Rattle.refinement.proofs.Beginning.{start-snapshots, start-log, start-short, standing-start, laid-snapshots, laid-refs, laid-log, laid-schemas, laid-orders, laid-statistics, statistics-ascend, location-fits, snapshots-ascend, schemas-ascend, refs-ascend, orders-formed, schema-held, current-is, order-held}
 use Rattle.refinement.proofs.Closed.{held-ids, held-ascend, held-fits, held-within, held-slice, adds-within, added-slice, mains-within, main-slice, adds-most, mains-most, told, handed, files-laid, files-fit, gone-fits, overfull-is, joins-fit, stay-is, gone-is, checks, close-refused, close-accepted}
 use Rattle.refinement.proofs.Moving.{fits, ends}
 use Rattle.refinement.proofs.Deciding.{whole, not-formed-decided, fields-decided, refs-decided, refs-left, tabled, numberOf, own-decided}
@@ -68,15 +68,15 @@ and-second a b e h = rw e at h
 
 -- the sum of the updates passed, and of the rest of a list that is not too long, make the list's sum
 abbrev Inv-loop : tie.InvT-loop
-Inv-loop metadata terms text updates first clock listed added main-targets adds mains removal sum₀ number entries builder decision snapshots ids refs log last schemas orders statistics partitions count place₀ waits half begun sum place =
+Inv-loop metadata terms text offers updates first clock listed added main-targets adds mains removal sum₀ number entries builder decision snapshots ids refs log last schemas orders statistics partitions count place₀ waits half begun sum place =
     (place ≤ 64) × (sum ≤ 2 * place) × (listed ≤ 64 → (place ≤ listed) × (sum + total weight (drop place (readUpdates updates)) ≡ listSum (readUpdates updates)))
 
 abbrev μ-loop : tie.MeasureT-loop
-μ-loop metadata terms text updates first clock listed added main-targets adds mains removal sum₀ number entries builder decision snapshots ids refs log last schemas orders statistics partitions count place₀ waits half begun sum place = 64 - place
+μ-loop metadata terms text offers updates first clock listed added main-targets adds mains removal sum₀ number entries builder decision snapshots ids refs log last schemas orders statistics partitions count place₀ waits half begun sum place = 64 - place
 
 abbrev Inv-loop2 : tie.InvT-loop2
-Inv-loop2 metadata terms text updates first clock listed added₀ main-targets₀ adds₀ mains₀ removal₀ sum number₀ entries₀ builder₀ decision₀ snapshots₀ ids₀ refs₀ log₀ last₀ schemas₀ orders₀ statistics₀ partitions₀ count₀ place₀ waits₀ half₀ begun₀ added main-targets adds mains removal number entries builder decision snapshots ids refs log last schemas orders statistics partitions count place waits half begun =
-    Turn (record { metadata = metadata; updates = updates; terms = terms; text = text }) number place waits half
+Inv-loop2 metadata terms text offers updates first clock listed added₀ main-targets₀ adds₀ mains₀ removal₀ sum number₀ entries₀ builder₀ decision₀ snapshots₀ ids₀ refs₀ log₀ last₀ schemas₀ orders₀ statistics₀ partitions₀ count₀ place₀ waits₀ half₀ begun₀ added main-targets adds mains removal number entries builder decision snapshots ids refs log last schemas orders statistics partitions count place waits half begun =
+    Turn (record { metadata = metadata; updates = updates; terms = terms; lent = record { text = text; offers = offers } }) number place waits half
     (record {
       held = record { builder = builder; snapshots = snapshots; ids = ids; refs = refs; log = log; last = last; ownTables = record { schemas = schemas; orders = orders; statistics = statistics; partitionStatistics = partitions } };
       changes = record { entries = entries; count = count; added = added; adds = adds; mainTargets = main-targets; mains = mains; removal = removal };
@@ -84,17 +84,17 @@ Inv-loop2 metadata terms text updates first clock listed added₀ main-targets�
     decision
 
 abbrev μ-loop2 : tie.MeasureT-loop2
-μ-loop2 metadata terms text updates first clock listed added₀ main-targets₀ adds₀ mains₀ removal₀ sum number₀ entries₀ builder₀ decision₀ snapshots₀ ids₀ refs₀ log₀ last₀ schemas₀ orders₀ statistics₀ partitions₀ count₀ place₀ waits₀ half₀ begun₀ added main-targets adds mains removal number entries builder decision snapshots ids refs log last schemas orders statistics partitions count place waits half begun =
+μ-loop2 metadata terms text offers updates first clock listed added₀ main-targets₀ adds₀ mains₀ removal₀ sum number₀ entries₀ builder₀ decision₀ snapshots₀ ids₀ refs₀ log₀ last₀ schemas₀ orders₀ statistics₀ partitions₀ count₀ place₀ waits₀ half₀ begun₀ added main-targets adds mains removal number entries builder decision snapshots ids refs log last schemas orders statistics partitions count place waits half begun =
     cond (eqb number 0) (4 * (listed - place) + turns waits half) 0
 
 -- ---- before the loops
 
 abbrev begin : tie.After-partition-statistics Inv-loop μ-loop Inv-loop2 μ-loop2 → tie.Start Inv-loop μ-loop Inv-loop2 μ-loop2
-begin c = c .before .before .before .before .before .before .before .before .before .before .before .before .before .before .before
+begin c = c .before .before .before .before .before .before .before .before .before .before .before .before .before .before .before .before
 
 -- what the run is given
 abbrev G : tie.After-partition-statistics Inv-loop μ-loop Inv-loop2 μ-loop2 → Given
-G c = record { metadata = begin c .args .metadata; updates = begin c .args .t2; terms = begin c .args .terms; text = begin c .args .text .now }
+G c = record { metadata = begin c .args .metadata; updates = begin c .args .t2; terms = begin c .args .terms; lent = record { text = begin c .args .text .now; offers = begin c .args .offers .now } }
 
 long : (c : tie.After-partition-statistics Inv-loop μ-loop Inv-loop2 μ-loop2) → length (G c .updates .items) ≡ 64
 long c = sym (length-map (G c .updates .items) _) ∙ begin c .good .1 .0 .1 .1 .0 .1 .0 .1
@@ -490,12 +490,12 @@ module _ (c : tie.After-surplus Inv-loop μ-loop Inv-loop2 μ-loop2) where
 
 module _ (c : tie.After-close-number Inv-loop μ-loop Inv-loop2 μ-loop2) where
   abbrev filing : tie.After-surplus Inv-loop μ-loop Inv-loop2 μ-loop2
-  filing = c .before .before
+  filing = c .before .before .before
 
   numbered : c .close-number .result ≡ firstOf (checks (E filing))
   numbered =
-      c .close-number .ensures (termsOf (given (end-at (closing filing)))) (end (closing filing) .state .log) (end (closing filing) .state .metadata) (history filing) (handed (E filing))
-      (overfull-is (E filing) (filing .before .limit .ensures) (filing .surplus .ensures) (c .before .is-overfull .ensures))
+      c .close-number .ensures (termsOf (given (end-at (closing filing)))) (end (closing filing) .state .log) (end (closing filing) .state .metadata) (history filing) (handed (E filing) (c .before .get2 .result) (current-is (E filing) (c .before .get2 .result) (c .before .get2 .ensures .0)))
+      (overfull-is (E filing) (filing .before .limit .ensures) (filing .surplus .ensures) (c .before .before .is-overfull .ensures))
 
 loop-holds : tie.Need-loop-holds Inv-loop μ-loop Inv-loop2 μ-loop2
 unfolding listSum
@@ -510,7 +510,7 @@ loop2-holds c =
     record {
       within = omega arith;
       short = λ z. start-short g (sym n ∙ z);
-      refused = λ z. refused-start (g .metadata) (g .updates) (g .terms) (g .text) _ (sym n) z;
+      refused = λ z. refused-start (g .metadata) (g .updates) (g .terms) (g .lent) _ (sym n) z;
       stands = λ z _. whole (standing-start g (sym n ∙ z) (orders .before .before .before .before .before .before .before .before .new-from-metadata .ensures) (orders .before .before .before .before .before .ids-of .ensures (start-snapshots g (sym n ∙ z))) (orders .before .before .last-time .ensures (start-log g (sym n ∙ z))) (orders .before .before .before .before .before .before .before .before .before .before .before .blank .ensures));
       waits = λ _ f. absurd (false≢true f);
     }
@@ -653,7 +653,7 @@ loop2-again-12 c =
     let T = s .stands .tables in
     let q = t .if12 .taken in
     waits-now (deciding e) (refs-decided s (readUpdate (u e)) (at (deciding e)) (one (deciding e)) (formed e) (c .before .remove-ref .ensures (terms e) (s .state) (T .builder) (T .refs)) (is-ref-removal (u e) (formed e) q)
-    (λ z. refs-left (s .stands) (readUpdate (u e)) (readRefName (u e .refs .name)) (read-remove-ref (u e) (formed e) q) (c .without2 .ensures)))
+    (λ z. refs-left (s .stands) (readUpdate (u e)) (readName (u e .refs .name)) (read-remove-ref (u e) (formed e) q) (c .without2 .ensures)))
 
 loop2-again-13 : tie.Need-loop2-again-13 Inv-loop μ-loop Inv-loop2 μ-loop2
 loop2-again-13 c =
@@ -662,17 +662,17 @@ loop2-again-13 c =
     let s = shaped t in
     let T = s .stands .tables in
     let D = c .before .decide2 .ensures in
-    own e s ofSchemas (is-schemas (u e) (formed e) (beyond (t .before)) (t .if13 .taken)) (D .answers (terms e) (s .state) (T .builder) (T .ownTables .schemas))
-    (λ z. c .after2 .ensures ∙ D .table (terms e) (s .state) (T .ownTables .schemas) z)
+    own e s ofSchemas (is-schemas (u e) (formed e) (beyond (t .before)) (t .if13 .taken)) (D .answers (terms e) (s .state) refl (T .builder) (T .ownTables .schemas))
+    (λ z. c .after2 .ensures ∙ D .table (terms e) (s .state) refl (T .ownTables .schemas) z)
 
 loop2-again-14 : tie.Need-loop2-again-14 Inv-loop μ-loop Inv-loop2 μ-loop2
 loop2-again-14 c =
-    let t = c .before .before in
+    let t = c .before .before .before .before in
     let e = ordering t in
     let s = ordered t in
     let T = s .stands .tables in
     let D = c .before .decide3 .ensures in
-    own e s ofOrders (is-orders (u e) (formed e) (t .before .if13 .left) (t .if14 .taken)) (D .answers (terms e) (s .state) (T .builder) (T .ownTables .schemas) (T .ownTables .orders))
+    own e s ofOrders (is-orders (u e) (formed e) (t .before .if13 .left) (t .if14 .taken)) (D .answers (terms e) (s .state) (T .builder) (current-is (s .stands) (c .before .before .get .result) (c .before .before .get .ensures .0)) (T .ownTables .orders))
     (λ z. c .after3 .ensures ∙ D .table (terms e) (s .state) (T .ownTables .orders) z)
 
 loop2-again-15 : tie.Need-loop2-again-15 Inv-loop μ-loop Inv-loop2 μ-loop2
@@ -820,9 +820,10 @@ run-spec =
     (λ c κs. (laid-schemas (shaped (c .before) .stands), c .decide2 .ensures .next))
     (λ c. turn-less (deciding (shaping (c .before .before))))
     loop2-again-13
-    (λ c κs. let e = ordering c in let E = ordered c .stands in (laid-schemas E, (schema-held E, (laid-orders E, (orders-formed E, (tidy e, (by-kind e, (omega (arith, c .before .if13 .left), c .if14 .taken))))))))
-    (λ c κs. (laid-orders (ordered (c .before) .stands), c .decide3 .ensures .new))
-    (λ c. turn-less (deciding (ordering (c .before .before))))
+    (λ c κs. let E = ordered (c .before) .stands in (laid-schemas E, schema-held E))
+    (λ c κs. let t = c .before .before in let e = ordering t in let E = ordered t .stands in (c .get .ensures .1, (laid-orders E, (orders-formed E, (tidy e, (by-kind e, (omega (arith, t .before .if13 .left), t .if14 .taken)))))))
+    (λ c κs. (laid-orders (ordered (c .before .before .before) .stands), c .decide3 .ensures .new))
+    (λ c. turn-less (deciding (ordering (c .before .before .before .before))))
     loop2-again-14
     (λ c κs. let e = filing-at c in (laid-statistics (filed c .stands) Statistics, (tidy e, by-kind e)))
     (λ c κs. let E = filed (c .before) .stands in (laid-statistics E Statistics, (statistics-ascend E Statistics, c .decide4 .ensures .new)))
@@ -844,7 +845,8 @@ run-spec =
     (λ c κs. search needs)
     (λ c κs. files-fit (end (c .before .before .before .before .before .before) .stands))
     (λ c κs. (files-fit (E c), gone-within c))
-    (λ c κs. let e = E (c .before) in (c .before .before .before .close-log .ensures .1, (laid-refs e, (laid-schemas e, (laid-orders e, (schema-held e, order-held e))))))
+    (λ c κs. let e = E (c .before) in (laid-schemas e, schema-held e))
+    (λ c κs. let e = E (c .before .before) in (c .before .before .before .before .close-log .ensures .1, (laid-refs e, (c .get2 .ensures .1, (laid-orders e, order-held e)))))
     (λ c κs. search needs)
     (λ c. let n = c .before .before in let e = closing (filing n) in c .refused2 .ensures ∙ close-refused (E (filing n)) _ (numbered n) (c .before .if17 .taken) ∙ ends (end e) (passed e))
     (λ c κs. let f = filing (c .before) in (files-laid (E f), (search needs, gone-within f)))

@@ -24,7 +24,7 @@ use Rattle.rules.specs.Run.{weight, listSum, started, run}
 use Rattle.rules.specs.Blanks.{isTidyMetadata, isTidyMetadataLog}
 use Rattle.rules.specs.Layout.{readMetadata, laidMetadataLog}
 use Rattle.rules.specs.Kinds.{isTidyUpdate, laidUpdate, readUpdates, laidUpdates}
-use Rattle.rules.specs.Answer.{readTerms, laidOutcome, answer}
+use Rattle.rules.specs.Answer.{Lent, readTerms, laidOutcome, answer}
 use Rattle.rules.proofs.Checks.{by-test, by-option, both, and-left, and-right}
 use Rattle.rules.proofs.Tables.{all-head, all-tail, all-append, log-all, log-formed}
 use Rattle.rules.proofs.Tables as tables
@@ -151,8 +151,8 @@ run-fits m terms p us (Accepted m′ log gone) e =
     let k = log-fits terms p us m′ log gone e in
     record { changes = changes-fit log (k .0) (omega (arith, k .1, length-light log (k .0))); expired = tidy-metadata-log gone (accepted-expired terms p us m′ log gone e) }
 
-pub answer-fits : (m : TableMetadata) (us : UpdateList) (terms : RunTerms) (limit : List ℕ) → AnswerFits (answer m us terms limit)
+pub answer-fits : (m : TableMetadata) (us : UpdateList) (terms : RunTerms) (lent : Lent) → AnswerFits (answer m us terms lent)
 unfolding answer
-answer-fits m us terms limit =
-    let r : Outcome = run (readTerms terms limit) (readMetadata m) (readUpdates us) in
-    by-test (λ (o : Outcome). AnswerFits (laidOutcome m o)) (isTidyMetadata m) (λ e. run-fits m (readTerms terms limit) (readMetadata m) (readUpdates us) r refl) (λ e. refused-fits m startNotFormed 0)
+answer-fits m us terms lent =
+    let r : Outcome = run (readTerms terms lent) (readMetadata m) (readUpdates us) in
+    by-test (λ (o : Outcome). AnswerFits (laidOutcome m o)) (isTidyMetadata m) (λ e. run-fits m (readTerms terms lent) (readMetadata m) (readUpdates us) r refl) (λ e. refused-fits m startNotFormed 0)

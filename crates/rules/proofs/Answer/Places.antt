@@ -17,6 +17,7 @@ use Rattle.rules.specs.WellFormed.{updateFormed}
 use Rattle.rules.specs.SingleUpdates.{upgradeFormatVersionChecks}
 use Rattle.rules.specs.SnapshotUpdates.{addSnapshotChecks, addSnapshot}
 use Rattle.rules.specs.RefUpdates.{isHeldRef, setRefChecks, committed, setBranchSnapshotChecks}
+use Rattle.rules.specs.Offers.{offeredSchema}
 use Rattle.rules.specs.SchemaUpdates.{reusedSchema, addSchemaChecks, setCurrentSchemaChecks, removeSchemasChecks}
 use Rattle.rules.specs.OrderUpdates.{reusedOrder, addSortOrderChecks, setDefaultSortOrderChecks}
 use Rattle.rules.specs.StatisticsUpdates.{setStatisticsChecks}
@@ -82,7 +83,7 @@ update-numbers terms (SetBranchSnapshot name s) st =
 update-numbers terms (RemoveSnapshots ids) st = refl
 update-numbers terms (SetRef name r) st = set-ref-numbers name r st
 update-numbers terms (RemoveRef name) st = refl
-update-numbers terms (AddSchema s) st = add-schema-numbers s st
+update-numbers terms (AddSchema o) st = add-schema-numbers (offeredSchema (terms .offers) o) st
 update-numbers terms (SetCurrentSchema id) st = refl
 update-numbers terms (RemoveSchemas ids) st = refl
 update-numbers terms (AddSortOrder o) st = add-order-numbers o st

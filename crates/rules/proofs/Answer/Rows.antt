@@ -15,7 +15,7 @@ use Rattle.rules.specs.WellFormed.{metadataFormed}
 use Rattle.rules.specs.Blanks.{isTidyMetadata}
 use Rattle.rules.specs.Layout.{readMetadata}
 use Rattle.rules.specs.Kinds.{readUpdates}
-use Rattle.rules.specs.Answer.{readTerms, answer}
+use Rattle.rules.specs.Answer.{Lent, readTerms, answer}
 use Rattle.rules.specs.Rows.{newSnapshots, isApart, isFormedAndApart}
 use Rattle.rules.proofs.Checks.{both, and-right}
 use Rattle.rules.proofs.Rows.Runs.{Adds, adds-none, logs-new, run-adds}
@@ -42,29 +42,29 @@ accepted-or-not {P} number f g = go (eqb number 0) refl
     go true e = f (eqb-true number 0 e)
     go false e = g (eqb-false number 0 e)
 
-module _ (m : TableMetadata) (us : UpdateList) (terms : RunTerms) (limit : List ℕ) where
+module _ (m : TableMetadata) (us : UpdateList) (terms : RunTerms) (lent : Lent) where
   -- from version 3 an accepted answer's changes add what the additions and branch commits of its list are to add, in order
-  pub answer-logs-new : readMetadata m .fields .version ≡ 3 → answer m us terms limit .number ≡ 0 → newIn (answer m us terms limit) ≡ newSnapshots (readUpdates us)
-  answer-logs-new v e = logs-new (readTerms terms limit) (readMetadata m) (readUpdates us) _ _ _ (answer-read m us terms limit e) v
+  pub answer-logs-new : readMetadata m .fields .version ≡ 3 → answer m us terms lent .number ≡ 0 → newIn (answer m us terms lent) ≡ newSnapshots (readUpdates us)
+  answer-logs-new v e = logs-new (readTerms terms lent) (readMetadata m) (readUpdates us) _ _ _ (answer-read m us terms lent e) v
 
   -- from version 3 an answer, accepted or not, leads to its metadata by what its changes add
-  pub answer-adds : readMetadata m .fields .version ≡ 3 → Adds (readMetadata m) (readMetadata (answer m us terms limit .metadata)) (newIn (answer m us terms limit))
+  pub answer-adds : readMetadata m .fields .version ≡ 3 → Adds (readMetadata m) (readMetadata (answer m us terms lent .metadata)) (newIn (answer m us terms lent))
   answer-adds v =
-      accepted-or-not (answer m us terms limit .number)
-      (λ e. run-adds (readTerms terms limit) (readMetadata m) (readUpdates us) _ _ _ (answer-read m us terms limit e) v)
-      (λ n. unchanged-adds m (answer m us terms limit) (answer-refused m us terms limit n) v)
+      accepted-or-not (answer m us terms lent .number)
+      (λ e. run-adds (readTerms terms lent) (readMetadata m) (readUpdates us) _ _ _ (answer-read m us terms lent e) v)
+      (λ n. unchanged-adds m (answer m us terms lent) (answer-refused m us terms lent n) v)
 
   -- metadata that is apart is answered by metadata that is apart
-  pub answer-apart-stays : isApart (readMetadata m) ≡ true → isApart (readMetadata (answer m us terms limit .metadata)) ≡ true
+  pub answer-apart-stays : isApart (readMetadata m) ≡ true → isApart (readMetadata (answer m us terms lent .metadata)) ≡ true
   answer-apart-stays h =
-      accepted-or-not (answer m us terms limit .number)
-      (λ e. apart-stays (readTerms terms limit) (readMetadata m) (readUpdates us) _ _ _ (answer-read m us terms limit e) h)
-      (λ n. rw (answer-refused m us terms limit n .metadata) h)
+      accepted-or-not (answer m us terms lent .number)
+      (λ e. apart-stays (readTerms terms lent) (readMetadata m) (readUpdates us) _ _ _ (answer-read m us terms lent e) h)
+      (λ n. rw (answer-refused m us terms lent n .metadata) h)
 
   -- and so is metadata of which `row_ranges::rows_apart` is true, well formed with blank unused places: an accepted answer is, and a refused one is the start
-  pub answer-rows-apart-stays : isFormedAndApart m ≡ true → isFormedAndApart (answer m us terms limit .metadata) ≡ true
+  pub answer-rows-apart-stays : isFormedAndApart m ≡ true → isFormedAndApart (answer m us terms lent .metadata) ≡ true
   answer-rows-apart-stays h =
-      accepted-or-not (answer m us terms limit .number)
-      (λ e. let f : Formed (answer m us terms limit .metadata) = answer-formed m us terms limit e in
+      accepted-or-not (answer m us terms lent .number)
+      (λ e. let f : Formed (answer m us terms lent .metadata) = answer-formed m us terms lent e in
       both (both (f .tidy) (f .formed)) (answer-apart-stays (and-right (isTidyMetadata m && metadataFormed (readMetadata m)) (isApart (readMetadata m)) h)))
-      (λ n. rw (answer-refused m us terms limit n .metadata) h)
+      (λ n. rw (answer-refused m us terms lent n .metadata) h)

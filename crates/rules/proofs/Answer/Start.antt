@@ -23,7 +23,7 @@ use Rattle.rules.specs.Run.Ran.{Stopped, Reached}
 use Rattle.rules.specs.Blanks.{isTidyMetadata}
 use Rattle.rules.specs.Layout.{readMetadata}
 use Rattle.rules.specs.Kinds.{readUpdates}
-use Rattle.rules.specs.Answer.{readTerms, laidOutcome, answer}
+use Rattle.rules.specs.Answer.{Lent, readTerms, laidOutcome, answer}
 use Rattle.rules.proofs.Checks.{by-test, and-left, and-right}
 use Rattle.rules.proofs.Answer.Places.{update-numbered, close-numbered}
 
@@ -70,24 +70,24 @@ run-not-one terms m us f =
     later-not-one false true z = omega (arith, z)
     later-not-one false false z = omega (arith, z)
 
-module _ (m : TableMetadata) (us : UpdateList) (terms : RunTerms) (limit : List ℕ) where
+module _ (m : TableMetadata) (us : UpdateList) (terms : RunTerms) (lent : Lent) where
   -- the metadata is tidy and well formed, and the current file's name is not too long
   abbrev pub isFormedStart : Bool
-  isFormedStart = isTidyMetadata m && startFormed (readTerms terms limit) (readMetadata m)
+  isFormedStart = isTidyMetadata m && startFormed (readTerms terms lent) (readMetadata m)
 
-  pub not-formed-one : isFormedStart ≡ false → answer m us terms limit .number ≡ startNotFormed
+  pub not-formed-one : isFormedStart ≡ false → answer m us terms lent .number ≡ startNotFormed
   unfolding answer laidOutcome run startChecks
   not-formed-one e =
       cases (isTidyMetadata m)
-      (λ t. let f : startFormed (readTerms terms limit) (readMetadata m) ≡ false = rw t at e in rw (t, f))
+      (λ t. let f : startFormed (readTerms terms lent) (readMetadata m) ≡ false = rw t at e in rw (t, f))
       (λ f. rw f)
 
-  pub formed-not-one : isFormedStart ≡ true → answer m us terms limit .number ≡ startNotFormed → ⊥
+  pub formed-not-one : isFormedStart ≡ true → answer m us terms lent .number ≡ startNotFormed → ⊥
   unfolding answer laidOutcome
   formed-not-one e =
-      let t : isTidyMetadata m ≡ true = and-left (isTidyMetadata m) (startFormed (readTerms terms limit) (readMetadata m)) e in
-      let f : startFormed (readTerms terms limit) (readMetadata m) ≡ true = and-right (isTidyMetadata m) (startFormed (readTerms terms limit) (readMetadata m)) e in
-      rw t (laid-not-one (run (readTerms terms limit) (readMetadata m) (readUpdates us)) (run-not-one (readTerms terms limit) (readMetadata m) (readUpdates us) f))
+      let t : isTidyMetadata m ≡ true = and-left (isTidyMetadata m) (startFormed (readTerms terms lent) (readMetadata m)) e in
+      let f : startFormed (readTerms terms lent) (readMetadata m) ≡ true = and-right (isTidyMetadata m) (startFormed (readTerms terms lent) (readMetadata m)) e in
+      rw t (laid-not-one (run (readTerms terms lent) (readMetadata m) (readUpdates us)) (run-not-one (readTerms terms lent) (readMetadata m) (readUpdates us) f))
     where
       laid-not-one : (o : Outcome) → NotOne o → laidOutcome m o .number ≡ startNotFormed → ⊥
       laid-not-one (Refused number place) h = h

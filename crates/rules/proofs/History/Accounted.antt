@@ -18,6 +18,7 @@ use Rattle.rules.specs.Moment.{logsRemoved}
 use Rattle.rules.specs.SingleUpdates.{assignUuid, upgradeFormatVersion, setLocation}
 use Rattle.rules.specs.SnapshotUpdates.{addSnapshotChecks, addSnapshot, heldSnapshots, otherSnapshots, removeSnapshots}
 use Rattle.rules.specs.RefUpdates.{refNamed, isHeldRef, setRefChecks, setRef, committed, setBranchSnapshot, removeRef}
+use Rattle.rules.specs.Offers.{offeredSchema}
 use Rattle.rules.specs.SchemaUpdates.{reusedSchema, addSchema, chosen, setCurrentSchema, removeSchemas}
 use Rattle.rules.specs.OrderUpdates.{reusedOrder, addSortOrder, setDefaultSortOrder}
 use Rattle.rules.specs.Register.StatisticsTable.{Statistics, PartitionStatistics}
@@ -219,10 +220,10 @@ module _ (m : Metadata) where
   effect-accounted terms (RemoveRef name) st e a =
       let b : Accounted (st .metadata .snapshots) (st .metadata .snapshotLog) (st .log ++ (RemoveRef name ∷ [])) = logs-quiet (RemoveRef name) (λ id. refl) a in
       by-test AccountedState (isMain name) (λ q. b) (λ q. by-test AccountedState (isSome (refNamed name (st .metadata .refs))) (λ p. b) (λ p. a))
-  effect-accounted terms (AddSchema s) st e a =
-      by-option AccountedState (reusedSchema s (st .metadata .schemas))
+  effect-accounted terms (AddSchema o) st e a =
+      by-option AccountedState (reusedSchema (offeredSchema (terms .offers) o) (st .metadata .schemas))
       (λ q. logs-quiet (AddSchema _) (λ id. refl) a)
-      (λ id q. by-test AccountedState (someWith (eqZ id) (st .added .schema)) (λ p. a) (λ p. logs-quiet (AddSchema s) (λ id. refl) a))
+      (λ id q. by-test AccountedState (someWith (eqZ id) (st .added .schema)) (λ p. a) (λ p. logs-quiet (AddSchema o) (λ id. refl) a))
   effect-accounted terms (SetCurrentSchema id) st e a = by-test AccountedState (eqZ (chosen id (st .added .schema)) (st .metadata .fields .currentSchema)) (λ q. a) (λ q. logs-quiet (SetCurrentSchema _) (λ id. refl) a)
   effect-accounted terms (RemoveSchemas ids) st e a = by-test AccountedState (isEmpty ids) (λ q. a) (λ q. logs-quiet (RemoveSchemas _) (λ id. refl) a)
   effect-accounted terms (AddSortOrder o) st e a =

@@ -11,7 +11,7 @@ use Rattle.rules.specs.Capacities.{refRoom}
 use Rattle.rules.specs.Names.{isMain}
 use Rattle.rules.specs.Register.{Snapshot, Reference, NamedRef, Update, Terms, State, withOwn, withCurrent, onFields, logged}
 use Rattle.rules.specs.Register.Update.{AddSnapshot, SetBranchSnapshot, SetRef, RemoveRef}
-use Rattle.rules.specs.WellFormed.{refNameFormed, snapshotFormed, refFormed, refsFormed, refBelow, updateFormed}
+use Rattle.rules.specs.WellFormed.{nameFormed, snapshotFormed, refFormed, refsFormed, refBelow, updateFormed}
 use Rattle.rules.specs.ChangeLog.{logsAddition}
 use Rattle.rules.specs.SnapshotUpdates.{addSnapshotChecks, addSnapshot}
 use Rattle.rules.specs.RefUpdates.{refNamed, isHeldRef, isTag, ownAfter, asMain, putRef, committed, withoutRef, setRefChecks, setRef, setBranchSnapshotChecks, setBranchSnapshot, removeRef}
@@ -66,7 +66,7 @@ module _ (terms : Terms) (name : List ℕ) (s : Snapshot) (st : State) (e : upda
   abbrev commit : Reference
   commit = committed name (s .id) (st .metadata .refs)
 
-  commit-form : refNameFormed name && snapshotFormed s ≡ true
+  commit-form : nameFormed name && snapshotFormed s ≡ true
   unfolding updateFormed
   commit-form = accepted-form terms (SetBranchSnapshot name s) st e
 
@@ -84,14 +84,14 @@ module _ (terms : Terms) (name : List ℕ) (s : Snapshot) (st : State) (e : upda
   unfolding checks updateFormed
   commit-adds =
       accepted-if terms (AddSnapshot s) st
-      (and-right (refNameFormed name) (snapshotFormed s) commit-form)
+      (and-right (nameFormed name) (snapshotFormed s) commit-form)
       (passed-before (addSnapshotChecks (terms .tolerance) s st) (setRefChecks name commit (addSnapshot s st)) commit-checks)
 
   commit-set-formed : Sound (st .metadata) → updateFormed (SetRef name commit) ≡ true
   unfolding updateFormed
   commit-set-formed k =
-      let n : nonNeg (s .id) ≡ true = parts (nonNeg (s .id)) (ifSome nonNeg (s .parent) ∷ nonNeg (s .sequence .0) ∷ []) (and-right (refNameFormed name) (snapshotFormed s) commit-form) .0 in
-      both (and-left (refNameFormed name) (snapshotFormed s) commit-form) (committed-formed name (s .id) (st .metadata .refs) n (held-refs-formed (st .metadata .refs) (k .refs)))
+      let n : nonNeg (s .id) ≡ true = parts (nonNeg (s .id)) (ifSome nonNeg (s .parent) ∷ nonNeg (s .sequence .0) ∷ []) (and-right (nameFormed name) (snapshotFormed s) commit-form) .0 in
+      both (and-left (nameFormed name) (snapshotFormed s) commit-form) (committed-formed name (s .id) (st .metadata .refs) n (held-refs-formed (st .metadata .refs) (k .refs)))
 
   commit-sets : Sound (st .metadata) → updateNumber terms (SetRef name commit) (addSnapshot s st) ≡ 0
   unfolding checks

@@ -3,24 +3,24 @@ use mathlib.Core.Path.{_≡_, refl}
 use mathlib.Core.Bool.{Bool, true, false, cond, not}
 use mathlib.Core.List.{List, [], _∷_, _++_, append-nil}
 use mathlib.Core.Option.{Option, none, some}
-use lib.Dec.{leb}
 use lib.IntN.{ℤ, sucℤ}
-use lib.ListN.{length}
 use lib.Signed.{ltZ, nonNeg}
-use Rattle.rules.specs.Words.{eqZ, someWith, all, keep, isEmpty, isIn, unequal, highest, ascending}
+use Rattle.rules.specs.Words.{eqZ, someWith, keep, isEmpty, isIn, highest, ascending, firstOf, Check}
 use Rattle.rules.specs.Replies.{currentSchemaRemoved}
-use Rattle.rules.specs.Capacities.{schemaRoom, schemaFieldRoom}
-use Rattle.rules.specs.Register.{Schema, Update, Terms, State, withSchemas, withMetadata, withCurrentSchema, onFields, logged}
+use Rattle.rules.specs.Capacities.{schemaRoom}
+use Rattle.rules.specs.Register.{Schema, SchemaOffer, Update, Terms, State, withSchemas, withMetadata, withCurrentSchema, onFields, logged}
 use Rattle.rules.specs.Register.Update.{AddSchema, SetCurrentSchema, RemoveSchemas}
-use Rattle.rules.specs.WellFormed.{atLeastOne, fieldIds, schemaFormed, schemaBelow, schemasFormed, updateFormed}
-use Rattle.rules.specs.SchemaUpdates.{reusedSchema, schemaIds, addedSchema, addSchemaChecks, reuseSchema, newSchema, addSchema, chosen, choiceLogged, holdsSchema, setCurrentSchemaChecks, setCurrentSchema, removeSchemasChecks, heldSchemas, removeSchemas}
+use Rattle.rules.specs.WellFormed.{schemaFormed, schemaBelow, schemasFormed, updateFormed}
+use Rattle.rules.specs.Offers.{offeredSchema}
+use Rattle.rules.specs.SchemaUpdates.{offeredAs, reusedSchema, schemaIds, addedSchema, addSchemaChecks, reuseSchema, newSchema, addSchema, chosen, choiceLogged, holdsSchema, setCurrentSchemaChecks, setCurrentSchema, removeSchemasChecks, heldSchemas, removeSchemas}
 use Rattle.rules.specs.Updates.{checks, updateNumber, effect}
 use Rattle.rules.specs.Replay.{strip}
-use Rattle.rules.proofs.Checks.{parts, whole, passed}
+use Rattle.rules.proofs.Checks.{passed, passed-after}
 use Rattle.rules.proofs.Orders.{highest-nonNeg, suc-nonNeg}
 use Rattle.rules.proofs.Tables.{byKey, table-parts}
 use Rattle.rules.proofs.Sound.Metadata.{Sound}
 use Rattle.rules.proofs.Replay.Keys.{held-formed, held-not-in, held-again, others-again, none-held}
+use Rattle.rules.proofs.Sound.Schemas.{offer-check, offer-passed, reoffered-formed}
 use Rattle.rules.proofs.Sound.Updates.{accepted-form, accepted-checks}
 use Rattle.rules.proofs.Replay.Choices.{Rechosen, rechosen}
 use Rattle.rules.proofs.Replay.Steps.{withLog, accepted-if, Replays, nothing, once}
@@ -31,35 +31,37 @@ use Rattle.rules.proofs.Replay.Steps.{withLog, accepted-if, Replays, no
 abbrev numbered-as : ℤ → Schema → Schema
 numbered-as id s = record { id = id; fields = s .fields }
 
-renumbered-formed : (id : ℤ) (s : Schema) → nonNeg id ≡ true → schemaFormed s ≡ true → schemaFormed (numbered-as id s) ≡ true
-renumbered-formed id s n h =
-    let rest : List Bool = leb (length (s .fields)) schemaFieldRoom ∷ all atLeastOne (fieldIds s) ∷ unequal (fieldIds s) ∷ [] in
-    whole (nonNeg id) rest (n, parts (nonNeg (s .id)) rest h .1)
-
 -- neither the checks nor the search for an equal schema look at the offered id
-renumbered-accepted : (terms : Terms) (id : ℤ) (s : Schema) (st : State) → nonNeg id ≡ true → updateNumber terms (AddSchema s) st ≡ 0 → updateNumber terms (AddSchema (numbered-as id s)) st ≡ 0
-unfolding checks addSchemaChecks updateFormed
-renumbered-accepted terms id s st n e =
-    accepted-if terms (AddSchema (numbered-as id s)) st
-    (renumbered-formed id s n (accepted-form terms (AddSchema s) st e))
-    (accepted-checks terms (AddSchema s) st e)
+renumbered-accepted : (terms : Terms) (id : ℤ) (o : SchemaOffer) (st : State) → nonNeg id ≡ true → updateNumber terms (AddSchema o) st ≡ 0 → updateNumber terms (AddSchema (offeredAs id o)) st ≡ 0
+unfolding checks addSchemaChecks updateFormed offeredSchema
+renumbered-accepted terms id o st n e =
+    let cs : List Check = addSchemaChecks (offeredSchema (terms .offers) o) st in
+    let k : firstOf (offer-check (terms .offers) o ++ cs) ≡ 0 = accepted-checks terms (AddSchema o) st e in
+    accepted-if terms (AddSchema (offeredAs id o)) st n
+    (rw (reoffered-formed (terms .offers) id o n (offer-passed (terms .offers) o cs k)) (passed-after (offer-check (terms .offers) o) cs refl k))
 
-pub add-schema-replays : (terms : Terms) (s : Schema) (st : State) → updateNumber terms (AddSchema s) st ≡ 0 → Replays terms 1 st (effect terms (AddSchema s) st)
-unfolding effect addSchema strip
-add-schema-replays terms s st e = go (reusedSchema s (st .metadata .schemas)) refl
+pub add-schema-replays : (terms : Terms) (o : SchemaOffer) (st : State) → updateNumber terms (AddSchema o) st ≡ 0 → Replays terms 1 st (effect terms (AddSchema o) st)
+unfolding effect addSchema strip offeredSchema
+add-schema-replays terms o st e = go (reusedSchema s (st .metadata .schemas)) refl
   where
+    s : Schema
+    s = offeredSchema (terms .offers) o
+
     given : Schema
     given = numbered-as (sucℤ (highest (schemaIds (st .metadata .schemas)))) s
 
-    fresh : updateNumber terms (AddSchema given) st ≡ 0
-    fresh = renumbered-accepted terms (sucℤ (highest (schemaIds (st .metadata .schemas)))) s st (suc-nonNeg (highest (schemaIds (st .metadata .schemas))) (highest-nonNeg (schemaIds (st .metadata .schemas)))) e
+    regiven : SchemaOffer
+    regiven = offeredAs (given .id) o
 
-    reuse : (id : ℤ) → reusedSchema s (st .metadata .schemas) ≡ some id → (t : Bool) → someWith (eqZ id) (st .added .schema) ≡ t → Replays terms 1 st (cond t st (logged (AddSchema s) (addedSchema id st)))
+    fresh : updateNumber terms (AddSchema regiven) st ≡ 0
+    fresh = renumbered-accepted terms (given .id) o st (suc-nonNeg (highest (schemaIds (st .metadata .schemas))) (highest-nonNeg (schemaIds (st .metadata .schemas)))) e
+
+    reuse : (id : ℤ) → reusedSchema s (st .metadata .schemas) ≡ some id → (t : Bool) → someWith (eqZ id) (st .added .schema) ≡ t → Replays terms 1 st (cond t st (logged (AddSchema o) (addedSchema id st)))
     reuse id q true r = nothing terms 1 st
-    reuse id q false r = once terms (AddSchema s) st (logged (AddSchema s) (addedSchema id st)) refl e refl (λ l h. rw (q, addSchema, r))
+    reuse id q false r = once terms (AddSchema o) st (logged (AddSchema o) (addedSchema id st)) refl e refl (λ l h. rw (q, addSchema, r))
 
-    go : (o : Option ℤ) → reusedSchema s (st .metadata .schemas) ≡ o → Replays terms 1 st (elim o [ none ↦ newSchema given st | some id ↦ reuseSchema s id st ])
-    go none q = once terms (AddSchema given) st (newSchema given st) refl fresh refl (λ l h. rw (q, addSchema))
+    go : (found : Option ℤ) → reusedSchema s (st .metadata .schemas) ≡ found → Replays terms 1 st (elim found [ none ↦ newSchema o given st | some id ↦ reuseSchema o id st ])
+    go none q = once terms (AddSchema regiven) st (newSchema o given st) refl fresh refl (λ l h. rw (q, addSchema))
     go (some id) q = reuse id q (someWith (eqZ id) (st .added .schema)) refl
 
 -- ---- set schema

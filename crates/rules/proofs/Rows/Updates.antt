@@ -15,12 +15,13 @@ use Rattle.rules.specs.Replies.{commitOnTag}
 use Rattle.rules.specs.Capacities.{largestUnsigned}
 use Rattle.rules.specs.RowIds.{isBehind, overflows}
 use Rattle.rules.specs.Names.{isMain, trimmed}
-use Rattle.rules.specs.Register.{RowRange, Snapshot, Reference, Schema, SortOrder, StatisticsFile, StatisticsTable, Update, Terms, State, logged}
+use Rattle.rules.specs.Register.{RowRange, Snapshot, Reference, Schema, SchemaOffer, SortOrder, StatisticsFile, StatisticsTable, Update, Terms, State, logged}
 use Rattle.rules.specs.Register.Update.{AssignUuid, UpgradeFormatVersion, SetLocation, AddSnapshot, SetBranchSnapshot, RemoveSnapshots, SetRef, RemoveRef, AddSchema, SetCurrentSchema, RemoveSchemas, AddSortOrder, SetDefaultSortOrder, SetStatistics, RemoveStatistics, NotFormed}
 use Rattle.rules.specs.WellFormed.{versionFormed, updateFormed}
 use Rattle.rules.specs.SingleUpdates.{assignUuid, upgradeFormatVersionChecks, upgradeFormatVersion, setLocation}
 use Rattle.rules.specs.SnapshotUpdates.{isVersion3, addSnapshotChecks, addSnapshot, heldSnapshots, withoutSnapshots, removeSnapshots}
 use Rattle.rules.specs.RefUpdates.{refNamed, isHeldRef, putRef, setRefChecks, setRef, committed, isTag, setBranchSnapshotChecks, setBranchSnapshot, removeRef}
+use Rattle.rules.specs.Offers.{offeredSchema}
 use Rattle.rules.specs.SchemaUpdates.{reusedSchema, addSchema, chosen, setCurrentSchema, removeSchemas}
 use Rattle.rules.specs.OrderUpdates.{reusedOrder, addSortOrder, setDefaultSortOrder}
 use Rattle.rules.specs.Register.StatisticsTable.{Statistics, PartitionStatistics}
@@ -98,12 +99,12 @@ module _ (st : State) where
       (λ e. logged-keeps st (RemoveRef name) refl)
       (λ e. by-test (Keeps st) (isSome (refNamed name (st .metadata .refs))) (λ f. logged-keeps st (RemoveRef name) refl) (λ f. refl))
 
-  pub add-schema-keeps : (s : Schema) → Keeps st (addSchema s st)
+  pub add-schema-keeps : (o : SchemaOffer) (s : Schema) → Keeps st (addSchema o s st)
   unfolding addSchema
-  add-schema-keeps s =
+  add-schema-keeps o s =
       by-option (Keeps st) (reusedSchema s (st .metadata .schemas))
       (λ n. logged-keeps st _ refl)
-      (λ id n. by-test (Keeps st) (someWith (eqZ id) (st .added .schema)) (λ e. refl) (λ e. logged-keeps st (AddSchema s) refl))
+      (λ id n. by-test (Keeps st) (someWith (eqZ id) (st .added .schema)) (λ e. refl) (λ e. logged-keeps st (AddSchema o) refl))
 
   pub set-current-schema-keeps : (id : ℤ) → Keeps st (setCurrentSchema id st)
   unfolding setCurrentSchema
@@ -192,7 +193,7 @@ checked-step terms (SetBranchSnapshot name s) st f e v = adds (terms .tolerance)
 checked-step terms (RemoveSnapshots ids) st f e v = removes ids (remove-snapshots-keeps ids st)
 checked-step terms (SetRef name r) st f e v = leaves (set-ref-keeps st terms name r)
 checked-step terms (RemoveRef name) st f e v = leaves (remove-ref-keeps st name)
-checked-step terms (AddSchema s) st f e v = leaves (add-schema-keeps st s)
+checked-step terms (AddSchema o) st f e v = leaves (add-schema-keeps st o (offeredSchema (terms .offers) o))
 checked-step terms (SetCurrentSchema id) st f e v = leaves (set-current-schema-keeps st id)
 checked-step terms (RemoveSchemas ids) st f e v = leaves (remove-schemas-keeps st ids)
 checked-step terms (AddSortOrder o) st f e v = leaves (add-sort-order-keeps st o)

@@ -13,14 +13,14 @@ use lib.Seq.{take-at, drop-at}
 use borrow.Author.Tests.{leb-true, eq-eqb}
 use Rattle.records.specs.Blanks.{noSnapshotId, noSnapshot, noLogEntry, noRef, noSchemaField, noSchema, noSchemaId, noSortField, noSortOrder, noStatisticsFile, noMetadataLogEntry, noFieldsPart, noSnapshotsPart, noSchemasPart, noSortOrdersPart, noStatisticsPart, noUpdate}
 use Rattle.rules.specs.Words.{isSome, orElse, all, unequal, ascending}
-use Rattle.rules.specs.Capacities.{snapshotRoom, refRoom, snapshotLogRoom, metadataLogRoom, schemaRoom, schemaFieldRoom, sortOrderRoom, sortFieldRoom, statisticsRoom, removalRoom, refNameRoom, textRoom}
+use Rattle.rules.specs.Capacities.{snapshotRoom, refRoom, snapshotLogRoom, metadataLogRoom, schemaRoom, schemaFieldRoom, sortOrderRoom, sortFieldRoom, statisticsRoom, removalRoom, nameRoom, textRoom}
 use Rattle.rules.specs.Register as plain
 use Rattle.rules.specs.Register.{Update}
 use Rattle.rules.specs.Register.Update.{AssignUuid, UpgradeFormatVersion, SetLocation, AddSnapshot, SetBranchSnapshot, RemoveSnapshots, SetRef, RemoveRef, AddSchema, SetCurrentSchema, RemoveSchemas, AddSortOrder, SetDefaultSortOrder, SetStatistics, RemoveStatistics, NotFormed}
 use Rattle.rules.specs.Register.StatisticsTable.{Statistics, PartitionStatistics}
-use Rattle.rules.specs.WellFormed.{snapshotFormed, refFormed, refNameFormed, fileNameFormed, schemaFormed, orderFormed, offeredOrderFormed, sortFieldFormed, statisticsFileFormed, removalFormed, atLeastOne, versionFormed, locationFormed, fieldIds, snapshotBelow, refBelow, schemaBelow, orderBelow, statisticsBelow, snapshotsFormed, refsFormed, snapshotLogFormed, metadataLogFormed, schemasFormed, ordersFormed, statisticsFormed, fieldsFormed, refsHeld, mainAgrees, currentSchemaHeld, defaultOrderHeld, metadataFormed, updateFormed}
-use Rattle.rules.specs.Blanks.{isZero, isZeroZ, restBlank, tidySlots, isTidyRefName, isTidyText, isTidySnapshot, isBlankSnapshot, isTidySnapshots, isBlankSnapshotId, isTidySnapshotIds, isBlankSnapshotIds, isBlankLogEntry, isTidySnapshotLog, isTidyReference, isBlankReference, isTidyRef, isBlankRef, isTidyRefs, isBlankSchemaField, isTidySchema, isBlankSchema, isTidySchemas, isBlankSchemaId, isTidySchemaIds, isBlankSchemaIds, isBlankSortField, isTidySortOrder, isBlankSortOrder, isTidySortOrders, isTidyStatisticsFile, isBlankStatisticsFile, isTidyStatistics, isTidyMetadataLogEntry, isBlankMetadataLogEntry, isTidyMetadataLog, isTidyFields, isTidyMetadata}
-use Rattle.rules.specs.Layout.{pad, firstRow, addedRows, laidRefName, laidText, laidSnapshot, laidSnapshots, laidSnapshotIds, laidLogEntry, laidSnapshotLog, laidReference, laidRef, laidRefs, laidSchemaField, laidSchema, laidSchemas, laidSchemaIds, laidSortField, laidSortOrder, laidSortOrders, laidStatisticsFile, laidStatistics, laidMetadataLogEntry, laidMetadataLog, laidFields, laidMetadata}
+use Rattle.rules.specs.WellFormed.{snapshotFormed, refFormed, nameFormed, fileNameFormed, schemaFormed, orderFormed, offeredOrderFormed, sortFieldFormed, statisticsFileFormed, removalFormed, atLeastOne, versionFormed, locationFormed, fieldIds, snapshotBelow, refBelow, schemaBelow, orderBelow, statisticsBelow, snapshotsFormed, refsFormed, snapshotLogFormed, metadataLogFormed, schemasFormed, ordersFormed, statisticsFormed, fieldsFormed, refsHeld, mainAgrees, currentSchemaHeld, defaultOrderHeld, metadataFormed, updateFormed}
+use Rattle.rules.specs.Blanks.{isZero, isZeroZ, restBlank, tidySlots, isTidyName, isTidyText, isTidySnapshot, isBlankSnapshot, isTidySnapshots, isBlankSnapshotId, isTidySnapshotIds, isBlankSnapshotIds, isBlankLogEntry, isTidySnapshotLog, isTidyReference, isBlankReference, isTidyRef, isBlankRef, isTidyRefs, isBlankSchemaField, isTidySchema, isBlankSchema, isTidySchemas, isBlankSchemaId, isTidySchemaIds, isBlankSchemaIds, isBlankSortField, isTidySortOrder, isBlankSortOrder, isTidySortOrders, isTidyStatisticsFile, isBlankStatisticsFile, isTidyStatistics, isTidyMetadataLogEntry, isBlankMetadataLogEntry, isTidyMetadataLog, isTidyFields, isTidyMetadata}
+use Rattle.rules.specs.Layout.{pad, firstRow, addedRows, laidName, laidText, laidSnapshot, laidSnapshots, laidSnapshotIds, laidLogEntry, laidSnapshotLog, laidReference, laidRef, laidRefs, laidSchemaField, laidSchema, laidSchemas, laidSchemaIds, laidSortField, laidSortOrder, laidSortOrders, laidStatisticsFile, laidStatistics, laidMetadataLogEntry, laidMetadataLog, laidFields, laidMetadata}
 use Rattle.rules.specs.Kinds.{isTidyFieldsPart, isTidySnapshotsPart, isTidyRefsPart, isTidySchemasPart, isTidySortOrdersPart, isTidyStatisticsPart, isTidyUpdate, laidUpdate}
 use Rattle.rules.proofs.Checks.{both, and-left, and-right, parts, whole}
 
@@ -71,9 +71,9 @@ module _ {A : Type 0} (b : A) (isBlank : A → Bool) (blank : isBlank b ≡ true
 tidy-bytes : (room : ℕ) (l : List ℕ) → leb (length l) room ≡ true → restBlank room isZero (pad room 0 l) (length l) ≡ true
 tidy-bytes room l h = pad-rest 0 isZero refl room (length l) l refl h
 
-pub tidy-ref-name : (l : List ℕ) → refNameFormed l ≡ true → isTidyRefName (laidRefName l) ≡ true
-unfolding laidRefName
-tidy-ref-name l h = tidy-bytes refNameRoom l h
+pub tidy-ref-name : (l : List ℕ) → nameFormed l ≡ true → isTidyName (laidName l) ≡ true
+unfolding laidName
+tidy-ref-name l h = tidy-bytes nameRoom l h
 
 pub tidy-text : (l : List ℕ) → leb (length l) textRoom ≡ true → isTidyText (laidText l) ≡ true
 unfolding laidText
@@ -115,7 +115,7 @@ tidy-reference r = both (both (absent-zero (r .minSnapshots)) (absent-zero (r .m
 
 pub tidy-ref : (r : plain.NamedRef) → refFormed r ≡ true → isTidyRef (laidRef r) ≡ true
 unfolding isTidyRef laidRef
-tidy-ref r f = both (tidy-ref-name (r .name) (and-left (refNameFormed (r .name)) _ f)) (tidy-reference (r .reference))
+tidy-ref r f = both (tidy-ref-name (r .name) (and-left (nameFormed (r .name)) _ f)) (tidy-reference (r .reference))
 
 no-ref : isBlankRef noRef ≡ true
 unfolding isBlankRef isBlankReference
@@ -253,11 +253,11 @@ tidy-update (AssignUuid uuid) f = refl
 tidy-update (UpgradeFormatVersion v) f = refl
 tidy-update (SetLocation location) f = rw (tidy-text location f)
 tidy-update (AddSnapshot s) f = rw (tidy-snapshot s)
-tidy-update (SetBranchSnapshot name s) f = rw (tidy-ref-name name (and-left (refNameFormed name) _ f), tidy-snapshot s)
+tidy-update (SetBranchSnapshot name s) f = rw (tidy-ref-name name (and-left (nameFormed name) _ f), tidy-snapshot s)
 tidy-update (RemoveSnapshots ids) f = rw (tidy-snapshot-ids ids f)
-tidy-update (SetRef name r) f = rw (tidy-ref-name name (and-left (refNameFormed name) _ f), tidy-reference r)
+tidy-update (SetRef name r) f = rw (tidy-ref-name name (and-left (nameFormed name) _ f), tidy-reference r)
 tidy-update (RemoveRef name) f = rw (tidy-ref-name name f)
-tidy-update (AddSchema s) f = rw (tidy-schema s f)
+tidy-update (AddSchema o) f = refl
 tidy-update (SetCurrentSchema id) f = refl
 tidy-update (RemoveSchemas ids) f = rw (tidy-schema-ids ids f)
 tidy-update (AddSortOrder o) f = rw (tidy-sort-order o f)

@@ -11,13 +11,14 @@ use lib.Signed.{nonNeg}
 use lib.ListN.{length, set, take, drop, replicate, length-append, length-replicate, length-take, length-drop, length-map, take-append-drop}
 use lib.Seq.{set-at}
 use borrow.Author.Tests.{eqb-true, leb-true, not-true}
-use Rattle.records.specs.Blanks.{noRefName, noText, noSnapshotId, noSnapshot, noSnapshotIds, noLogEntry, noReference, noRef, noSchemaField, noSchema, noSchemaId, noSchemaIds, noSortField, noSortOrder, noStatisticsFile, noMetadataLogEntry}
+use Rattle.records.specs.Blanks.{noName, noText, noSnapshotId, noSnapshot, noSnapshotIds, noLogEntry, noReference, noRef, noSchemaField, noSchema, noSchemaOffer, noSchemaId, noSchemaIds, noSortField, noSortOrder, noStatisticsFile, noMetadataLogEntry}
 use Rattle.records.specs.declared.counters.RowId.{RowId}
 use Rattle.records.specs.declared.counters.SnapshotId.{SnapshotId}
 use Rattle.records.specs.declared.counters.SchemaId.{SchemaId}
 use Rattle.records.specs.declared.snapshot.SnapshotIds.{SnapshotIds}
+use Rattle.records.specs.declared.schema.SchemaOffer.{SchemaOffer}
 use Rattle.records.specs.declared.schema.SchemaIds.{SchemaIds}
-use Rattle.records.specs.declared.text.RefName.{RefName}
+use Rattle.records.specs.declared.text.Name.{Name}
 use Rattle.records.specs.declared.text.Text.{Text}
 use Rattle.records.specs.declared.snapshot.SnapshotLogEntry.{SnapshotLogEntry}
 use Rattle.records.specs.declared.snapshot.SnapshotLog.{SnapshotLog}
@@ -39,10 +40,10 @@ use Rattle.records.specs.declared.metadata.TableMetadata.{TableMetadata}
 use Rattle.records.specs.declared.snapshot.Snapshot.{Snapshot}
 use Rattle.records.specs.declared.snapshot.Snapshots.{Snapshots}
 use Rattle.rules.specs.Words.{isSome, orElse, all, unequal, ascending}
-use Rattle.rules.specs.Capacities.{snapshotRoom, refRoom, snapshotLogRoom, metadataLogRoom, schemaRoom, schemaFieldRoom, sortOrderRoom, sortFieldRoom, statisticsRoom, removalRoom, refNameRoom, textRoom}
-use Rattle.rules.specs.WellFormed.{snapshotFormed, refFormed, refNameFormed, fileNameFormed, schemaFormed, orderFormed, offeredOrderFormed, sortFieldFormed, statisticsFileFormed, removalFormed, atLeastOne, versionFormed, locationFormed, fieldIds, snapshotBelow, refBelow, schemaBelow, orderBelow, statisticsBelow, snapshotsFormed, refsFormed, snapshotLogFormed, metadataLogFormed, schemasFormed, ordersFormed, statisticsFormed, fieldsFormed, refsHeld, mainAgrees, currentSchemaHeld, defaultOrderHeld, metadataFormed}
-use Rattle.rules.specs.Blanks.{isZero, isZeroZ, restBlank, tidySlots, noneUsed, isBlankUuid, isTidyRefName, isBlankRefName, isTidyText, isBlankText, isTidySnapshot, isBlankSnapshot, isTidySnapshots, isBlankSnapshotId, isTidySnapshotIds, isBlankSnapshotIds, isBlankLogEntry, isTidySnapshotLog, isTidyReference, isBlankReference, isTidyRef, isBlankRef, isTidyRefs, isBlankSchemaField, isTidySchema, isBlankSchema, isTidySchemas, isBlankSchemaId, isTidySchemaIds, isBlankSchemaIds, isBlankSortField, isTidySortOrder, isBlankSortOrder, isTidySortOrders, isTidyStatisticsFile, isBlankStatisticsFile, isTidyStatistics, isTidyMetadataLogEntry, isBlankMetadataLogEntry, isTidyMetadataLog, isTidyFields, isTidyMetadata}
-use Rattle.rules.specs.Layout.{counted, pad, given, firstRow, addedRows, readRefName, laidRefName, readText, laidText, readSnapshot, laidSnapshot, readSnapshots, laidSnapshots, readSnapshotIds, laidSnapshotIds, readLogEntry, laidLogEntry, readSnapshotLog, laidSnapshotLog, readReference, laidReference, readRef, laidRef, readRefs, laidRefs, readSchemaField, laidSchemaField, readSchema, laidSchema, readSchemas, laidSchemas, readSchemaIds, laidSchemaIds, readSortField, laidSortField, readSortOrder, laidSortOrder, readSortOrders, laidSortOrders, readStatisticsFile, laidStatisticsFile, readStatistics, laidStatistics, readMetadataLogEntry, laidMetadataLogEntry, readMetadataLog, laidMetadataLog, readFields, laidFields, readMetadata, laidMetadata}
+use Rattle.rules.specs.Capacities.{snapshotRoom, refRoom, snapshotLogRoom, metadataLogRoom, schemaRoom, schemaFieldRoom, sortOrderRoom, sortFieldRoom, statisticsRoom, removalRoom, nameRoom, textRoom}
+use Rattle.rules.specs.WellFormed.{snapshotFormed, refFormed, nameFormed, fileNameFormed, schemaFormed, orderFormed, offeredOrderFormed, sortFieldFormed, statisticsFileFormed, removalFormed, atLeastOne, versionFormed, locationFormed, fieldIds, snapshotBelow, refBelow, schemaBelow, orderBelow, statisticsBelow, snapshotsFormed, refsFormed, snapshotLogFormed, metadataLogFormed, schemasFormed, ordersFormed, statisticsFormed, fieldsFormed, refsHeld, mainAgrees, currentSchemaHeld, defaultOrderHeld, metadataFormed}
+use Rattle.rules.specs.Blanks.{isZero, isZeroZ, restBlank, tidySlots, noneUsed, isBlankUuid, isTidyName, isBlankName, isTidyText, isBlankText, isTidySnapshot, isBlankSnapshot, isTidySnapshots, isBlankSnapshotId, isTidySnapshotIds, isBlankSnapshotIds, isBlankLogEntry, isTidySnapshotLog, isTidyReference, isBlankReference, isTidyRef, isBlankRef, isTidyRefs, isBlankSchemaField, isTidySchema, isBlankSchema, isTidySchemas, isBlankSchemaOffer, isBlankSchemaId, isTidySchemaIds, isBlankSchemaIds, isBlankSortField, isTidySortOrder, isBlankSortOrder, isTidySortOrders, isTidyStatisticsFile, isBlankStatisticsFile, isTidyStatistics, isTidyMetadataLogEntry, isBlankMetadataLogEntry, isTidyMetadataLog, isTidyFields, isTidyMetadata}
+use Rattle.rules.specs.Layout.{counted, pad, given, firstRow, addedRows, readName, laidName, readText, laidText, readSnapshot, laidSnapshot, readSnapshots, laidSnapshots, readSnapshotIds, laidSnapshotIds, readLogEntry, laidLogEntry, readSnapshotLog, laidSnapshotLog, readReference, laidReference, readRef, laidRef, readRefs, laidRefs, readSchemaField, laidSchemaField, readSchema, laidSchema, readSchemas, laidSchemas, readSchemaIds, laidSchemaIds, readSortField, laidSortField, readSortOrder, laidSortOrder, readSortOrders, laidSortOrders, readStatisticsFile, laidStatisticsFile, readStatistics, laidStatistics, readMetadataLogEntry, laidMetadataLogEntry, readMetadataLog, laidMetadataLog, readFields, laidFields, readMetadata, laidMetadata}
 use Rattle.rules.specs.Register as plain
 use Rattle.rules.proofs.Orders.{eqZ-equal}
 use Rattle.rules.proofs.Checks.{and-left, and-right, parts}
@@ -153,14 +154,14 @@ bytes-back room bytes n e h =
 
 -- ---- texts
 
-pub blank-ref-name : (t : RefName) → isBlankRefName t ≡ true → t ≡ noRefName
-blank-ref-name t e = let k : (t .bytes ≡ replicate refNameRoom 0) × (t .len ≡ 0) = unused 0 isZero zero refNameRoom (t .len) (t .bytes) e in λ i. record { bytes = k .0 i; len = k .1 i }
+pub blank-ref-name : (t : Name) → isBlankName t ≡ true → t ≡ noName
+blank-ref-name t e = let k : (t .bytes ≡ replicate nameRoom 0) × (t .len ≡ 0) = unused 0 isZero zero nameRoom (t .len) (t .bytes) e in λ i. record { bytes = k .0 i; len = k .1 i }
 
-pub back-ref-name : (t : RefName) → isTidyRefName t ≡ true → length (readRefName t) ≤ refNameRoom → laidRefName (readRefName t) ≡ t
-unfolding laidRefName
+pub back-ref-name : (t : Name) → isTidyName t ≡ true → length (readName t) ≤ nameRoom → laidName (readName t) ≡ t
+unfolding laidName
 back-ref-name t e h =
-    let n : length (readRefName t) ≡ t .len = length-counted 0 (t .bytes) (t .len) in
-    λ i. record { bytes = bytes-back refNameRoom (t .bytes) (t .len) e (omega arith) i; len = n i }
+    let n : length (readName t) ≡ t .len = length-counted 0 (t .bytes) (t .len) in
+    λ i. record { bytes = bytes-back nameRoom (t .bytes) (t .len) e (omega arith) i; len = n i }
 
 pub blank-uuid : (l : List ℕ) → isBlankUuid l ≡ true → l ≡ replicate 16 0
 blank-uuid l e = unused 0 isZero zero 16 0 l e .0
@@ -285,15 +286,15 @@ back-reference r e =
 pub blank-ref : (r : NamedRef) → isBlankRef r ≡ true → r ≡ noRef
 unfolding isBlankRef
 blank-ref r e =
-    let n : r .name ≡ noRefName = blank-ref-name (r .name) (and-left (isBlankRefName (r .name)) _ e) in
-    let f : r .reference ≡ noReference = blank-reference (r .reference) (and-right (isBlankRefName (r .name)) _ e) in
+    let n : r .name ≡ noName = blank-ref-name (r .name) (and-left (isBlankName (r .name)) _ e) in
+    let f : r .reference ≡ noReference = blank-reference (r .reference) (and-right (isBlankName (r .name)) _ e) in
     λ i. record { name = n i; reference = f i }
 
 pub back-ref : (r : NamedRef) → isTidyRef r ≡ true → refFormed (readRef r) ≡ true → laidRef (readRef r) ≡ r
 unfolding isTidyRef laidRef
 back-ref r e f =
-    let n : laidRefName (readRefName (r .name)) ≡ r .name = back-ref-name (r .name) (and-left (isTidyRefName (r .name)) _ e) (leb-true _ refNameRoom (and-left (refNameFormed (readRefName (r .name))) _ f)) in
-    let g : laidReference (readReference (r .reference)) ≡ r .reference = back-reference (r .reference) (and-right (isTidyRefName (r .name)) _ e) in
+    let n : laidName (readName (r .name)) ≡ r .name = back-ref-name (r .name) (and-left (isTidyName (r .name)) _ e) (leb-true _ nameRoom (and-left (nameFormed (readName (r .name))) _ f)) in
+    let g : laidReference (readReference (r .reference)) ≡ r .reference = back-reference (r .reference) (and-right (isTidyName (r .name)) _ e) in
     λ i. record { name = n i; reference = g i }
 
 pub back-refs : (t : Refs) → isTidyRefs t ≡ true → refsFormed (readRefs t) ≡ true → laidRefs (readRefs t) ≡ t
@@ -321,6 +322,11 @@ back-schema s e f =
     let k = parts (nonNeg (s .«schema_id» .0)) (leb (length (readSchema s .fields)) schemaFieldRoom ∷ all atLeastOne (fieldIds (readSchema s)) ∷ unequal (fieldIds (readSchema s)) ∷ []) f in
     let r = fields-back noSchemaField isBlankSchemaField blank-schema-field readSchemaField laidSchemaField (λ x. refl) schemaFieldRoom (s .count) (s .items) e (k .1 .0) in
     λ i. record { «schema_id» = s .«schema_id»; items = r .0 i; count = r .1 i }
+
+pub blank-schema-offer : (o : SchemaOffer) → isBlankSchemaOffer o ≡ true → o ≡ noSchemaOffer
+blank-schema-offer o e =
+    let h = parts (isZeroZ (o .«schema_id» .0)) (isZero (o .at) ∷ isZero (o .count) ∷ []) e in
+    λ i. record { «schema_id» = record { 0 = zeroZ (o .«schema_id» .0) (h .0) i }; at = zero (o .at) (h .1 .0) i; count = zero (o .count) (h .1 .1 .0) i }
 
 blank-schema-id : (x : SchemaId) → isBlankSchemaId x ≡ true → x ≡ noSchemaId
 blank-schema-id x e = λ i. record { 0 = zeroZ (x .0) e i }

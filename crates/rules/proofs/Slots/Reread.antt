@@ -12,13 +12,13 @@ use Rattle.records.specs.Blanks.{noSnapshotId, noSnapshot, noLogEntry, noRef, n
 use Rattle.records.specs.declared.counters.SnapshotId.{SnapshotId}
 use Rattle.records.specs.declared.counters.SchemaId.{SchemaId}
 use Rattle.rules.specs.Words.{isSome, orElse, all}
-use Rattle.rules.specs.Capacities.{snapshotRoom, refRoom, snapshotLogRoom, metadataLogRoom, schemaRoom, schemaFieldRoom, sortOrderRoom, sortFieldRoom, statisticsRoom, removalRoom, refNameRoom, textRoom, listRoom}
+use Rattle.rules.specs.Capacities.{snapshotRoom, refRoom, snapshotLogRoom, metadataLogRoom, schemaRoom, schemaFieldRoom, sortOrderRoom, sortFieldRoom, statisticsRoom, removalRoom, nameRoom, textRoom, listRoom}
 use Rattle.rules.specs.Register as plain
 use Rattle.rules.specs.Register.{Update}
 use Rattle.rules.specs.Register.Update.{AssignUuid, UpgradeFormatVersion, SetLocation, AddSnapshot, SetBranchSnapshot, RemoveSnapshots, SetRef, RemoveRef, AddSchema, SetCurrentSchema, RemoveSchemas, AddSortOrder, SetDefaultSortOrder, SetStatistics, RemoveStatistics, NotFormed}
 use Rattle.rules.specs.Register.StatisticsTable.{Statistics, PartitionStatistics}
 use Rattle.rules.specs.WellFormed.{updateFormed}
-use Rattle.rules.specs.Layout.{counted, pad, given, firstRow, addedRows, readRefName, laidRefName, readText, laidText, readSnapshot, laidSnapshot, readSnapshots, laidSnapshots, readSnapshotIds, laidSnapshotIds, readLogEntry, laidLogEntry, readSnapshotLog, laidSnapshotLog, readReference, laidReference, readRef, laidRef, readRefs, laidRefs, readSchemaField, laidSchemaField, readSchema, laidSchema, readSchemas, laidSchemas, readSchemaIds, laidSchemaIds, readSortField, laidSortField, readSortOrder, laidSortOrder, readSortOrders, laidSortOrders, readStatisticsFile, laidStatisticsFile, readStatistics, laidStatistics, readMetadataLogEntry, laidMetadataLogEntry, readMetadataLog, laidMetadataLog, readFields, laidFields, readMetadata, laidMetadata}
+use Rattle.rules.specs.Layout.{counted, pad, given, firstRow, addedRows, readName, laidName, readText, laidText, readSnapshot, laidSnapshot, readSnapshots, laidSnapshots, readSnapshotIds, laidSnapshotIds, readLogEntry, laidLogEntry, readSnapshotLog, laidSnapshotLog, readReference, laidReference, readRef, laidRef, readRefs, laidRefs, readSchemaField, laidSchemaField, readSchema, laidSchema, readSchemas, laidSchemas, readSchemaIds, laidSchemaIds, readSortField, laidSortField, readSortOrder, laidSortOrder, readSortOrders, laidSortOrders, readStatisticsFile, laidStatisticsFile, readStatistics, laidStatistics, readMetadataLogEntry, laidMetadataLogEntry, readMetadataLog, laidMetadataLog, readFields, laidFields, readMetadata, laidMetadata}
 use Rattle.rules.specs.Kinds.{readKind, readUpdate, laidUpdate, readUpdates, laidUpdates}
 use Rattle.rules.proofs.Checks.{and-left, and-right}
 use Rattle.rules.proofs.Slots.Laid.{tidy-update}
@@ -65,9 +65,9 @@ module _ {A B : Type 0} (rd : A → B) (ld : B → A) where
 
 -- ---- texts
 
-pub reread-ref-name : (l : List ℕ) → readRefName (laidRefName l) ≡ l
-unfolding laidRefName
-reread-ref-name l = counted-pad refNameRoom 0 l
+pub reread-ref-name : (l : List ℕ) → readName (laidName l) ≡ l
+unfolding laidName
+reread-ref-name l = counted-pad nameRoom 0 l
 
 pub reread-text : (l : List ℕ) → readText (laidText l) ≡ l
 unfolding laidText
@@ -194,7 +194,7 @@ reread-kind (SetBranchSnapshot name s) f = ap₂ SetBranchSnapshot (reread-ref-n
 reread-kind (RemoveSnapshots ids) f = ap RemoveSnapshots (reread-snapshot-ids ids)
 reread-kind (SetRef name r) f = ap₂ SetRef (reread-ref-name name) (reread-reference r)
 reread-kind (RemoveRef name) f = ap RemoveRef (reread-ref-name name)
-reread-kind (AddSchema s) f = ap AddSchema (reread-schema s)
+reread-kind (AddSchema o) f = refl
 reread-kind (SetCurrentSchema id) f = refl
 reread-kind (RemoveSchemas ids) f = ap RemoveSchemas (reread-schema-ids ids)
 reread-kind (AddSortOrder o) f = ap AddSortOrder (reread-sort-order o)

@@ -14,7 +14,7 @@ use Rattle.rules.specs.Replies.{commitOnTag}
 use Rattle.rules.specs.Capacities.{refRoom, snapshotLogRoom}
 use Rattle.rules.specs.Names.{isMain}
 use Rattle.rules.specs.Register.{Snapshot, Reference, NamedRef, LogEntry, Metadata, Terms, State, withSnapshotLog, withOwn, withCurrent}
-use Rattle.rules.specs.WellFormed.{refNameFormed, kindFormed, retentionFormed, referenceFormed, refFormed, snapshotFormed, refBelow, snapshotLogFormed, refsFormed, fieldsFormed, refsHeld, pointsIn, holdsSnapshot}
+use Rattle.rules.specs.WellFormed.{nameFormed, kindFormed, retentionFormed, referenceFormed, refFormed, snapshotFormed, refBelow, snapshotLogFormed, refsFormed, fieldsFormed, refsHeld, pointsIn, holdsSnapshot}
 use Rattle.rules.specs.SnapshotUpdates.{addSnapshotChecks, addSnapshot}
 use Rattle.rules.specs.RefUpdates.{hasName, refNamed, isHeldRef, setRefChecks, ownAfter, asMain, putRef, setRef, committed, isTag, setBranchSnapshotChecks, setBranchSnapshot, withoutRef, removeRef}
 use Rattle.rules.proofs.Checks.{by-test, both, and-right, parts, whole, passed-unless, passed-before, passed-after}
@@ -60,7 +60,7 @@ unfolding setRefChecks
 taken-sound terms name r st f n e d =
     let k = passed-unless (isHeldRef name r (st .metadata .refs)) _ refl n e in
     let h : holdsSnapshot (st .metadata .snapshots) (r .snapshot) ≡ true = not-false (holdsSnapshot (st .metadata .snapshots) (r .snapshot)) (k .0) in
-    let i : nonNeg (r .snapshot) ≡ true = parts (nonNeg (r .snapshot)) (kindFormed r ∷ retentionFormed r ∷ []) (and-right (refNameFormed name) (referenceFormed r) f) .0 in
+    let i : nonNeg (r .snapshot) ≡ true = parts (nonNeg (r .snapshot)) (kindFormed r ∷ retentionFormed r ∷ []) (and-right (nameFormed name) (referenceFormed r) f) .0 in
     let own : State = withOwn (ownAfter (r .snapshot) st) st in
     let room : isMain name ≡ true → length (st .metadata .snapshotLog) < snapshotLogRoom = λ m. leb-false snapshotLogRoom (length (st .metadata .snapshotLog)) (rw m at (k .1 .1 .0)) in
     by-test (λ (x : State). Sound (putRef name r x .metadata)) (isMain name)
@@ -84,9 +84,9 @@ committed-formed name id l h k = go (refNamed name l) refl (all-first refFormed 
   where
     go : (o : Option NamedRef) → refNamed name l ≡ o → ifSome refFormed o ≡ true → referenceFormed (committed name id l) ≡ true
     go none e f = rw (e, committed) (whole (nonNeg id) (true ∷ true ∷ []) (h, (refl, (refl, tt))))
-    go (some n) e f = rw (e, committed) (moved-formed id (n .reference) h (and-right (refNameFormed (n .name)) (referenceFormed (n .reference)) f))
+    go (some n) e f = rw (e, committed) (moved-formed id (n .reference) h (and-right (nameFormed (n .name)) (referenceFormed (n .reference)) f))
 
-pub set-branch-snapshot-sound : (terms : Terms) (name : List ℕ) (s : Snapshot) (st : State) → refNameFormed name ≡ true → snapshotFormed s ≡ true → firstOf (setBranchSnapshotChecks (terms .tolerance) name s st) ≡ 0
+pub set-branch-snapshot-sound : (terms : Terms) (name : List ℕ) (s : Snapshot) (st : State) → nameFormed name ≡ true → snapshotFormed s ≡ true → firstOf (setBranchSnapshotChecks (terms .tolerance) name s st) ≡ 0
     → Sound (st .metadata) → Sound (setBranchSnapshot terms name s st .metadata)
 unfolding setBranchSnapshot setBranchSnapshotChecks refsFormed
 set-branch-snapshot-sound terms name s st f h e d =

@@ -1,23 +1,39 @@
 -- Adding, setting and removing schemas keeps metadata sound.
-use Prim.Native.Nat.{_<_}
+use Prim.Native.Nat.{ℕ, _<_}
 use mathlib.Core.Path.{_≡_, refl, ap, _∙_}
 use mathlib.Core.Bool.{Bool, true, false, not}
-use mathlib.Core.List.{List, [], _∷_}
+use mathlib.Core.List.{List, [], _∷_, _++_}
 use mathlib.Core.Option.{Option}
 use lib.Dec.{leb}
 use lib.IntN.{ℤ, sucℤ}
 use lib.Signed.{nonNeg}
 use lib.ListN.{length}
 use borrow.Author.Tests.{leb-false, not-false}
-use Rattle.rules.specs.Words.{eqZ, larger, isSome, someWith, all, any, keep, isEmpty, unequal, isIn, highest, put, firstOf}
+use Rattle.rules.specs.Words.{eqZ, larger, isSome, someWith, all, any, keep, isEmpty, unequal, isIn, highest, put, firstOf, Check}
+use Rattle.rules.specs.Replies.{updateNotFormed}
 use Rattle.rules.specs.Capacities.{schemaRoom, schemaFieldRoom}
-use Rattle.rules.specs.Register.{Schema, Metadata, State, withSchemas, withLastColumn}
+use Rattle.rules.specs.Register.{Schema, SchemaOffer, Metadata, State, withSchemas, withLastColumn}
 use Rattle.rules.specs.WellFormed.{atLeastOne, fieldIds, schemaFormed, schemaBelow, schemasFormed, fieldsFormed, currentSchemaHeld, hasSchema}
-use Rattle.rules.specs.SchemaUpdates.{reusedSchema, schemaIds, addSchemaChecks, newSchema, addSchema, chosen, choiceChecks, holdsSchema, setCurrentSchemaChecks, setCurrentSchema, removeSchemasChecks, removeSchemas}
-use Rattle.rules.proofs.Checks.{by-test, by-option, parts, whole, passed, passed-unless}
+use Rattle.rules.specs.Offers.{offeredSchema, isTidyOffer, offerFormed}
+use Rattle.rules.specs.SchemaUpdates.{reusedSchema, schemaIds, addSchemaChecks, offeredAs, newSchema, addSchema, chosen, choiceChecks, holdsSchema, setCurrentSchemaChecks, setCurrentSchema, removeSchemasChecks, removeSchemas}
+use Rattle.rules.proofs.Checks.{by-test, by-option, both, and-left, and-right, parts, whole, passed, passed-unless, passed-before}
 use Rattle.rules.proofs.Orders.{numbers-ordered, numbers-told, highest-nonNeg, suc-nonNeg}
 use Rattle.rules.proofs.Tables.{any-put, any-keep, table-put, table-keep}
 use Rattle.rules.proofs.Sound.Metadata.{Sound, SoundState, with-fields, with-current-schema, with-schemas}
+
+-- ---- offers
+
+module _ (offers : List ℕ) (o : SchemaOffer) where
+  -- the check that an offer is well formed
+  abbrev pub offer-check : List Check
+  offer-check = (not (offerFormed offers o), updateNotFormed) ∷ []
+
+  pub offer-passed : (cs : List Check) → firstOf (offer-check ++ cs) ≡ 0 → offerFormed offers o ≡ true
+  offer-passed cs e = not-false (offerFormed offers o) (passed offer-check refl (passed-before offer-check cs e) .0)
+
+  pub offer-formed : (cs : List Check) → firstOf (offer-check ++ cs) ≡ 0 → schemaFormed (offeredSchema offers o) ≡ true
+  unfolding offerFormed
+  offer-formed cs e = and-right (isTidyOffer offers o) (schemaFormed (offeredSchema offers o)) (offer-passed cs e)
 
 -- ---- add schema
 
@@ -27,23 +43,30 @@ schema-named s id h k =
     let more : List Bool = leb (length (s .fields)) schemaFieldRoom ∷ all atLeastOne (fieldIds s) ∷ unequal (fieldIds s) ∷ [] in
     whole (nonNeg id) more (h, parts (nonNeg (s .id)) more k .1)
 
-new-schema-sound : (s : Schema) (st : State) → schemaFormed s ≡ true → length (st .metadata .schemas) < schemaRoom → Sound (st .metadata) → Sound (newSchema s st .metadata)
+-- the bytes of an offer do not say its id
+pub reoffered-formed : (offers : List ℕ) (id : ℤ) (o : SchemaOffer) → nonNeg id ≡ true → offerFormed offers o ≡ true → offerFormed offers (offeredAs id o) ≡ true
+unfolding offerFormed isTidyOffer offeredSchema
+reoffered-formed offers id o n h =
+    both (and-left (isTidyOffer offers o) (schemaFormed (offeredSchema offers o)) h)
+    (schema-named (offeredSchema offers o) id n (and-right (isTidyOffer offers o) (schemaFormed (offeredSchema offers o)) h))
+
+new-schema-sound : (o : SchemaOffer) (s : Schema) (st : State) → schemaFormed s ≡ true → length (st .metadata .schemas) < schemaRoom → Sound (st .metadata) → Sound (newSchema o s st .metadata)
 unfolding schemasFormed fieldsFormed currentSchemaHeld
-new-schema-sound s st h r d =
+new-schema-sound o s st h r d =
     let m : Metadata = st .metadata in
     let l : List Schema = put schemaBelow s (m .schemas) in
     let f : schemasFormed l ≡ true = table-put numbers-ordered (λ (x : Schema). x .id) schemaRoom schemaFormed s (m .schemas) r h (d .schemas) in
     let c : any (hasSchema (m .fields .currentSchema)) l ≡ true = any-put numbers-ordered (λ (x : Schema). x .id) (λ (k : ℤ). eqZ k (m .fields .currentSchema)) s (m .schemas) (d .schemaHeld) in
     with-fields (withSchemas l m) (with-schemas m d l f c) (withLastColumn (larger (m .fields .lastColumn) (highest (fieldIds s))) (m .fields)) (d .fields) refl refl
 
-pub add-schema-sound : (s : Schema) (st : State) → schemaFormed s ≡ true → firstOf (addSchemaChecks s st) ≡ 0 → Sound (st .metadata) → Sound (addSchema s st .metadata)
+pub add-schema-sound : (o : SchemaOffer) (s : Schema) (st : State) → schemaFormed s ≡ true → firstOf (addSchemaChecks s st) ≡ 0 → Sound (st .metadata) → Sound (addSchema o s st .metadata)
 unfolding addSchema addSchemaChecks
-add-schema-sound s st h e d =
+add-schema-sound o s st h e d =
     let l : List Schema = st .metadata .schemas in
     let id : ℤ = sucℤ (highest (schemaIds l)) in
     let f : schemaFormed (record { id = id; fields = s .fields }) ≡ true = schema-named s id (suc-nonNeg (highest (schemaIds l)) (highest-nonNeg (schemaIds l))) h in
     by-option SoundState (reusedSchema s l)
-    (λ n. new-schema-sound (record { id = id; fields = s .fields }) st f (leb-false schemaRoom (length l) (passed-unless (isSome (reusedSchema s l)) _ refl (ap isSome n) e .1 .0)) d)
+    (λ n. new-schema-sound o (record { id = id; fields = s .fields }) st f (leb-false schemaRoom (length l) (passed-unless (isSome (reusedSchema s l)) _ refl (ap isSome n) e .1 .0)) d)
     (λ held n. by-test SoundState (someWith (eqZ held) (st .added .schema)) (λ g. d) (λ g. d))
 
 -- ---- set schema

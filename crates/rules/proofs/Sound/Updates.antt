@@ -5,16 +5,18 @@ use mathlib.Core.List.{[], _∷_}
 use borrow.Author.Tests.{not-false}
 use Rattle.rules.specs.Words.{firstOf}
 use Rattle.rules.specs.Replies.{updateNotFormed}
-use Rattle.rules.specs.Register.{Update, Terms, State}
+use Rattle.rules.specs.Register.{Schema, Update, Terms, State}
 use Rattle.rules.specs.Register.Update.{AssignUuid, UpgradeFormatVersion, SetLocation, AddSnapshot, SetBranchSnapshot, RemoveSnapshots, SetRef, RemoveRef, AddSchema, SetCurrentSchema, RemoveSchemas, AddSortOrder, SetDefaultSortOrder, SetStatistics, RemoveStatistics, NotFormed}
-use Rattle.rules.specs.WellFormed.{refNameFormed, snapshotFormed, updateFormed}
+use Rattle.rules.specs.WellFormed.{nameFormed, snapshotFormed, updateFormed}
+use Rattle.rules.specs.Offers.{offeredSchema}
+use Rattle.rules.specs.SchemaUpdates.{addSchemaChecks}
 use Rattle.rules.specs.Updates.{checks, updateNumber, effect}
 use Rattle.rules.proofs.Checks.{and-left, and-right, passed, passed-before, passed-after}
 use Rattle.rules.proofs.Sound.Metadata.{Sound}
 use Rattle.rules.proofs.Sound.Singles.{assign-uuid-sound, upgrade-format-version-sound, set-location-sound}
 use Rattle.rules.proofs.Sound.Snapshots.{add-snapshot-sound, remove-snapshots-sound}
 use Rattle.rules.proofs.Sound.Refs.{set-ref-sound, set-branch-snapshot-sound, remove-ref-sound}
-use Rattle.rules.proofs.Sound.Schemas.{add-schema-sound, set-current-schema-sound, remove-schemas-sound}
+use Rattle.rules.proofs.Sound.Schemas.{offer-check, offer-formed, add-schema-sound, set-current-schema-sound, remove-schemas-sound}
 use Rattle.rules.proofs.Sound.Orders.{add-sort-order-sound, set-default-sort-order-sound}
 use Rattle.rules.proofs.Sound.Statistics.{set-statistics-sound, remove-statistics-sound}
 
@@ -34,11 +36,13 @@ checked-sound terms (AssignUuid uuid) st f e s = assign-uuid-sound st s uuid
 checked-sound terms (UpgradeFormatVersion v) st f e s = upgrade-format-version-sound st s v f
 checked-sound terms (SetLocation l) st f e s = set-location-sound st s l f
 checked-sound terms (AddSnapshot x) st f e s = add-snapshot-sound (terms .tolerance) x st f e s
-checked-sound terms (SetBranchSnapshot name x) st f e s = set-branch-snapshot-sound terms name x st (and-left (refNameFormed name) (snapshotFormed x) f) (and-right (refNameFormed name) (snapshotFormed x) f) e s
+checked-sound terms (SetBranchSnapshot name x) st f e s = set-branch-snapshot-sound terms name x st (and-left (nameFormed name) (snapshotFormed x) f) (and-right (nameFormed name) (snapshotFormed x) f) e s
 checked-sound terms (RemoveSnapshots ids) st f e s = remove-snapshots-sound ids st s
 checked-sound terms (SetRef name r) st f e s = set-ref-sound terms name r st f e s
 checked-sound terms (RemoveRef name) st f e s = remove-ref-sound name st s
-checked-sound terms (AddSchema x) st f e s = add-schema-sound x st f e s
+checked-sound terms (AddSchema o) st f e s =
+    let x : Schema = offeredSchema (terms .offers) o in
+    add-schema-sound o x st (offer-formed (terms .offers) o (addSchemaChecks x st) e) (passed-after (offer-check (terms .offers) o) (addSchemaChecks x st) refl e) s
 checked-sound terms (SetCurrentSchema id) st f e s = set-current-schema-sound id st e s
 checked-sound terms (RemoveSchemas ids) st f e s = remove-schemas-sound ids st e s
 checked-sound terms (AddSortOrder o) st f e s = add-sort-order-sound o st f e s

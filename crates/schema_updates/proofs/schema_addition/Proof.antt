@@ -21,11 +21,12 @@ use Rattle.rules.specs.Register as plain
 use Rattle.rules.specs.Register.{State, withLastColumn, withSchemas, withMetadata, onFields}
 use Rattle.rules.specs.Register.Update.{AddSchema}
 use Rattle.rules.specs.WellFormed.{fieldIds, schemaBelow}
-use Rattle.rules.specs.SchemaUpdates.{reusedSchema, schemaIds, addSchemaChecks, addSchema}
+use Rattle.rules.specs.SchemaUpdates.{reusedSchema, schemaIds, addSchemaChecks, offeredAs, addSchema}
 use Rattle.rules.specs.SchemaUpdates as rule
-use Rattle.rules.specs.Layout.{readSchema, laidSchema, readSchemas, laidSchemas, laidFields}
-use Rattle.rules.specs.Kinds.{laidUpdate, ofKind, withSchemasPart, withSchema, addSchemaKind}
+use Rattle.rules.specs.Layout.{readSchema, laidSchema, readSchemas, laidSchemas, laidSchemaOffer, laidFields}
+use Rattle.rules.specs.Kinds.{laidUpdate, ofKind, withSchemasPart, withSchemaOffer, addSchemaKind}
 use Rattle.rules.proofs.Checks.{by-test, Passed, passed}
+use Rattle.rules.proofs.Orders.{highest-nonNeg, suc-nonNeg}
 use Rattle.rules.proofs.Slots.Reread.{reread-schemas}
 use Rattle.tables.specs.Laid.{LaidSchema}
 use Rattle.tables.proofs.Table.{listed-length}
@@ -85,14 +86,16 @@ module _ (b : TableMetadataBuilder) (t : Schemas) (s : Schema) (k : LaidSchema s
     unfolding addSchemaChecks addSchema laidBuilder laidFields laidUpdate
     held last x =
         record {
-          answers = λ st p q.
+          answers = λ o st w p q.
               let l : last ≡ someWith (eqZ (id .0)) (st .added .schema) = x ∙ ap (someWith (eqZ (id .0))) (ap (λ (y : TableMetadataBuilder). addedSchema y) p ∙ given-back (st .added .schema)) in (
                 rw (held-at-state st q),
-                λ z. rw (held-at-state st q, addSchema, l, p) (stepped-unless (someWith (eqZ (id .0)) (st .added .schema)) st (rule.addedSchema (id .0) st) (AddSchema (readSchema s)) _ _ refl refl (ap (λ (y : Schema). withSchemasPart (withSchema y noSchemasPart) (ofKind addSchemaKind)) (sym (k .back)))),
+                λ z. rw (held-at-state st q, addSchema, l, p) (stepped-unless (someWith (eqZ (id .0)) (st .added .schema)) st (rule.addedSchema (id .0) st) (AddSchema o) _ _ refl refl (ap (λ (y : ℤ). withSchemasPart (withSchemaOffer (laidSchemaOffer (offeredAs y o)) noSchemasPart) (ofKind addSchemaKind)) (sym w))),
               );
-          table = λ st q z. rw (held-at-state st q, addSchema) (by-test (λ (y : State). y .metadata .schemas ≡ st .metadata .schemas) (someWith (eqZ (id .0)) (st .added .schema)) (λ h. refl) (λ h. refl));
+          table = λ o st q z. rw (held-at-state st q, addSchema) (by-test (λ (y : State). y .metadata .schemas ≡ st .metadata .schemas) (someWith (eqZ (id .0)) (st .added .schema)) (λ h. refl) (λ h. refl));
           laid = k;
+          fields = refl;
           room = λ h. absurd (false≢true h);
+          numbered = λ h. absurd (false≢true h);
           new = λ h. absurd (false≢true h);
         }
 
@@ -123,7 +126,7 @@ module _ (b : TableMetadataBuilder) (t : Schemas) (s : Schema) (k : LaidSchema s
     unfolding addSchemaChecks addSchema laidBuilder laidFields laidUpdate
     new column y =
         record {
-          answers = λ st p q.
+          answers = λ o st _ p q.
               let m = st .metadata in
               let one : plain.Schema = record { id = sucℤ (top (m .schemas)); fields = readSchema s .fields } in
               let end : State = rule.addedSchema (one .id) (onFields (λ f. withLastColumn (larger (f .lastColumn) (highest (fieldIds one))) f) (withMetadata (withSchemas (put schemaBelow one (m .schemas)) m) st)) in (
@@ -132,12 +135,13 @@ module _ (b : TableMetadataBuilder) (t : Schemas) (s : Schema) (k : LaidSchema s
                     let i : id ≡ record { 0 = one .id } = λ j. record { 0 = numbered st q z j } in
                     let v : column .0 ≡ larger (m .fields .lastColumn) (highest (fieldIds (readSchema s))) = y ∙ ap (λ (w : TableMetadataBuilder). larger (w .fields .«last_column_id» .0) (highest (fieldIds (readSchema s)))) p in
                     let w : column ≡ record { 0 = larger (m .fields .lastColumn) (highest (fieldIds (readSchema s))) } = λ j. record { 0 = v j } in
-                    let r : laidSchema one ≡ record { «schema_id» = id; items = s .items; count = s .count } = ap (λ (d : ℤ). laidSchema (record { id = d; fields = readSchema s .fields })) (sym (numbered st q z)) ∙ schema-renamed s k id .back in
-                    rw (new-at-state st q, addSchema) (stepped-unless false st end (AddSchema one) _ _ refl (rw (i, w, p)) (ap (λ (d : Schema). withSchemasPart (withSchema d noSchemasPart) (ofKind addSchemaKind)) (sym r))),
+                    rw (new-at-state st q, addSchema) (stepped-unless false st end (AddSchema (offeredAs (one .id) o)) _ _ refl (rw (i, w, p)) (ap (λ (d : ℤ). withSchemasPart (withSchemaOffer (laidSchemaOffer (offeredAs d o)) noSchemasPart) (ofKind addSchemaKind)) (numbered st q z))),
               );
-          table = λ st q z. rw (new-at-state st q, addSchema, eq-eqb number 0 z) (ap (λ (d : ℤ). put schemaBelow (record { id = d; fields = readSchema s .fields }) (st .metadata .schemas)) (sym (numbered st q z)));
+          table = λ o st q z. rw (new-at-state st q, addSchema, eq-eqb number 0 z) (ap (λ (d : ℤ). put schemaBelow (record { id = d; fields = readSchema s .fields }) (st .metadata .schemas)) (sym (numbered st q z)));
           laid = schema-renamed s k id;
+          fields = refl;
           room = λ h. let f = leb-false schemaRoom (length (readSchemas t)) (accepted (eqb-true number 0 h) .1 .0) in omega (arith, f, listed-length schemas t);
+          numbered = λ h. rw (g (accepted (eqb-true number 0 h) .0)) (suc-nonNeg (top (readSchemas t)) (highest-nonNeg (schemaIds (readSchemas t))));
           new = λ h. rw (g (accepted (eqb-true number 0 h) .0)) (highest-not-held (λ (d : plain.Schema). d .id) (readSchemas t));
         }
 

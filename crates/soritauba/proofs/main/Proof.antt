@@ -1,13 +1,15 @@
--- The loop ends since its turns are counted; nothing has to hold from turn to turn.
+-- The loop ends since its turns are counted; from turn to turn no byte of the offers is added or lost.
+use mathlib.Core.Path.{_≡_}
 use borrow.Author.Needs.{needs}
+use lib.ListN.{length}
 use Rattle.soritauba.proofs.main.Statement.{statement}
 use Rattle.soritauba.proofs.main.Tie as tie
 
 abbrev Inv-loop : tie.InvT-loop
-Inv-loop turn₀ input₀ place₀ output₀ end₀ left₀ wanted₀ turn input place output end left wanted = Unit {0}
+Inv-loop turn₀ input₀ place₀ offers₀ output₀ end₀ left₀ turn input place offers output end left = length offers ≡ 77824
 
 abbrev μ-loop : tie.MeasureT-loop
-μ-loop turn₀ input₀ place₀ output₀ end₀ left₀ wanted₀ turn input place output end left wanted = left
+μ-loop turn₀ input₀ place₀ offers₀ output₀ end₀ left₀ turn input place offers output end left = left
 
 pub main-spec : {M : Type 1} → statement M
 main-spec =
@@ -19,7 +21,7 @@ main-spec =
     (λ c κs. search needs)
     (λ c κs. search needs)
     (λ c κs. search needs)
-    (λ c κs. search needs)
+    (λ c. search needs)
     (λ c. search needs)
     (λ c κs. search needs)
     (λ c κs. search needs)

@@ -4,10 +4,10 @@ use Rattle.soritauba.proofs.run_times.Statement.{statement}
 use Rattle.soritauba.proofs.run_times.Tie as tie
 
 abbrev Inv-loop : tie.InvT-loop
-Inv-loop times m us terms limit answer₀ left₀ answer left = Unit {0}
+Inv-loop times m us terms limit offers answer₀ left₀ answer left = Unit {0}
 
 abbrev μ-loop : tie.MeasureT-loop
-μ-loop times m us terms limit answer₀ left₀ answer left = left
+μ-loop times m us terms limit offers answer₀ left₀ answer left = left
 
 pub run-times-spec : {M : Type 1} → statement M
 run-times-spec =

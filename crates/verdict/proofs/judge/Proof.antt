@@ -24,7 +24,7 @@ judge-spec =
     tie.close
     (tie.spec
     (λ c κs. search needs)
-    (λ c. let k = c .before .run in let ending = c .before .before .before .args .ending in refused (k .result) ending (c .if1 .taken) ∙ ap (λ (x : Answer). judged x ending) (k .ensures))
+    (λ c. let k = c .before .run in let ending = c .before .before .before .before .args .ending in refused (k .result) ending (c .if1 .taken) ∙ ap (λ (x : Answer). judged x ending) (k .ensures))
     (λ c κs. search needs)
-    (λ c. let k = c .before .before .run in let ending = c .before .before .before .before .args .ending in
+    (λ c. let k = c .before .before .run in let ending = c .before .before .before .before .before .args .ending in
     rw (c .first-difference .ensures) (compared (k .result) ending (c .before .if1 .left) ∙ ap (λ (x : Answer). judged x ending) (k .ensures))))

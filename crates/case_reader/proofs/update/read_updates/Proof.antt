@@ -1,14 +1,16 @@
--- The count is counted up to; a record is stored where it has a slot.
+-- The count is counted up to; a record is stored where it has a slot; and no byte of the offers is added or lost.
 use Prim.Native.Nat.{_-_}
+use mathlib.Core.Path.{_≡_}
 use borrow.Author.Needs.{needs}
+use lib.ListN.{length}
 use Rattle.case_reader.proofs.update.read_updates.Statement.{statement}
 use Rattle.case_reader.proofs.update.read_updates.Tie as tie
 
 abbrev Inv-loop : tie.InvT-loop
-Inv-loop input₀ place₀ list₀ count i₀ input place list i = Unit {0}
+Inv-loop input₀ place₀ offers₀ list₀ count i₀ input place offers list i = length offers ≡ length offers₀
 
 abbrev μ-loop : tie.MeasureT-loop
-μ-loop input₀ place₀ list₀ count i₀ input place list i = count - i
+μ-loop input₀ place₀ offers₀ list₀ count i₀ input place offers list i = count - i
 
 pub read-updates-spec : {M : Type 1} → statement M
 read-updates-spec =
@@ -21,6 +23,9 @@ read-updates-spec =
     (λ c. search needs)
     (λ c κs. search needs)
     (λ c κs. search needs)
+    (λ c κs. search needs)
+    (λ c. search needs)
+    (λ c. search needs)
     (λ c. search needs)
     (λ c. search needs)
     (λ c. search needs)

@@ -1,6 +1,6 @@
 -- Each record of the part is asked what the rule asks of it.
 use borrow.Author.Needs.{needs}
-use Rattle.rules.specs.Capacities.{refNameRoom}
+use Rattle.rules.specs.Capacities.{nameRoom}
 use Rattle.rules.specs.Blanks.{isZero}
 use Rattle.rules.specs.Kinds.{isTidyRefsPart, setBranchSnapshotKind, setRefKind, removeRefKind, refNameKinds, referenceKinds}
 use Rattle.formed.proofs.Used.{fits, one-kind, three-kinds, none-rest, blank-reference-tidy}
@@ -15,4 +15,4 @@ refs-fit-spec =
     (λ c κs. search needs)
     (λ c κs. search needs)
     (λ c. let a = c .before .before .args in
-    rw (fits refNameKinds (a .k) (three-kinds (a .k) setBranchSnapshotKind setRefKind removeRefKind) (none-rest refNameRoom isZero (a .p .name .bytes) (a .p .name .len)) (c .before .ref-name-fits .ensures), fits referenceKinds (a .k) (one-kind (a .k) setRefKind) (blank-reference-tidy (a .p .reference)) (c .reference-fits .ensures))))
+    rw (fits refNameKinds (a .k) (three-kinds (a .k) setBranchSnapshotKind setRefKind removeRefKind) (none-rest nameRoom isZero (a .p .name .bytes) (a .p .name .len)) (c .before .name-fits .ensures), fits referenceKinds (a .k) (one-kind (a .k) setRefKind) (blank-reference-tidy (a .p .reference)) (c .reference-fits .ensures))))

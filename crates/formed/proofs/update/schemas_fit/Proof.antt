@@ -1,7 +1,7 @@
 -- Each record of the part is asked what the rule asks of it.
 use borrow.Author.Needs.{needs}
-use Rattle.rules.specs.Kinds.{isTidySchemasPart, addSchemaKind, setCurrentSchemaKind, removeSchemasKind, schemaKinds, schemaIdsKinds}
-use Rattle.formed.proofs.Used.{fits, one-kind, blank-schema-tidy, blank-schema-ids-tidy}
+use Rattle.rules.specs.Kinds.{isTidySchemasPart, addSchemaKind, setCurrentSchemaKind, removeSchemasKind, schemaIdsKinds}
+use Rattle.formed.proofs.Used.{fits, one-kind, blank-schema-ids-tidy}
 use Rattle.formed.proofs.update.schemas_fit.Statement.{statement}
 use Rattle.formed.proofs.update.schemas_fit.Tie as tie
 
@@ -14,4 +14,4 @@ schemas-fit-spec =
     (λ c κs. search needs)
     (λ c κs. search needs)
     (λ c. let a = c .before .before .before .args in
-    rw (fits schemaKinds (a .k) (one-kind (a .k) addSchemaKind) (blank-schema-tidy (a .p .added)) (c .before .before .schema-fits .ensures), c .before .same-schema .ensures, one-kind (a .k) setCurrentSchemaKind, fits schemaIdsKinds (a .k) (one-kind (a .k) removeSchemasKind) (blank-schema-ids-tidy (a .p .removed)) (c .schema-ids-fit .ensures))))
+    rw (c .before .before .schema-offer-is-blank .ensures, one-kind (a .k) addSchemaKind, c .before .same-schema .ensures, one-kind (a .k) setCurrentSchemaKind, fits schemaIdsKinds (a .k) (one-kind (a .k) removeSchemasKind) (blank-schema-ids-tidy (a .p .removed)) (c .schema-ids-fit .ensures))))

@@ -33,7 +33,7 @@ used-formed-spec =
     (λ c. rw (c .before .match .keys6, c .snapshot-ids-formed .ensures))
     (λ c. let n = c .before .before .args .u .refs .name in rw (c .before .match .keys7, c .reference-formed .ensures, length-counted 0 (n .bytes) (n .len)))
     (λ c. let n = c .before .args .u .refs .name in rw (c .match .keys8, length-counted 0 (n .bytes) (n .len)))
-    (λ c. rw (c .before .match .keys9, c .schema-formed .ensures))
+    (λ c. rw (c .before .match .keys9, c .schema-id-formed .ensures))
     (λ c. rw (c .before .match .keys10, c .schema-choice-formed .ensures))
     (λ c. rw (c .before .match .keys11, c .schema-ids-formed .ensures))
     (λ c. rw (c .before .match .keys12, c .offered-order-formed .ensures))

@@ -9,7 +9,7 @@ use Rattle.order_updates.proofs.family.decide.Statement.{statement}
 use Rattle.order_updates.proofs.family.decide.Tie as tie
 
 chooses : (c : tie.Else1) → c .before .args .u .kind ≡ setDefaultSortOrderKind
-chooses c = let s = c .before in omega (arith, s .pre .1 .1 .1 .1 .1 .1 .0, s .pre .1 .1 .1 .1 .1 .1 .1, c .if1 .left)
+chooses c = let s = c .before in omega (arith, s .pre .1 .1 .1 .1 .1 .0, s .pre .1 .1 .1 .1 .1 .1, c .if1 .left)
 
 returns : tie.Need-returns
 returns c =
@@ -27,7 +27,7 @@ returns-2 c =
     let u = s .args .u in
     record {
       answers = λ terms st p _ q. c .set-default-sort-order .ensures terms st p q;
-      table = λ terms st h z. orders-same u (c .set-default-sort-order .result) terms st h (chooses (c .before)) (readUpdate u) (u .«sort_orders» .chosen .0) (read-kind u (s .pre .1 .1 .1 .1 .0) 13 (chooses (c .before)));
+      table = λ terms st h z. orders-same u (c .set-default-sort-order .result) terms st h (chooses (c .before)) (readUpdate u) (u .«sort_orders» .chosen .0) (read-kind u (s .pre .1 .1 .1 .0) 13 (chooses (c .before)));
       new = λ k. absurd (c .before .if1 .left k);
     }
 
@@ -35,7 +35,7 @@ pub decide-spec : {M : Type 1} → statement M
 decide-spec =
     tie.close
     (tie.spec
-    (λ c κs. let s = c .before in let p = s .pre .1 .1 in (s .pre .0, (s .pre .1 .0, (p .0, (p .1 .0, (p .1 .1 .0, (p .1 .1 .1 .0, c .if1 .taken)))))))
+    (λ c κs. let s = c .before in let p = s .pre .1 in (s .pre .0, (p .0, (p .1 .0, (p .1 .1 .0, (p .1 .1 .1 .0, c .if1 .taken))))))
     returns
-    (λ c κs. let p = c .before .pre .1 .1 in (p .0, (p .1 .1 .0, chooses c)))
+    (λ c κs. let p = c .before .pre .1 in (p .0, (p .1 .1 .0, chooses c)))
     returns-2)

@@ -5,10 +5,10 @@ use Rattle.plaintext.proofs.update.say_updates.Statement.{statement}
 use Rattle.plaintext.proofs.update.say_updates.Tie as tie
 
 abbrev Inv-loop : tie.InvT-loop
-Inv-loop output₀ end₀ heading list count n i₀ output end i = Unit {0}
+Inv-loop output₀ end₀ heading list offers count n i₀ output end i = Unit {0}
 
 abbrev μ-loop : tie.MeasureT-loop
-μ-loop output₀ end₀ heading list count n i₀ output end i = n - i
+μ-loop output₀ end₀ heading list offers count n i₀ output end i = n - i
 
 pub say-updates-spec : {M : Type 1} → statement M
 say-updates-spec =

@@ -20,8 +20,8 @@ pub after-spec : {M : Type 1} → statement M
 after-spec =
     tie.close
     (tie.spec
-    (λ c κs. let s = c .before in (s .pre .0, s .pre .1 .new (c .if1 .taken)))
+    (λ c κs. let s = c .before .before in (s .pre .0, s .pre .1 .new (c .if1 .taken)))
     returns
-    (λ c κs. let s = c .before .before in (s .pre .0, s .pre .1 .ids (c .if2 .taken)))
+    (λ c κs. let s = c .before .before .before in (s .pre .0, s .pre .1 .ids (c .if2 .taken)))
     returns-2
     returns-3)

@@ -3,14 +3,14 @@ use Prim.Native.Nat.{_-_}
 use mathlib.Core.Path.{sym, _∙_}
 use borrow.Author.Needs.{needs}
 use Rattle.rules.specs.RefUpdates.{hasName}
-use Rattle.rules.specs.Layout.{readRefName}
+use Rattle.rules.specs.Layout.{readName}
 use Rattle.tables.proofs.Search.{Sought, sought-start, sought-here, sought-on, sought-end}
 use Rattle.tables.proofs.Each.{refs, tidy-refs, ref-at, name-of}
 use Rattle.tables.proofs.refs.find.Statement.{statement}
 use Rattle.tables.proofs.refs.find.Tie as tie
 
 abbrev Inv-loop : tie.InvT-loop
-Inv-loop name t n i₀ i = Sought refs (hasName (readRefName name)) t i
+Inv-loop name t n i₀ i = Sought refs (hasName (readName name)) t i
 
 abbrev μ-loop : tie.MeasureT-loop
 μ-loop name t n i₀ i = n - i

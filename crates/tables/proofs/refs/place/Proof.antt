@@ -4,14 +4,14 @@ use mathlib.Core.Path.{sym, ap, _∙_}
 use mathlib.Core.Bool.{not}
 use borrow.Author.Needs.{needs}
 use Rattle.rules.specs.Names.{nameBelow}
-use Rattle.rules.specs.Layout.{readRefName}
+use Rattle.rules.specs.Layout.{readName}
 use Rattle.tables.proofs.Search.{Sought, sought-start, sought-here, sought-on, sought-end}
 use Rattle.tables.proofs.Each.{refs, tidy-refs, ref-at, name-of}
 use Rattle.tables.proofs.refs.place.Statement.{statement}
 use Rattle.tables.proofs.refs.place.Tie as tie
 
 abbrev Inv-loop : tie.InvT-loop
-Inv-loop name t n i₀ i = Sought refs (λ x. not (nameBelow (x .name) (readRefName name))) t i
+Inv-loop name t n i₀ i = Sought refs (λ x. not (nameBelow (x .name) (readName name))) t i
 
 abbrev μ-loop : tie.MeasureT-loop
 μ-loop name t n i₀ i = n - i

@@ -4,14 +4,14 @@ use mathlib.Core.Path.{refl, sym, ap, _∙_}
 use mathlib.Core.Bool.{not}
 use borrow.Author.Needs.{needs}
 use Rattle.rules.specs.RefUpdates.{hasName}
-use Rattle.rules.specs.Layout.{readRefName, laidRefs}
+use Rattle.rules.specs.Layout.{readName, laidRefs}
 use Rattle.tables.proofs.Filter.{Filtered, filtered-start, filtered-more, filtered-less, filtered-end}
 use Rattle.tables.proofs.Each.{refs, tidy-refs, made-refs, none-refs, ref-at, name-of}
 use Rattle.tables.proofs.refs.without.Statement.{statement}
 use Rattle.tables.proofs.refs.without.Tie as tie
 
 abbrev Inv-loop : tie.InvT-loop
-Inv-loop name t n r₀ i₀ r i = Filtered refs laidRefs (λ x. not (hasName (readRefName name) x)) t r i
+Inv-loop name t n r₀ i₀ r i = Filtered refs laidRefs (λ x. not (hasName (readName name) x)) t r i
 
 abbrev μ-loop : tie.MeasureT-loop
 μ-loop name t n r₀ i₀ r i = n - i

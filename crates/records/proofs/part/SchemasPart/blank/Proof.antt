@@ -1,4 +1,4 @@
--- The schema and the ids are those that their own `blank` gives, and the chosen id is 0.
+-- The offer and the ids are those that their own `blank` gives, and the chosen id is 0.
 use Rattle.records.specs.Blanks.{noSchemasPart}
 use Rattle.records.proofs.part.SchemasPart.blank.Statement.{statement}
 use Rattle.records.proofs.part.SchemasPart.blank.Tie as tie

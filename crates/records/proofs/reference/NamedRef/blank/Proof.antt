@@ -1,4 +1,4 @@
--- The name and the reference are those that `RefName::blank` and `SnapshotReference::blank` give.
+-- The name and the reference are those that `Name::blank` and `SnapshotReference::blank` give.
 use Rattle.records.proofs.reference.NamedRef.blank.Statement.{statement}
 use Rattle.records.proofs.reference.NamedRef.blank.Tie as tie
 

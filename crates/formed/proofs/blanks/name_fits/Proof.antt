@@ -4,11 +4,11 @@ use Prim.Native.Nat.{ℕ}
 use Rattle.rules.specs.Blanks.{isZero, restBlank}
 use Rattle.formed.proofs.Scans.{with-slots}
 use Rattle.formed.proofs.Unused.{from-place}
-use Rattle.formed.proofs.blanks.ref_name_fits.Statement.{statement}
-use Rattle.formed.proofs.blanks.ref_name_fits.Tie as tie
+use Rattle.formed.proofs.blanks.name_fits.Statement.{statement}
+use Rattle.formed.proofs.blanks.name_fits.Tie as tie
 
-pub ref-name-fits-spec : {M : Type 1} → statement M
-ref-name-fits-spec =
+pub name-fits-spec : {M : Type 1} → statement M
+name-fits-spec =
     tie.close
     (tie.spec
     (λ c κs. search needs)

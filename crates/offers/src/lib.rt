@@ -1,0 +1,118 @@
+// What an update offers, read from the bytes that are lent beside the list, as the crate `rules` says it in Offers. Any offer is answered, whatever the bytes.
+pub mod field;
+
+ghost use mathlib.Core.Path.{_≡_};
+ghost use Prim.Native.Nat.{_+_, _*_, _≤_};
+ghost use mathlib.Core.Bool.{true, false, _&&_};
+ghost use lib.Dec.{leb};
+ghost use lib.ListN.{length};
+ghost use Rattle.records.specs.Blanks.{noSchema};
+ghost use Rattle.rules.specs.Words.{all};
+ghost use Rattle.rules.specs.Capacities.{schemaFieldRoom, fieldBytes};
+ghost use Rattle.rules.specs.Offers.{isTidyField, offeredFields, offeredSchema};
+ghost use Rattle.rules.specs.Layout.{readSchemaOffer, laidSchema};
+ghost use Rattle.offers.specs.Offered.{Offered};
+use crate::field::field_of;
+use crate::field::is_tidy_field;
+use formed::record::schema_formed;
+use records::capacities::FIELD_BYTES;
+use records::capacities::SCHEMA_FIELDS;
+use records::schema::Schema;
+use records::schema::SchemaOffer;
+
+// Whether an offer is well formed, and the schema that it offers.
+pub struct OfferedSchema {
+    pub formed: bool,
+    pub schema: Schema,
+}
+
+// No more fields than a schema has room for, and all their bytes are among so many. Each sum is made where it can not wrap.
+fn is_there(o: SchemaOffer, len: usize) -> bool
+    ensures { λ r. ⌜ r ≡ (leb (o .count) schemaFieldRoom && leb (o .at + o .count * fieldBytes) len) ⌝ }
+{
+    let at = o.at;
+    let n = o.count;
+    if n > SCHEMA_FIELDS {
+        return false;
+    }
+    if at > len {
+        return false;
+    }
+    if n * FIELD_BYTES > len - at {
+        return false;
+    }
+    true
+}
+
+// The bytes of each field say one.
+fn fields_tidy(o: SchemaOffer, bytes: &[u8]) -> bool
+    requires { ⌜ o .at + o .count * fieldBytes ≤ length (now bytes) ⌝ }
+    ensures { λ r. ⌜ r ≡ all isTidyField (offeredFields (now (bytes .entry)) (readSchemaOffer o)) ⌝ }
+{
+    let at = o.at;
+    let n = o.count;
+    let mut ok = true;
+    let mut i = 0;
+    while i < n {
+        let from = at + i * FIELD_BYTES;
+        let end = from + FIELD_BYTES;
+        ok = ok & is_tidy_field(&bytes[from..end]);
+        i += 1;
+    }
+    ok
+}
+
+// The schema of an offer that is there and whose bytes say its fields.
+fn schema_of(o: SchemaOffer, bytes: &[u8]) -> Schema
+    requires { ⌜ o .count ≤ schemaFieldRoom ⌝ }
+    requires { ⌜ o .at + o .count * fieldBytes ≤ length (now bytes) ⌝ }
+    requires { ⌜ all isTidyField (offeredFields (now bytes) (readSchemaOffer o)) ≡ true ⌝ }
+    ensures { λ r. ⌜ r ≡ laidSchema (offeredSchema (now (bytes .entry)) (readSchemaOffer o)) ⌝ }
+{
+    let id = o.schema_id;
+    let at = o.at;
+    let n = o.count;
+    let mut r = Schema::blank();
+    let mut i = 0;
+    while i < n {
+        let from = at + i * FIELD_BYTES;
+        let end = from + FIELD_BYTES;
+        let f = field_of(&bytes[from..end]);
+        r.items[i] = f;
+        i += 1;
+    }
+    r.schema_id = id;
+    r.count = n;
+    r
+}
+
+// What is answered of an offer that is not well formed.
+fn not_formed() -> OfferedSchema
+    ensures { λ r. ⌜ (r .formed ≡ false) × (r .schema ≡ noSchema) ⌝ }
+{
+    let s = Schema::blank();
+    OfferedSchema {
+        formed: false,
+        schema: s,
+    }
+}
+
+// The schema that an offer offers, and whether it is well formed; where it is not, the schema is blank.
+pub fn schema(o: SchemaOffer, bytes: &[u8]) -> OfferedSchema
+    ensures { λ r. ⌜ Offered (now (bytes .entry)) (readSchemaOffer o) r ⌝ }
+{
+    if !is_there(o, bytes.len()) {
+        return not_formed();
+    }
+    if !fields_tidy(o, bytes) {
+        return not_formed();
+    }
+    let s = schema_of(o, bytes);
+    if !schema_formed(s) {
+        return not_formed();
+    }
+    OfferedSchema {
+        formed: true,
+        schema: s,
+    }
+}

@@ -1,0 +1,47 @@
+-- What an update offers. The fields of an offered schema stand among the bytes that a run is given beside its list, and the update says where and how many.
+-- They are the same bytes for the list and for its change log, so an entry of the log says what its update said.
+use Prim.Native.Nat.{ℕ, zero, suc, _+_, _*_}
+use mathlib.Core.Bool.{Bool, _&&_}
+use mathlib.Core.List.{List, [], _∷_, map}
+use lib.Dec.{leb}
+use lib.IntN.{pos}
+use lib.ListN.{length, take, drop, getD}
+use Rattle.rules.specs.Words.{all}
+use Rattle.rules.specs.Capacities.{largestFieldId, fieldBytes}
+use Rattle.rules.specs.Register.{SchemaField, Schema, SchemaOffer}
+use Rattle.rules.specs.WellFormed.{schemaFormed}
+
+-- ---- numbers
+
+-- four bytes, the lowest first
+abbrev pub numberOf : List ℕ → ℕ
+numberOf bs = getD bs 0 0 + 256 * (getD bs 1 0 + 256 * (getD bs 2 0 + 256 * getD bs 3 0))
+
+-- ---- schemas
+
+-- so many fields, one after the other
+abbrev pub fieldsOf : ℕ → List ℕ → List (List ℕ)
+fieldsOf zero bs = []
+fieldsOf (suc n) bs = take fieldBytes bs ∷ fieldsOf n (drop fieldBytes bs)
+
+-- the bytes of a field: four of its id
+abbrev pub offeredField : List ℕ → SchemaField
+offeredField bs = record { id = pos (numberOf bs) }
+
+-- "Field ids" are numbers of 32 bits
+abbrev pub isTidyField : List ℕ → Bool
+isTidyField bs = leb (numberOf bs) largestFieldId
+
+abbrev pub offeredFields : List ℕ → SchemaOffer → List (List ℕ)
+offeredFields offers o = fieldsOf (o .count) (drop (o .at) offers)
+
+unfoldable pub offeredSchema : List ℕ → SchemaOffer → Schema
+offeredSchema offers o = record { id = o .id; fields = map offeredField (offeredFields offers o) }
+
+-- all of its bytes are there, and say a field each
+unfoldable pub isTidyOffer : List ℕ → SchemaOffer → Bool
+isTidyOffer offers o = leb (o .at + o .count * fieldBytes) (length offers) && all isTidyField (offeredFields offers o)
+
+-- "An update is well formed if its kind, lengths, .. and numbers keep the same bounds"
+unfoldable pub offerFormed : List ℕ → SchemaOffer → Bool
+offerFormed offers o = isTidyOffer offers o && schemaFormed (offeredSchema offers o)
