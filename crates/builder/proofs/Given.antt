@@ -9,7 +9,7 @@ use lib.Dec.{leb}
 use lib.Signed.{nonNeg}
 use lib.ListN.{length}
 use Rattle.records.specs.declared.update.TableUpdate.{TableUpdate}
-use Rattle.rules.specs.Words.{all, unequal}
+use Rattle.rules.specs.Words.{all}
 use Rattle.rules.specs.Capacities.{locationRoom, sortFieldRoom, removalRoom}
 use Rattle.rules.specs.WellFormed.{sortFieldFormed, offeredOrderFormed, statisticsFileFormed, removalFormed, locationFormed}
 use Rattle.rules.specs.Layout.{readText, readSnapshotIds, readSchemaIds, readSortOrder, readStatisticsFile}

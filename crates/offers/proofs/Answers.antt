@@ -69,7 +69,7 @@ module _ (bs : List ℕ) (o : plain.SchemaOffer) where
 
   module _ {r : OfferedSchema} (n : (r .formed ≡ false) × (r .schema ≡ noSchema)) where
     refused : offerFormed bs o ≡ false → Offered bs o r
-    refused e = record { formed = n .0 ∙ sym e; says = λ t. absurd (false≢true (sym (n .0) ∙ t)); laid = rw (n .1) blank-laid }
+    refused e = record { formed = n .0 ∙ sym e; says = λ t. absurd (false≢true (sym (n .0) ∙ t)); blank = λ _. n .1; laid = rw (n .1) blank-laid }
 
     pub not-there : {z : Bool} → z ≡ there → not z ≡ true → Offered bs o r
     not-there {z} e h = refused (fails (offerFormed bs o) formed-there (sym e ∙ not-true z h))
@@ -92,5 +92,6 @@ module _ (bs : List ℕ) (o : plain.SchemaOffer) where
         record {
           formed = sym (all-formed (sym u ∙ not-false t v) (sym x ∙ not-false d y) (sym asked ∙ not-false z w));
           says = λ q. l;
+          blank = λ q. absurd (false≢true (sym q));
           laid = record { back = ap laidSchema reread ∙ sym l; fits = omega (arith, ap (λ (p : plain.Schema). length (p .fields)) reread, fields-counted bs o, passed-there u v) };
         }

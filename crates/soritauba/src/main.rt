@@ -100,6 +100,7 @@ fn ask_again(wanted: usize, times: u64, run: Run, offers: &[u8]) -> Answer {
     )
 }
 
+// One run is asked apart from many, so that less stack is needed.
 fn put_run(turn: Turn, run: Run, offers: &[u8], output: &mut Output, end: &mut usize) {
     if turn.times == 1 && turn.wanted == ASKED {
         put_answer_of(output, end, run.given, ask(run, offers), offers);
