@@ -2,6 +2,7 @@
 use records::capacities::SCHEMA_FIELDS;
 use records::capacities::SORT_FIELDS;
 use records::capacities::TEXT;
+use records::schema::SchemaField;
 use slot_bounds::with_slots;
 
 pub const SIGNED: usize = 8;
@@ -15,10 +16,20 @@ pub struct Text {
     pub len: usize,
 }
 
-// Elements of so many numbers each, one after the other. A width of 0 says that the record has no list.
+// What a list has for elements: nothing, where the record has no list; ids; the fields of a schema; those of a sort order, three numbers each.
+pub const NOTHING: u8 = 0;
+
+pub const IDS: u8 = 1;
+
+pub const FIELDS: u8 = 2;
+
+pub const SORTED_FIELDS: u8 = 3;
+
+// The fields of a schema, or the numbers of other elements, one after the other.
 pub struct List {
+    pub kind: u8,
     pub numbers: [i64; SCHEMA_FIELDS],
-    pub width: usize,
+    pub fields: [SchemaField; SCHEMA_FIELDS],
     pub slots: usize,
     pub count: usize,
 }
@@ -44,11 +55,32 @@ impl Text {
 
 impl List {
     pub fn blank() -> List {
+        let none = SchemaField::blank();
         List {
+            kind: NOTHING,
             numbers: [0; SCHEMA_FIELDS],
-            width: 0,
+            fields: [none; SCHEMA_FIELDS],
             slots: 0,
             count: 0,
+        }
+    }
+
+    pub fn of_numbers(kind: u8, numbers: [i64; SCHEMA_FIELDS], slots: usize, count: usize) -> List {
+        let mut list = List::blank();
+        list.kind = kind;
+        list.numbers = numbers;
+        list.slots = slots;
+        list.count = count;
+        list
+    }
+
+    pub fn of_fields(fields: [SchemaField; SCHEMA_FIELDS], count: usize) -> List {
+        List {
+            kind: FIELDS,
+            numbers: [0; SCHEMA_FIELDS],
+            fields,
+            slots: SCHEMA_FIELDS,
+            count,
         }
     }
 }
@@ -109,10 +141,10 @@ pub fn text_of(slots: &[u8], len: usize) -> Text {
 // How many numbers of a list are filled.
 pub fn filled(list: List) -> usize {
     let n = with_slots(list.count, list.slots);
-    if list.width == 1 {
-        return n;
+    if list.kind == SORTED_FIELDS {
+        return 3 * with_slots(n, SORT_FIELDS);
     }
-    3 * with_slots(n, SORT_FIELDS)
+    n
 }
 
 // A number by its place; past the last it is 0.
@@ -141,10 +173,15 @@ pub fn counted(count: usize, slots: usize) -> Card {
     )
 }
 
+// Of a field, its id.
 pub fn number_at(list: List, at: usize) -> i64 {
     let numbers = list.numbers;
-    if at < SCHEMA_FIELDS {
-        return numbers[at];
+    if at >= SCHEMA_FIELDS {
+        return 0;
     }
-    0
+    if list.kind == FIELDS {
+        let field = list.fields[at];
+        return wide(field.id.0);
+    }
+    numbers[at]
 }

@@ -1,20 +1,18 @@
 // What is said of a list, item by item: that it has no elements, or its elements, and behind them how many are counted that have no slot.
 use crate::card::Card;
+use crate::card::FIELDS;
+use crate::card::IDS;
 use crate::card::List;
+use crate::card::NOTHING;
 use crate::card::counted;
 use crate::card::number_at;
+use crate::field::field;
 use records::capacities::SCHEMA_FIELDS;
 use records::capacities::SORT_FIELDS;
 use slot_bounds::with_slots;
 
-// The kinds of items.
-const NONE: u8 = 0;
-
-const ID: u8 = 1;
-
-const SORT_FIELD: u8 = 2;
-
-const LEFT_OUT: u8 = 3;
+// The kind of an item is that of its list, where it is an element of it.
+const LEFT_OUT: u8 = 4;
 
 pub fn items(list: List) -> usize {
     let count = list.count;
@@ -25,36 +23,49 @@ pub fn items(list: List) -> usize {
     if count > slots { slots + 1 } else { count }
 }
 
-// The numbers of an element, at most three, and behind them whether another stands before it.
-fn element(list: List, i: usize) -> Card {
-    let follows = (i > 0) as i64;
-    if list.width == 1 {
-        let id = Card::of_numbers([number_at(list, i), 0, 0, follows, 0, 0, 0, 0], [0, 0]);
-        return id.with_kind(ID);
-    }
+// Three numbers, and behind them whether another stands before it.
+fn sorted_field(list: List, i: usize) -> Card {
     let at = 3 * with_slots(i, SORT_FIELDS);
-    let field = Card::of_numbers(
+    Card::of_numbers(
         [
             number_at(list, at),
             number_at(list, at + 1),
             number_at(list, at + 2),
-            follows,
+            (i > 0) as i64,
             0,
             0,
             0,
             0,
         ],
         [0, 0],
-    );
-    field.with_kind(SORT_FIELD)
+    )
+}
+
+// A field of a schema. Past the slots it is the last.
+pub fn field_at(list: List, i: usize) -> Card {
+    let at = with_slots(i, SCHEMA_FIELDS - 1);
+    let f = list.fields[at];
+    field(f, i > 0)
+}
+
+fn element(list: List, i: usize) -> Card {
+    let kind = list.kind;
+    match kind {
+        IDS => Card::of_numbers(
+            [number_at(list, i), 0, 0, (i > 0) as i64, 0, 0, 0, 0],
+            [0, 0],
+        ),
+        FIELDS => field_at(list, i),
+        _ => sorted_field(list, i),
+    }
 }
 
 pub fn item_at(list: List, i: usize) -> Card {
     if list.count == 0 {
-        return Card::of_number(0).with_kind(NONE);
+        return Card::of_number(0).with_kind(NOTHING);
     }
     if i < list.slots {
-        return element(list, i);
+        return element(list, i).with_kind(list.kind);
     }
     counted(list.count, list.slots).with_kind(LEFT_OUT)
 }

@@ -2,6 +2,7 @@
 // Nothing is refused: a count above the slots is kept, with as many elements as there are slots for.
 // Whoever writes a record, for a program or for people, writes its card: one function with an output instead of one a record.
 pub mod card;
+pub mod field;
 pub mod item;
 pub mod offer;
 pub mod record;

@@ -4,8 +4,12 @@ use crate::card::Card;
 use crate::card::List;
 use crate::card::wide;
 use records::capacities::FIELD_BYTES;
+use records::capacities::NAME;
 use records::capacities::SCHEMA_FIELDS;
+use records::counters::FieldId;
+use records::schema::SchemaField;
 use records::schema::SchemaOffer;
+use records::text::Name;
 use std::num::wrapping_add_usize;
 
 fn number_of(byte: u8) -> u64
@@ -14,12 +18,10 @@ fn number_of(byte: u8) -> u64
     byte as u64
 }
 
-fn byte_at(offers: &[u8], from: usize, at: usize) -> u64
-    ensures { λ r. ⌜ r < 256 ⌝ }
-{
+fn byte_at(offers: &[u8], from: usize, at: usize) -> u8 {
     let place = wrapping_add_usize(from, at);
     if place < offers.len() {
-        return number_of(offers[place]);
+        return offers[place];
     }
     0
 }
@@ -28,40 +30,62 @@ fn byte_at(offers: &[u8], from: usize, at: usize) -> u64
 fn number_at(offers: &[u8], at: usize) -> u64
     ensures { λ r. ⌜ r < 4294967296 ⌝ }
 {
-    let a = byte_at(offers, at, 0);
-    let b = byte_at(offers, at, 1);
-    let c = byte_at(offers, at, 2);
-    let d = byte_at(offers, at, 3);
+    let a = number_of(byte_at(offers, at, 0));
+    let b = number_of(byte_at(offers, at, 1));
+    let c = number_of(byte_at(offers, at, 2));
+    let d = number_of(byte_at(offers, at, 3));
     a + 256 * (b + 256 * (c + 256 * d))
 }
 
 // A number below 0 is told by what it lacks to 2^32.
-fn signed(number: u64) -> i64
+fn signed(number: u64) -> i32
     requires { ⌜ number < 4294967296 ⌝ }
 {
     if number > 2147483647 {
-        return number as i64 - 4294967296;
+        return (number as i64 - 4294967296) as i32;
     }
-    number as i64
+    number as i32
 }
 
-fn fields(offer: SchemaOffer, offers: &[u8]) -> List {
-    let mut numbers = [0i64; SCHEMA_FIELDS];
+fn name_at(offers: &[u8], at: usize) -> Name {
+    let mut bytes = [0u8; NAME];
+    let mut i = 0;
+    while i < NAME {
+        bytes[i] = byte_at(offers, at, 6 + i);
+        i += 1;
+    }
+    Name {
+        bytes,
+        len: number_of(byte_at(offers, at, 5)) as usize,
+    }
+}
+
+// Its id, its type, the length of its name, the name.
+fn field_at(offers: &[u8], at: usize) -> SchemaField {
+    let id = signed(number_at(offers, at));
+    let field_type = byte_at(offers, at, 4);
+    let name = name_at(offers, at);
+    SchemaField {
+        id: FieldId(id),
+        field_type,
+        name,
+    }
+}
+
+fn fields(offer: SchemaOffer, offers: &[u8]) -> [SchemaField; SCHEMA_FIELDS] {
+    let none = SchemaField::blank();
+    let mut fields = [none; SCHEMA_FIELDS];
     let mut i = 0;
     while i < SCHEMA_FIELDS {
         let at = wrapping_add_usize(offer.at, i * FIELD_BYTES);
-        numbers[i] = signed(number_at(offers, at));
+        fields[i] = field_at(offers, at);
         i += 1;
     }
-    List {
-        numbers,
-        width: 1,
-        slots: SCHEMA_FIELDS,
-        count: offer.count,
-    }
+    fields
 }
 
-// id; field ids
+// id; fields
 pub fn schema_offer(offer: SchemaOffer, offers: &[u8]) -> Card {
-    Card::of_number(wide(offer.schema_id.0)).with_list(fields(offer, offers))
+    let list = List::of_fields(fields(offer, offers), offer.count);
+    Card::of_number(wide(offer.schema_id.0)).with_list(list)
 }

@@ -1,6 +1,8 @@
 // Each record as its card.
 use crate::card::Card;
+use crate::card::IDS;
 use crate::card::List;
+use crate::card::SORTED_FIELDS;
 use crate::card::Text;
 use crate::card::text_of;
 use crate::card::wide;
@@ -55,7 +57,7 @@ pub fn reference(r: SnapshotReference) -> Card {
     )
 }
 
-pub fn ref_name(name: Name) -> Text {
+pub fn name_text(name: Name) -> Text {
     let bytes = name.bytes;
     text_of(&bytes, name.len)
 }
@@ -72,7 +74,7 @@ fn file_name(name: records::text::Text) -> Text {
 
 // name; what a ref has
 pub fn named_ref(named: NamedRef) -> Card {
-    reference(named.reference).with_text(ref_name(named.name))
+    reference(named.reference).with_text(name_text(named.name))
 }
 
 // snapshot id, time
@@ -122,12 +124,7 @@ pub fn snapshot_ids(ids: SnapshotIds) -> List {
         numbers[i] = number;
         i += 1;
     }
-    List {
-        numbers,
-        width: 1,
-        slots: REMOVALS,
-        count,
-    }
+    List::of_numbers(IDS, numbers, REMOVALS, count)
 }
 
 pub fn schema_ids(ids: SchemaIds) -> List {
@@ -140,35 +137,13 @@ pub fn schema_ids(ids: SchemaIds) -> List {
         numbers[i] = wide(id.0);
         i += 1;
     }
-    List {
-        numbers,
-        width: 1,
-        slots: REMOVALS,
-        count,
-    }
+    List::of_numbers(IDS, numbers, REMOVALS, count)
 }
 
-fn schema_fields(schema: Schema) -> List {
-    let mut numbers = [0i64; SCHEMA_FIELDS];
-    let count = schema.count;
-    let n = with_slots(count, SCHEMA_FIELDS);
-    let mut i = 0;
-    while i < n {
-        let field = schema.items[i];
-        numbers[i] = wide(field.id.0);
-        i += 1;
-    }
-    List {
-        numbers,
-        width: 1,
-        slots: SCHEMA_FIELDS,
-        count,
-    }
-}
-
-// id; field ids
+// id; fields
 pub fn schema(schema: Schema) -> Card {
-    Card::of_number(wide(schema.schema_id.0)).with_list(schema_fields(schema))
+    let fields = schema.items;
+    Card::of_number(wide(schema.schema_id.0)).with_list(List::of_fields(fields, schema.count))
 }
 
 // Source id, direction and nulls of each field.
@@ -185,12 +160,7 @@ fn sort_fields(order: SortOrder) -> List {
         numbers[at + 2] = field.null_order as i64;
         i += 1;
     }
-    List {
-        numbers,
-        width: 3,
-        slots: SORT_FIELDS,
-        count,
-    }
+    List::of_numbers(SORTED_FIELDS, numbers, SORT_FIELDS, count)
 }
 
 // id; fields

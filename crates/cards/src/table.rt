@@ -42,6 +42,9 @@ pub const OF_PARTITION_STATISTICS: usize = 7;
 
 pub const TABLES: usize = 8;
 
+// The schemas once more, for whoever writes their fields with names and types.
+pub const OF_NAMED_SCHEMAS: usize = 8;
+
 fn snapshot_at(table: Snapshots, i: usize) -> Card {
     let at = with_slots(i, SNAPSHOTS - 1);
     let s = table.items[at];
@@ -90,7 +93,7 @@ pub fn card_at(metadata: TableMetadata, table: usize, i: usize) -> Card {
         OF_REFS => ref_at(metadata.refs, i),
         OF_ENTRIES => entry_at(metadata.snapshot_log, i),
         OF_FILES => file_at(metadata.metadata_log, i),
-        OF_SCHEMAS => schema_at(metadata.schemas, i),
+        OF_SCHEMAS | OF_NAMED_SCHEMAS => schema_at(metadata.schemas, i),
         OF_SORT_ORDERS => sort_order_at(metadata.sort_orders, i),
         OF_STATISTICS => statistics_at(metadata.statistics, i),
         _ => statistics_at(metadata.partition_statistics, i),
@@ -103,7 +106,7 @@ pub fn count_of(metadata: TableMetadata, table: usize) -> usize {
         OF_REFS => metadata.refs.count,
         OF_ENTRIES => metadata.snapshot_log.count,
         OF_FILES => metadata.metadata_log.count,
-        OF_SCHEMAS => metadata.schemas.count,
+        OF_SCHEMAS | OF_NAMED_SCHEMAS => metadata.schemas.count,
         OF_SORT_ORDERS => metadata.sort_orders.count,
         OF_STATISTICS => metadata.statistics.count,
         _ => metadata.partition_statistics.count,
@@ -116,7 +119,7 @@ pub fn slots_of(table: usize) -> usize {
         OF_REFS => REFS,
         OF_ENTRIES => SNAPSHOT_LOG,
         OF_FILES => METADATA_LOG,
-        OF_SCHEMAS => SCHEMAS,
+        OF_SCHEMAS | OF_NAMED_SCHEMAS => SCHEMAS,
         OF_SORT_ORDERS => SORT_ORDERS,
         _ => STATISTICS,
     }
@@ -126,11 +129,5 @@ pub fn slots_of(table: usize) -> usize {
 pub fn only_files(log: MetadataLog) -> TableMetadata {
     let mut metadata = TableMetadata::blank();
     metadata.metadata_log = log;
-    metadata
-}
-
-pub fn only_statistics(table: StatisticsFiles) -> TableMetadata {
-    let mut metadata = TableMetadata::blank();
-    metadata.statistics = table;
     metadata
 }

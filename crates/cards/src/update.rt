@@ -5,7 +5,7 @@ use crate::card::wide;
 use crate::offer::schema_offer;
 use crate::record::chosen;
 use crate::record::location;
-use crate::record::ref_name;
+use crate::record::name_text;
 use crate::record::reference;
 use crate::record::schema_ids;
 use crate::record::snapshot;
@@ -35,6 +35,9 @@ use records::update::UPGRADE_FORMAT_VERSION;
 use records::update::UpdateList;
 use slot_bounds::with_slots;
 
+// The kind by which the case format has an added schema with the names and types of its fields. It is the update `ADD_SCHEMA`.
+pub const ADD_NAMED_SCHEMA: u8 = 21;
+
 // uuid
 fn uuid(p: FieldsPart) -> Card {
     let bytes = p.uuid;
@@ -49,7 +52,7 @@ fn early(u: TableUpdate) -> Card {
         UPGRADE_FORMAT_VERSION => Card::of_number(u.fields.format_version as i64),
         SET_LOCATION => Card::of_number(0).with_text(location(u.fields.location)),
         ADD_SNAPSHOT => snapshot(u.snapshots.added),
-        SET_BRANCH_SNAPSHOT => snapshot(u.snapshots.added).with_text(ref_name(u.refs.name)),
+        SET_BRANCH_SNAPSHOT => snapshot(u.snapshots.added).with_text(name_text(u.refs.name)),
         REMOVE_SNAPSHOTS => Card::of_number(0).with_list(snapshot_ids(u.snapshots.removed)),
         _ => Card::of_number(kind as i64),
     }
@@ -59,8 +62,8 @@ fn early(u: TableUpdate) -> Card {
 fn late(u: TableUpdate, offers: &[u8]) -> Card {
     let kind = u.kind;
     match kind {
-        SET_REF => reference(u.refs.reference).with_text(ref_name(u.refs.name)),
-        REMOVE_REF => Card::of_number(0).with_text(ref_name(u.refs.name)),
+        SET_REF => reference(u.refs.reference).with_text(name_text(u.refs.name)),
+        REMOVE_REF => Card::of_number(0).with_text(name_text(u.refs.name)),
         ADD_SCHEMA => schema_offer(u.schemas.added, offers),
         SET_CURRENT_SCHEMA => chosen(wide(u.schemas.chosen.0)),
         REMOVE_SCHEMAS => Card::of_number(0).with_list(schema_ids(u.schemas.removed)),

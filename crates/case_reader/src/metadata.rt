@@ -88,7 +88,7 @@ pub fn read_metadata_of(version: u8, input: &mut Input, place: &mut Place) -> Ta
     let refs = read_refs(input, place);
     let snapshot_log = read_snapshot_log(input, place);
     let metadata_log = read_metadata_log(input, place);
-    let schemas = read_schemas(input, place);
+    let schemas = read_schemas(false, input, place);
     let current_schema_id = SchemaId(read_i32(input, place));
     let sort_orders = read_sort_orders(input, place);
     let default_sort_order_id = SortOrderId(read_i64(input, place));

@@ -1,7 +1,9 @@
 // What a run may be given more, after its updates: a count, then that many tags with their values, in ascending order of the tags.
+use crate::schema::read_schemas;
 use crate::statistics::read_statistics;
 use records::counters::Age;
 use records::run::DEFAULT_TOLERANCE_MS;
+use records::schema::Schemas;
 use records::statistics::StatisticsFiles;
 use tokens::field::read_count;
 use tokens::field::read_i64;
@@ -18,10 +20,13 @@ const STATISTICS: u64 = 2;
 
 const PARTITION_STATISTICS: u64 = 3;
 
+const SCHEMAS: u64 = 4;
+
 // Which tables have a tag: an answer has these too.
 pub struct Given {
     pub statistics: bool,
     pub partition_statistics: bool,
+    pub schemas: bool,
 }
 
 pub struct More {
@@ -29,11 +34,12 @@ pub struct More {
     pub given: Given,
     pub statistics: StatisticsFiles,
     pub partition_statistics: StatisticsFiles,
+    pub schemas: Schemas,
 }
 
 impl More {
-    // What holds where no tag is given.
-    pub fn none() -> More {
+    // What holds where no tag is given: the schemas are those of the metadata.
+    pub fn none(schemas: Schemas) -> More {
         let statistics = StatisticsFiles::blank();
         let partition_statistics = StatisticsFiles::blank();
         More {
@@ -41,9 +47,11 @@ impl More {
             given: Given {
                 statistics: false,
                 partition_statistics: false,
+                schemas: false,
             },
             statistics,
             partition_statistics,
+            schemas,
         }
     }
 }
@@ -51,15 +59,14 @@ impl More {
 // A tag that is not above the last one, or unknown, spoils the input.
 fn read_tag(last: u64, input: &mut Input, place: &mut Place) -> u64 {
     let tag = read_u64(input, place);
-    if tag <= last || tag > PARTITION_STATISTICS {
+    if tag <= last || tag > SCHEMAS {
         spoil(place, TAG, last);
     }
     tag
 }
 
 // What is given already, and the value of this tag; an unknown one has none.
-fn read_value(tag: u64, given: More, input: &mut Input, place: &mut Place) -> More {
-    let mut more = given;
+fn read_value(tag: u64, mut more: More, input: &mut Input, place: &mut Place) -> More {
     match tag {
         TOLERANCE => {
             let tolerance_ms = Age(read_i64(input, place));
@@ -73,13 +80,16 @@ fn read_value(tag: u64, given: More, input: &mut Input, place: &mut Place) -> Mo
             more.given.partition_statistics = true;
             more.partition_statistics = read_statistics(input, place);
         }
+        SCHEMAS => {
+            more.given.schemas = true;
+            more.schemas = read_schemas(true, input, place);
+        }
         _ => {}
     }
     more
 }
 
-pub fn read_more(input: &mut Input, place: &mut Place) -> More {
-    let mut more = More::none();
+pub fn read_more(mut more: More, input: &mut Input, place: &mut Place) -> More {
     let count = read_count(input, place);
     let mut last: u64 = 0;
     let mut i = 0;

@@ -1,5 +1,5 @@
 // Refs: a name, and what it refers to.
-use crate::text::read_ref_name;
+use crate::text::read_name;
 use records::capacities::REFS;
 use records::counters::Age;
 use records::counters::MinSnapshots;
@@ -39,7 +39,7 @@ pub fn read_reference(input: &mut Input, place: &mut Place) -> SnapshotReference
 }
 
 fn read_ref(input: &mut Input, place: &mut Place) -> NamedRef {
-    let name = read_ref_name(input, place);
+    let name = read_name(input, place);
     let reference = read_reference(input, place);
     NamedRef { name, reference }
 }

@@ -7,6 +7,7 @@ use crate::metadata::read_metadata_of;
 use crate::more::Given;
 use crate::more::More;
 use crate::more::read_more;
+use crate::schema::read_schemas;
 use crate::statistics::read_statistics;
 use crate::text::read_file_name;
 use crate::update::read_updates;
@@ -14,6 +15,7 @@ use records::counters::Age;
 use records::counters::Time;
 use records::metadata::TableMetadata;
 use records::run::RunTerms;
+use records::schema::Schemas;
 use records::text::Text;
 use records::update::UpdateList;
 use tokens::field::read_flag;
@@ -77,11 +79,12 @@ fn read_terms(input: &mut Input, place: &mut Place) -> RunTerms {
     }
 }
 
-fn read_more_of(first: u64, input: &mut Input, place: &mut Place) -> More {
+fn read_more_of(first: u64, schemas: Schemas, input: &mut Input, place: &mut Place) -> More {
+    let none = More::none(schemas);
     if first == RUN_GIVEN_MORE {
-        return read_more(input, place);
+        return read_more(none, input, place);
     }
-    More::none()
+    none
 }
 
 fn read_version(first: u64, input: &mut Input, place: &mut Place) -> u8 {
@@ -100,14 +103,16 @@ pub fn read_run(first: u64, input: &mut Input, place: &mut Place, offers: &mut [
     let mut terms = read_terms(input, place);
     let limit = read_limit_text(input, place);
     let updates = read_updates(input, place, offers);
-    let more = read_more_of(first, input, place);
+    let more = read_more_of(first, metadata.schemas, input, place);
     let tolerance_ms = more.tolerance_ms;
     let statistics = more.statistics;
     let partition_statistics = more.partition_statistics;
+    let schemas = more.schemas;
     let given = more.given;
     terms.tolerance_ms = tolerance_ms;
     metadata.statistics = statistics;
     metadata.partition_statistics = partition_statistics;
+    metadata.schemas = schemas;
     Run {
         metadata,
         terms,
@@ -125,6 +130,9 @@ pub fn read_ending(given: Given, input: &mut Input, place: &mut Place) -> TableM
     }
     if given.partition_statistics {
         ending.partition_statistics = read_statistics(input, place);
+    }
+    if given.schemas {
+        ending.schemas = read_schemas(true, input, place);
     }
     ending
 }

@@ -8,8 +8,9 @@ use crate::snapshot::read_snapshot_ids;
 use crate::sort_order::read_sort_order;
 use crate::statistics::read_statistics_file;
 use crate::text::read_location;
-use crate::text::read_ref_name;
+use crate::text::read_name;
 use crate::text::read_uuid;
+use cards::update::ADD_NAMED_SCHEMA;
 use records::capacities::UPDATES;
 use records::counters::SchemaId;
 use records::counters::SnapshotId;
@@ -57,7 +58,7 @@ fn read_early_kind(kind: u8, input: &mut Input, place: &mut Place) -> TableUpdat
         SET_LOCATION => fields.location = read_location(input, place),
         ADD_SNAPSHOT => snapshots.added = read_snapshot(input, place),
         SET_BRANCH_SNAPSHOT => {
-            refs.name = read_ref_name(input, place);
+            refs.name = read_name(input, place);
             snapshots.added = read_snapshot(input, place);
         }
         REMOVE_SNAPSHOTS => snapshots.removed = read_snapshot_ids(input, place),
@@ -78,10 +79,10 @@ fn read_late_kind(kind: u8, input: &mut Input, place: &mut Place) -> TableUpdate
     let mut orders = u.sort_orders;
     match kind {
         SET_REF => {
-            refs.name = read_ref_name(input, place);
+            refs.name = read_name(input, place);
             refs.reference = read_reference(input, place);
         }
-        REMOVE_REF => refs.name = read_ref_name(input, place),
+        REMOVE_REF => refs.name = read_name(input, place),
         SET_CURRENT_SCHEMA => {
             let id = SchemaId(read_i32(input, place));
             schemas.chosen = id;
@@ -119,8 +120,9 @@ fn read_statistics_kind(kind: u8, input: &mut Input, place: &mut Place) -> Table
     u
 }
 
-// Kind 9. What it offers is put among the offers, from a place of its own on.
+// Kinds 9 and 21, which are one update. What it offers is put among the offers, from a place of its own on.
 fn read_offering(
+    is_named: bool,
     input: &mut Input,
     place: &mut Place,
     offers: &mut [u8],
@@ -129,15 +131,16 @@ fn read_offering(
     let mut u = TableUpdate::blank();
     u.kind = ADD_SCHEMA;
     let mut schemas = u.schemas;
-    schemas.added = read_schema_offer(input, place, offers, at);
+    schemas.added = read_schema_offer(is_named, input, place, offers, at);
     u.schemas = schemas;
     u
 }
 
 fn read_update(input: &mut Input, place: &mut Place, offers: &mut [u8], at: usize) -> TableUpdate {
     let kind = read_u8(input, place);
-    if kind == ADD_SCHEMA {
-        return read_offering(input, place, offers, at);
+    let is_named = kind == ADD_NAMED_SCHEMA;
+    if is_named || kind == ADD_SCHEMA {
+        return read_offering(is_named, input, place, offers, at);
     }
     if kind < SET_REF {
         return read_early_kind(kind, input, place);

@@ -6,7 +6,6 @@ mod layout;
 mod metadata;
 pub mod run;
 pub mod snapshot;
-pub mod statistics;
-mod table;
+pub mod table;
 pub mod text;
 mod update;

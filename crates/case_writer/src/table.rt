@@ -20,7 +20,8 @@ pub fn put_table(output: &mut Output, end: &mut usize, metadata: TableMetadata, 
         aN*\n\
         aN*\n\
         aL$b\n\
-        aL$b\n";
+        aL$b\n\
+        aN&\n";
     let count = count_of(metadata, table);
     put_count(output, end, count);
     let n = with_slots(count, slots_of(table));

@@ -16,7 +16,7 @@ use Rattle.rules.specs.Words.{orElse}
 use Rattle.rules.specs.Register.{LogEntry, Update, State}
 use Rattle.rules.specs.Register.Update.{RemoveSnapshots}
 use Rattle.rules.specs.ChangeLog.{logsMain, logsRemoval}
-use Rattle.rules.specs.Layout.{given, pad, readSnapshots, readSnapshotLog}
+use Rattle.rules.specs.Layout.{given, pad, readSnapshots, readSnapshotLog, readSchemas}
 use Rattle.rules.specs.Kinds.{laidUpdate}
 use Rattle.tables.proofs.Table.{read-length}
 use Rattle.tables.proofs.Each.{tidy-snapshot-log}
@@ -24,7 +24,7 @@ use Rattle.builder.specs.declared.builder.TableMetadataBuilder.{TableMetadataBu
 use Rattle.builder.specs.Pieces.{fresh, laidBuilder, idsOf, lastTime}
 use Rattle.close.specs.Facts.{additions}
 use Rattle.start.specs.Start.{startNumber}
-use Rattle.refinement.specs.Standing.{Given, Pieces, Represents, Standing}
+use Rattle.refinement.specs.Standing.{Given, heldSchemas, Pieces, Represents, Standing}
 use Rattle.refinement.proofs.Beginning.{start-log, standing-start}
 
 -- the change log of such a run
@@ -51,7 +51,7 @@ module _ (m : TableMetadata) (terms : RunTerms) (text : List ℕ) where
   abbrev pub pieces : Pieces
   pieces =
       record {
-        held = record { builder = builder; snapshots = m .snapshots; ids = ids; refs = m .refs; log = m .«snapshot_log»; last = last; ownTables = record { schemas = m .schemas; orders = m .«sort_orders»; statistics = m .statistics; partitionStatistics = m .«partition_statistics» } };
+        held = record { builder = builder; snapshots = m .snapshots; ids = ids; refs = m .refs; log = m .«snapshot_log»; last = last; ownTables = record { schemas = record { table = m .schemas; keys = heldSchemas (readSchemas (m .schemas)) .keys }; orders = m .«sort_orders»; statistics = m .statistics; partitionStatistics = m .«partition_statistics» } };
         changes = record { entries = pad 64 noUpdate (map laidUpdate removal); count = 1; added = pad 64 (pos 0) []; adds = 0; mainTargets = pad 64 (pos 0) []; mains = 0; removal = true };
       }
 
@@ -65,7 +65,7 @@ module _ (m : TableMetadata) (terms : RunTerms) (text : List ℕ) where
   module _ (z : startNumber m noUpdates terms ≡ 0) where
     pub begun : Standing asked 0 start-pieces
     unfolding fresh
-    begun = standing-start asked z refl refl (last-told (readSnapshotLog (m .«snapshot_log»)) (read-length (tidy-snapshot-log (start-log asked z)))) refl
+    begun = standing-start asked z refl refl (last-told (readSnapshotLog (m .«snapshot_log»)) (read-length (tidy-snapshot-log (start-log asked z)))) refl refl
 
     abbrev pub state : State
     state = record { metadata = begun .state .metadata; own = begun .state .own; added = begun .state .added; log = removal }

@@ -69,7 +69,8 @@ fn ended(
     }
 }
 
-// The calls that `register::run` makes after its last update. `none` stands for the ids that were added and for those to which `main` went.
+// The calls that `register::run` makes after its last update; it has the place of the current schema, which is looked up here. `none` stands for the
+// ids that were added and for those to which `main` went.
 fn close_once(m: TableMetadata, ids: &[i64], none: &[i64], terms: RunTerms, text: &[u8]) -> Closed
     requires { ⌜ startNumber m noUpdates terms ≡ 0 ⌝ }
     requires { ⌜ now ids ≡ idsOf (readSnapshots (m .snapshots)) ⌝ }

@@ -1,7 +1,10 @@
 // What is written of a run that was wanted.
+use cards::table::OF_NAMED_SCHEMAS;
+use cards::table::OF_PARTITION_STATISTICS;
+use cards::table::OF_STATISTICS;
 use case_reader::more::Given;
 use case_writer::run::put_answer;
-use case_writer::statistics::put_statistics;
+use case_writer::table::put_table;
 use records::run::Answer;
 use tokens::output::Output;
 use tokens::output::put_line_end;
@@ -14,12 +17,15 @@ pub fn put_answer_of(
     answer: Answer,
     offers: &[u8],
 ) {
-    put_answer(output, end, answer, offers);
+    put_answer(output, end, answer, offers, given.schemas);
     if given.statistics {
-        put_statistics(output, end, answer.metadata.statistics);
+        put_table(output, end, answer.metadata, OF_STATISTICS);
     }
     if given.partition_statistics {
-        put_statistics(output, end, answer.metadata.partition_statistics);
+        put_table(output, end, answer.metadata, OF_PARTITION_STATISTICS);
+    }
+    if given.schemas {
+        put_table(output, end, answer.metadata, OF_NAMED_SCHEMAS);
     }
     put_line_end(output, *end);
 }

@@ -60,6 +60,12 @@ pub fn read_tour(at: usize, line: &mut [u8]) -> usize
         -9223372036854775808 2025 20250312 1741737600 noon|\
         \nFurther logs: what differs, what is refused, and one that is cut short|\
         replay further-logs.case|\
+        \nSchemas whose fields have names and types, in words|\
+        run named-schemas.case|\
+        \nThe same in numbers|\
+        cases named-schemas.case|\
+        \nDoes a log that adds one lead there? Where a field has another name?|\
+        replay named-log.case|\
         \nAll examples|\
         examples|\
         \nThe dates of some times|\

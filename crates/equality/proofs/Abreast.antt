@@ -3,7 +3,7 @@ use Prim.Native.Nat.{ℕ, zero, suc, _+_, _≤_, _<_}
 use native.Mathlib.Numerals.{add-one}
 use native.Mathlib.Omega.{arith}
 use mathlib.Core.Path.{_≡_, refl, sym, _∙_}
-use mathlib.Core.Bool.{Bool, true, false, not, and-true}
+use mathlib.Core.Bool.{Bool, true, false, not, _&&_, and-assoc, and-true}
 use mathlib.Core.List.{List, [], _∷_, map}
 use borrow.Author.Tests.{not-true, not-false}
 use lib.ListN.{length, getD, take, length-map}
@@ -18,13 +18,14 @@ slots A B f l n h = sym (length-map l f) ∙ h
 -- ---- after slots that are the same, the next two decide
 
 module _ {A : Type 0} (same : A → A → Bool) (d e : A) where
+  more : (i : ℕ) (xs ys : List A) → i < length xs → i < length ys → sameList same (take (suc i) xs) (take (suc i) ys) ≡ (sameList same (take i xs) (take i ys) && same (getD xs i d) (getD ys i e))
+  more i [] ys p q = absurd (omega arith)
+  more i (x ∷ xs) [] p q = absurd (omega arith)
+  more zero (x ∷ xs) (y ∷ ys) p q = and-true (same x y)
+  more (suc i) (x ∷ xs) (y ∷ ys) p q = rw (more i xs ys (omega arith) (omega arith)) (sym (and-assoc (same x y) (sameList same (take i xs) (take i ys)) (same (getD xs i d) (getD ys i e))))
+
   next : (i : ℕ) (xs ys : List A) → i < length xs → i < length ys → sameList same (take i xs) (take i ys) ≡ true → sameList same (take (suc i) xs) (take (suc i) ys) ≡ same (getD xs i d) (getD ys i e)
-  next i [] ys p q h = absurd (omega arith)
-  next i (x ∷ xs) [] p q h = absurd (omega arith)
-  next zero (x ∷ xs) (y ∷ ys) p q h = and-true (same x y)
-  next (suc i) (x ∷ xs) (y ∷ ys) p q h =
-      rw (and-left (same x y) (sameList same (take i xs) (take i ys)) h)
-      (next i xs ys (omega arith) (omega arith) (and-right (same x y) (sameList same (take i xs) (take i ys)) h))
+  next i xs ys p q h = more i xs ys p q ∙ rw h
 
   differ : (i n : ℕ) (xs ys : List A) → i < n → i < length xs → i < length ys → sameList same (take i xs) (take i ys) ≡ true → same (getD xs i d) (getD ys i e) ≡ false → sameList same (take n xs) (take n ys) ≡ false
   differ i zero xs ys k p q h f = absurd (omega arith)
@@ -70,3 +71,27 @@ module _ {A : Type 0} {same : A → A → Bool} {room n : ℕ} {xs ys : List A} 
 -- all slots
 pub all-slots : {A : Type 0} (same : A → A → Bool) (room : ℕ) (xs ys : List A) {z : Bool} → length xs ≡ room → length ys ≡ room → z ≡ sameList same (take room xs) (take room ys) → z ≡ sameList same xs ys
 all-slots same room xs ys p q e = e ∙ rw (take-all room xs (omega arith), take-all room ys (omega arith))
+
+-- ---- a loop over all slots that stops at none
+
+-- first is what was found before the slots, and ok what was found with those before i
+pub record Together {A : Type 0} (same : A → A → Bool) (room : ℕ) (first : Bool) (xs ys : List A) (i : ℕ) (ok : Bool) : Type 0 where
+  pub ours : length xs ≡ room
+  pub theirs : length ys ≡ room
+  pub upto : ok ≡ (first && sameList same (take i xs) (take i ys))
+
+module _ {A : Type 0} {same : A → A → Bool} {room : ℕ} {first : Bool} {xs ys : List A} where
+  pub together-start : length xs ≡ room → length ys ≡ room → Together same room first xs ys 0 first
+  together-start p q = record { ours = p; theirs = q; upto = sym (and-true first) }
+
+  module _ {i : ℕ} {ok : Bool} (s : Together same room first xs ys i ok) where
+    pub together-on : (d e : A) → i < room → Together same room first xs ys (i + 1) (ok && same (getD xs i d) (getD ys i e))
+    together-on d e h =
+        record {
+          ours = s .ours;
+          theirs = s .theirs;
+          upto = rw (s .upto, add-one, more same d e i xs ys (omega (arith, s .ours)) (omega (arith, s .theirs))) (and-assoc first (sameList same (take i xs) (take i ys)) (same (getD xs i d) (getD ys i e)));
+        }
+
+    pub together-end : room ≤ i → ok ≡ (first && sameList same xs ys)
+    together-end h = s .upto ∙ rw (take-all i xs (omega (arith, s .ours)), take-all i ys (omega (arith, s .theirs)))

@@ -1,10 +1,14 @@
 -- The tests tell equal records: two records are the same exactly if they are equal.
-use mathlib.Core.Path.{_≡_, refl, ap₂}
-use mathlib.Core.Bool.{Bool, true, false, Bool·beq, false≢true}
+use mathlib.Core.Path.{_≡_, refl, sym, ap, ap₂, _∙_}
+use mathlib.Core.Bool.{Bool, true, false, Bool·beq, false≢true, true≢false}
 use mathlib.Core.List.{List, [], _∷_}
 use borrow.Author.Tests.{eqb-true, eq-eqb}
+use borrow.Table.Steps.{cases}
 use lib.Dec.{eqb}
+use Rattle.records.specs.declared.text.Name.{Name}
 use Rattle.rules.specs.Words.{eqZ, sameBytes, sameList}
+use Rattle.rules.specs.SchemaUpdates as plain
+use Rattle.rules.specs.Layout.{readName, laidName}
 use Rattle.rules.proofs.Orders.{Tells, numbers-told, names-told}
 use Rattle.rules.proofs.Checks.{parts, both, and-left, and-right}
 use Rattle.equality.specs.Same.{sameName, sameText, sameSnapshot, sameLogEntry, sameReference, sameRef, sameFileEntry, sameSchemaField, sameSchema, sameSortField, sameSortOrder, sameStatisticsFile}
@@ -27,6 +31,16 @@ flag-itself false = refl
 pub flags-told : Tells Bool·beq
 flags-told = record { equal = flag-equal; itself = flag-itself }
 
+-- of records that come back, read and laid again, a test that tells equal records says what one says that tells equal readings
+pub told-alike : {A B : Type 0} {same : A → A → Bool} {alike : B → B → Bool} (rd : A → B) (ld : B → A) → Tells same → Tells alike
+    → (x y : A) → ld (rd x) ≡ x → ld (rd y) ≡ y → same x y ≡ alike (rd x) (rd y)
+told-alike {A} {B} {same} {alike} rd ld s t x y p q =
+    cases (same x y)
+    (λ e. e ∙ sym (rw (s .equal x y e) (t .itself (rd y))))
+    (λ e. cases (alike (rd x) (rd y))
+    (λ f. let h : x ≡ y = sym p ∙ ap ld (t .equal (rd x) (rd y) f) ∙ q in absurd (true≢false (sym (rw h (s .itself y)) ∙ e)))
+    (λ f. e ∙ sym f))
+
 -- ---- lists
 
 module _ {A : Type 0} {same : A → A → Bool} (told : Tells same) where
@@ -40,7 +54,7 @@ module _ {A : Type 0} {same : A → A → Bool} (told : Tells same) where
   lists-itself [] = refl
   lists-itself (x ∷ xs) = both (told .itself x) (lists-itself xs)
 
-  lists-told : Tells (sameList same)
+  pub lists-told : Tells (sameList same)
   lists-told = record { equal = lists-equal; itself = lists-itself }
 
 -- ---- texts
@@ -57,6 +71,10 @@ ref-names-told =
           };
       itself = λ a. simp (counts-told .itself, names-told .itself);
     }
+
+-- names that are laid out
+pub names-alike : (a b : Name) → laidName (readName a) ≡ a → laidName (readName b) ≡ b → sameName a b ≡ sameBytes (readName a) (readName b)
+names-alike a b p q = told-alike readName laidName ref-names-told names-told a b p q
 
 pub texts-told : Tells sameText
 unfolding sameText
@@ -164,8 +182,33 @@ sort-fields-told =
       itself = λ a. simp (numbers-told .itself, counts-told .itself);
     }
 
-schema-fields-told : Tells sameSchemaField
-schema-fields-told = record { equal = λ a b e. λ i. record { id = record { 0 = numbers-told .equal (a .id .0) (b .id .0) e i } }; itself = λ a. numbers-told .itself (a .id .0) }
+pub schema-fields-told : Tells sameSchemaField
+unfolding sameSchemaField
+schema-fields-told =
+    record {
+      equal = λ a b e.
+          let k = parts (eqZ (a .id .0) (b .id .0)) (eqb (a .«field_type») (b .«field_type») ∷ sameName (a .name) (b .name) ∷ []) e in
+          λ i. record {
+            id = record { 0 = numbers-told .equal (a .id .0) (b .id .0) (k .0) i };
+            «field_type» = counts-told .equal (a .«field_type») (b .«field_type») (k .1 .0) i;
+            name = ref-names-told .equal (a .name) (b .name) (k .1 .1 .0) i;
+          };
+      itself = λ a. simp (numbers-told .itself, counts-told .itself, ref-names-told .itself);
+    }
+
+-- the fields of the rules
+pub plain-fields-told : Tells plain.sameSchemaField
+plain-fields-told =
+    record {
+      equal = λ a b e.
+          let k = parts (eqZ (a .id) (b .id)) (eqb (a .fieldType) (b .fieldType) ∷ sameBytes (a .name) (b .name) ∷ []) e in
+          λ i. record {
+            id = numbers-told .equal (a .id) (b .id) (k .0) i;
+            fieldType = counts-told .equal (a .fieldType) (b .fieldType) (k .1 .0) i;
+            name = names-told .equal (a .name) (b .name) (k .1 .1 .0) i;
+          };
+      itself = λ a. simp (numbers-told .itself, counts-told .itself, names-told .itself);
+    }
 
 pub schemas-told : Tells sameSchema
 unfolding sameSchema

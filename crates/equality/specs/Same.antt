@@ -62,8 +62,8 @@ sameFileEntry a b = sameText (a .«metadata_file») (b .«metadata_file») && eq
 
 -- ---- schemas and sort orders
 
-abbrev pub sameSchemaField : SchemaField → SchemaField → Bool
-sameSchemaField a b = eqZ (a .id .0) (b .id .0)
+unfoldable pub sameSchemaField : SchemaField → SchemaField → Bool
+sameSchemaField a b = eqZ (a .id .0) (b .id .0) && eqb (a .«field_type») (b .«field_type») && sameName (a .name) (b .name)
 
 unfoldable pub sameSchema : Schema → Schema → Bool
 sameSchema a b = eqZ (a .«schema_id» .0) (b .«schema_id» .0) && eqb (a .count) (b .count) && sameList sameSchemaField (a .items) (b .items)

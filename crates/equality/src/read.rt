@@ -6,7 +6,7 @@ ghost use Rattle.rules.specs.Capacities.{schemaFieldRoom, sortFieldRoom};
 ghost use Rattle.rules.specs.RefUpdates.{sameReference};
 ghost use Rattle.rules.specs.SchemaUpdates.{sameSchemaField};
 ghost use Rattle.rules.specs.OrderUpdates.{sameSortField};
-ghost use Rattle.rules.specs.Layout.{readReference, readSchema, readSortOrder};
+ghost use Rattle.rules.specs.Layout.{readReference, readSchema, laidSchema, readSortOrder};
 use crate::ids::same_snapshot;
 use crate::number::same_age;
 use crate::number::same_min;
@@ -28,10 +28,10 @@ pub fn same_reference(a: SnapshotReference, b: SnapshotReference) -> bool
             & (!a.has_ref_age | same_age(a.max_ref_age_ms, b.max_ref_age_ms)))
 }
 
-// As many fields, the same one by one.
+// As many fields, the same one by one. Of schemas that are laid out each field is what is read of it.
 pub fn same_fields(a: Schema, b: Schema) -> bool
-    requires { ⌜ a .count ≤ schemaFieldRoom ⌝ }
-    requires { ⌜ b .count ≤ schemaFieldRoom ⌝ }
+    requires { ⌜ (laidSchema (readSchema a) ≡ a) × (a .count ≤ schemaFieldRoom) ⌝ }
+    requires { ⌜ (laidSchema (readSchema b) ≡ b) × (b .count ≤ schemaFieldRoom) ⌝ }
     ensures { λ r. ⌜ r ≡ sameList sameSchemaField (readSchema a .fields) (readSchema b .fields) ⌝ }
 {
     let n = a.count;

@@ -6,9 +6,17 @@ ghost use Rattle.rules.specs.Words.{sameList};
 ghost use Rattle.rules.specs.Capacities.{schemaFieldRoom, sortFieldRoom};
 ghost use Rattle.equality.specs.Same.{sameSchemaField, sameSortField};
 use crate::ids::same_field;
+use crate::text::same_name;
 use records::schema::Schema;
+use records::schema::SchemaField;
 use records::sort_order::SortField;
 use records::sort_order::SortOrder;
+
+pub fn same_schema_field(a: SchemaField, b: SchemaField) -> bool
+    ensures { λ r. ⌜ r ≡ sameSchemaField a b ⌝ }
+{
+    same_field(a.id, b.id) & (a.field_type == b.field_type) & same_name(a.name, b.name)
+}
 
 pub fn same_fields(a: Schema, b: Schema, n: usize) -> bool
     requires { ⌜ n ≤ schemaFieldRoom ⌝ }
@@ -18,7 +26,7 @@ pub fn same_fields(a: Schema, b: Schema, n: usize) -> bool
     while i < n {
         let x = a.items[i];
         let y = b.items[i];
-        if !same_field(x.id, y.id) {
+        if !same_schema_field(x, y) {
             return false;
         }
         i += 1;

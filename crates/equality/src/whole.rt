@@ -9,8 +9,8 @@ use crate::number::same_sequence;
 use crate::number::same_time;
 use crate::slots::same_fields;
 use crate::slots::same_sort_fields;
+use crate::text::same_name;
 use crate::text::same_text;
-use crate::text::same_whole_name;
 use records::capacities::SCHEMA_FIELDS;
 use records::capacities::SORT_FIELDS;
 use records::metadata::MetadataLogEntry;
@@ -59,7 +59,7 @@ pub fn same_reference(a: SnapshotReference, b: SnapshotReference) -> bool
 pub fn same_ref(a: NamedRef, b: NamedRef) -> bool
     ensures { λ r. ⌜ r ≡ sameRef a b ⌝ }
 {
-    same_whole_name(a.name, b.name) & same_reference(a.reference, b.reference)
+    same_name(a.name, b.name) & same_reference(a.reference, b.reference)
 }
 
 pub fn same_file_entry(a: MetadataLogEntry, b: MetadataLogEntry) -> bool

@@ -1,6 +1,6 @@
 -- Tests joined in another order.
 use mathlib.Core.Path.{_≡_, refl, sym, ap, _∙_}
-use mathlib.Core.Bool.{Bool, true, false, _&&_, and-assoc, and-true, and-false}
+use mathlib.Core.Bool.{Bool, true, false, _&&_, and-assoc, and-false}
 use mathlib.Core.List.{List, [], _∷_, map}
 use Rattle.rules.proofs.Checks.{andAll}
 
@@ -10,11 +10,9 @@ interchange true true c d = refl
 interchange true false c d = sym (and-false c)
 interchange false b c d = refl
 
-pub last-first : (a b c : Bool) → ((a && b) && c) ≡ ((c && a) && b)
-last-first true b true = and-true b
-last-first true b false = and-false b
-last-first false b true = refl
-last-first false b false = refl
+-- the same of three tests each
+pub interchange-three : (a b c d e f : Bool) → (((a && b) && (c && d)) && (e && f)) ≡ ((a && (c && e)) && ((b && d) && f))
+interchange-three a b c d e f = rw (interchange a b c d, interchange (a && c) (b && d) e f, and-assoc a c e)
 
 -- a last test that is made where those before it passed
 pub asked : (a b c : Bool) {ok r : Bool} → ok ≡ (a && b) → ok ≡ true → r ≡ c → r ≡ (a && (b && c))

@@ -15,13 +15,13 @@ use Rattle.records.specs.declared.reference.NamedRef.{NamedRef}
 use Rattle.records.specs.declared.reference.Refs.{Refs}
 use Rattle.records.specs.declared.schema.Schemas.{Schemas}
 use Rattle.records.specs.declared.«sort_order».SortOrders.{SortOrders}
-use Rattle.rules.specs.Words.{all, ascending, unequal}
+use Rattle.rules.specs.Words.{all, ascending}
 use Rattle.rules.specs.Register as plain
 use Rattle.rules.specs.Capacities.{snapshotRoom, refRoom, nameRoom, schemaRoom, schemaFieldRoom, sortOrderRoom, sortFieldRoom}
-use Rattle.rules.specs.WellFormed.{atLeastOne, fieldIds, nameFormed, snapshotFormed, refFormed, schemaFormed, sortFieldFormed, offeredOrderFormed, orderFormed, snapshotBelow, schemaBelow, orderBelow, snapshotsFormed, refsFormed, schemasFormed, ordersFormed}
+use Rattle.rules.specs.WellFormed.{nameFormed, snapshotFormed, refFormed, schemaFormed, sortFieldFormed, offeredOrderFormed, orderFormed, snapshotBelow, schemaBelow, orderBelow, snapshotsFormed, refsFormed, schemasFormed, ordersFormed}
 use Rattle.rules.specs.Blanks.{isTidySnapshots, isBlankRef, isTidyRef, isTidyRefs, isTidySchemas, isTidySortOrders}
 use Rattle.rules.specs.Layout.{pad, readName, readSnapshots, readRef, laidRef, readRefs, laidRefs, readSchemas, readSortOrders}
-use Rattle.rules.proofs.Checks.{both, and-left, and-right, parts}
+use Rattle.rules.proofs.Checks.{both, and-left, and-right, parts, schemaTests}
 use Rattle.rules.proofs.Tables.{all-then, all-at, logFormed, log-fits, log-all}
 use Rattle.rules.proofs.Slots.Relaid.{table-back, blank-ref, back-snapshots, back-ref, back-schemas, back-sort-orders}
 use Rattle.tables.specs.Laid.{LaidName, LaidSnapshots, LaidRefs, LaidSchemas, LaidOrders}
@@ -104,7 +104,7 @@ laid-schemas t e f =
     record {
       back = back-schemas t e f;
       fits = leb-true _ _ (k .0);
-      fields = all-then schemaFormed (λ (s : plain.Schema). leb (length (s .fields)) schemaFieldRoom) (λ s h. parts (nonNeg (s .id)) (leb (length (s .fields)) schemaFieldRoom ∷ all atLeastOne (fieldIds s) ∷ unequal (fieldIds s) ∷ []) h .1 .0) (readSchemas t) (k .1 .0);
+      fields = all-then schemaFormed (λ (s : plain.Schema). leb (length (s .fields)) schemaFieldRoom) (λ s h. parts (nonNeg (s .id)) (schemaTests s) h .1 .0) (readSchemas t) (k .1 .0);
     }
 
 pub laid-orders : (t : SortOrders) → isTidySortOrders t ≡ true → ordersFormed (readSortOrders t) ≡ true → LaidOrders t

@@ -24,6 +24,11 @@ from-place used rest n F {from} e h = rw (h, e) (go used)
 pub from-place-two : (used p q : Bool) (n : ℕ) (F : ℕ → Bool) {from : ℕ} {z : Bool} → from ≡ cond used n 0 → z ≡ F from → ((used || (p && q)) && z) ≡ cond used (F n) (p && (q && F 0))
 from-place-two used p q n F e h = from-place used (p && q) n F e h ∙ rw (and-assoc p q (F 0))
 
+-- a part that is asked either way, and the rest of the record where it is not used
+pub one-arm : (used rest tidy blank : Bool) {z : Bool} → z ≡ cond used tidy blank → ((used || rest) && z) ≡ cond used tidy (rest && blank)
+one-arm true rest tidy blank e = e
+one-arm false rest tidy blank e = rw e
+
 -- ---- a record is blank if it is the same as the blank
 
 flag-off : (b : Bool) → Bool·beq b false ≡ not b

@@ -7,8 +7,8 @@ ghost use mathlib.Core.Path.{_≡_};
 ghost use mathlib.Core.Bool.{cond};
 ghost use lib.ListN.{drop};
 ghost use Rattle.rules.specs.Words.{all};
-ghost use Rattle.rules.specs.Capacities.{schemaFieldRoom, sortFieldRoom, removalRoom};
-ghost use Rattle.rules.specs.Blanks.{isZero, restBlank, isTidyName, isBlankName, isTidyText, isBlankText, isTidySnapshot, isBlankSnapshot, isBlankSnapshotId, isTidySnapshotIds, isBlankSnapshotIds, isTidyReference, isBlankReference, isBlankSchemaField, isTidySchema, isBlankSchema, isBlankSchemaOffer, isBlankSchemaId, isTidySchemaIds, isBlankSchemaIds, isBlankSortField, isTidySortOrder, isBlankSortOrder, isTidyStatisticsFile, isBlankStatisticsFile};
+ghost use Rattle.rules.specs.Capacities.{sortFieldRoom, removalRoom};
+ghost use Rattle.rules.specs.Blanks.{isZero, restBlank, isTidyName, isBlankName, isTidyText, isBlankText, isTidySnapshot, isBlankSnapshot, isBlankSnapshotId, isTidySnapshotIds, isBlankSnapshotIds, isTidyReference, isBlankReference, isTidySchemaField, isBlankSchemaField, isTidySchema, isBlankSchema, isBlankSchemaOffer, isBlankSchemaId, isTidySchemaIds, isBlankSchemaIds, isBlankSortField, isTidySortOrder, isBlankSortOrder, isTidyStatisticsFile, isBlankStatisticsFile};
 use equality::ids;
 use equality::number::same_age;
 use equality::number::same_file_size;
@@ -28,6 +28,7 @@ use records::counters::SnapshotId;
 use records::counters::SortOrderId;
 use records::reference::SnapshotReference;
 use records::schema::Schema;
+use records::schema::SchemaField;
 use records::schema::SchemaIds;
 use records::schema::SchemaOffer;
 use records::snapshot::Snapshot;
@@ -132,18 +133,13 @@ pub fn reference_fits(used: bool, r: SnapshotReference) -> bool
     same_reference(r, SnapshotReference::blank())
 }
 
-fn fields_blank_from(s: Schema, from: usize) -> bool
-    ensures { λ r. ⌜ r ≡ restBlank schemaFieldRoom isBlankSchemaField (s .items) from ⌝ }
+fn field_fits(used: bool, f: SchemaField) -> bool
+    ensures { λ r. ⌜ r ≡ cond used (isTidySchemaField f) (isBlankSchemaField f) ⌝ }
 {
-    let mut ok = true;
-    let mut i = from;
-    while i < SCHEMA_FIELDS {
-        let f = s.items[i];
-        let x = f.id;
-        ok = ok & ids::same_field(x, FieldId(0));
-        i += 1;
-    }
-    ok
+    let id = f.id;
+    let t = f.field_type;
+    let n = f.name;
+    (used | (ids::same_field(id, FieldId(0)) & (t == 0))) & name_fits(used, n)
 }
 
 pub fn schema_fits(used: bool, s: Schema) -> bool
@@ -152,7 +148,14 @@ pub fn schema_fits(used: bool, s: Schema) -> bool
     let id = s.schema_id;
     let n = s.count;
     let from = unused_from(used, n);
-    (used | (ids::same_schema(id, SchemaId(0)) & (n == 0))) & fields_blank_from(s, from)
+    let mut ok = used | (ids::same_schema(id, SchemaId(0)) & (n == 0));
+    let mut i = 0;
+    while i < SCHEMA_FIELDS {
+        let f = s.items[i];
+        ok = ok & field_fits(i < from, f);
+        i += 1;
+    }
+    ok
 }
 
 pub fn schema_offer_is_blank(o: SchemaOffer) -> bool

@@ -1,12 +1,14 @@
 // Well-formed records: those of the tables and those of updates.
 ghost use mathlib.Core.Path.{_≡_};
 ghost use Prim.Native.Nat.{_≤_};
-ghost use mathlib.Core.Bool.{not, _&&_};
+ghost use mathlib.Core.Bool.{true, not, _&&_};
 ghost use lib.ListN.{drop, take};
-ghost use Rattle.rules.specs.Words.{eqZ, all, unequal};
+ghost use Rattle.rules.specs.Words.{eqZ, all};
 ghost use Rattle.rules.specs.Capacities.{schemaFieldRoom};
-ghost use Rattle.rules.specs.WellFormed.{atLeastOne, snapshotFormed, referenceFormed, fieldIds, schemaFormed, sortFieldFormed, offeredOrderFormed, orderFormed, statisticsFileFormed, removalFormed};
-ghost use Rattle.rules.specs.Layout.{readSnapshot, readSnapshotIds, readReference, readSchema, readSchemaIds, readSortField, readSortOrder, readStatisticsFile};
+ghost use Rattle.rules.specs.WellFormed.{snapshotFormed, referenceFormed, schemaFieldFormed, schemaFormed, sortFieldFormed, offeredOrderFormed, orderFormed, statisticsFileFormed, removalFormed};
+ghost use Rattle.rules.specs.Blanks.{isTidySchema};
+ghost use Rattle.rules.specs.Layout.{readSnapshot, readSnapshotIds, readReference, readSchemaField, readSchema, readSchemaIds, readSortField, readSortOrder, readStatisticsFile};
+ghost use Rattle.equality.specs.Same.{sameName};
 use crate::bounds::age_formed;
 use crate::bounds::field_id_formed;
 use crate::bounds::file_size_formed;
@@ -17,15 +19,19 @@ use crate::bounds::sequence_formed;
 use crate::bounds::snapshot_id_formed;
 use equality::ids::same_field;
 use equality::ids::same_order;
+use equality::text::same_name;
+use records::capacities::NAME;
 use records::capacities::REMOVALS;
 use records::capacities::SCHEMA_FIELDS;
 use records::capacities::SORT_FIELDS;
 use records::capacities::TEXT;
-use records::counters::FieldId;
 use records::counters::SortOrderId;
 use records::reference::SnapshotReference;
+use records::schema::LONG;
 use records::schema::Schema;
+use records::schema::SchemaField;
 use records::schema::SchemaIds;
+use records::schema::TIMESTAMP;
 use records::snapshot::Snapshot;
 use records::snapshot::SnapshotIds;
 use records::sort_order::SortField;
@@ -75,40 +81,49 @@ pub fn reference_formed(r: SnapshotReference) -> bool
         & (min_formed(a, x) & age_formed(b, y) & age_formed(c, z))
 }
 
-// No field from a place on has the id.
-fn id_is_new(s: Schema, x: FieldId, from: usize) -> bool
+fn field_formed(f: SchemaField) -> bool
+    ensures { λ r. ⌜ r ≡ schemaFieldFormed (readSchemaField f) ⌝ }
+{
+    let x = f.id;
+    let t = f.field_type;
+    let a = f.name;
+    let n = a.len;
+    field_id_formed(x) & ((t == LONG) | (t == TIMESTAMP)) & (n <= NAME)
+}
+
+// Neither the ids nor the names are the same. Lengths tell most names apart, and the bytes are looked at where they do not.
+fn fields_differ(a: SchemaField, b: SchemaField) -> bool
+    ensures { λ r. ⌜ r ≡ (not (eqZ (a .id .0) (b .id .0)) && not (sameName (a .name) (b .name))) ⌝ }
+{
+    let x = a.name;
+    let y = b.name;
+    if same_field(a.id, b.id) {
+        return false;
+    }
+    if x.len != y.len {
+        return true;
+    }
+    !same_name(x, y)
+}
+
+// No field from a place on has the id or the name of this one.
+fn field_is_new(s: Schema, x: SchemaField, from: usize) -> bool
     requires { ⌜ s .count ≤ schemaFieldRoom ⌝ }
-    ensures { λ r. ⌜ r ≡ all (λ f. not (eqZ (x .0) (f .id .0))) (drop from (take (s .count) (s .items))) ⌝ }
+    ensures { λ r. ⌜ r ≡ all (λ f. not (eqZ (x .id .0) (f .id .0)) && not (sameName (x .name) (f .name))) (drop from (take (s .count) (s .items))) ⌝ }
 {
     let n = s.count;
     let mut ok = true;
     let mut i = from;
     while i < n {
         let f = s.items[i];
-        let y = f.id;
-        ok = ok & !same_field(x, y);
+        ok = ok & fields_differ(x, f);
         i += 1;
-    }
-    ok
-}
-
-fn fields_formed(s: Schema) -> bool
-    requires { ⌜ s .count ≤ schemaFieldRoom ⌝ }
-    ensures { λ r. ⌜ r ≡ (all atLeastOne (fieldIds (readSchema s)) && unequal (fieldIds (readSchema s))) ⌝ }
-{
-    let n = s.count;
-    let mut ok = true;
-    let mut i = 0;
-    while i < n {
-        let f = s.items[i];
-        let x = f.id;
-        i += 1;
-        ok = ok & (field_id_formed(x) & id_is_new(s, x, i));
     }
     ok
 }
 
 pub fn schema_formed(s: Schema) -> bool
+    requires { ⌜ isTidySchema s ≡ true ⌝ }
     ensures { λ r. ⌜ r ≡ schemaFormed (readSchema s) ⌝ }
 {
     let id = s.schema_id;
@@ -116,7 +131,14 @@ pub fn schema_formed(s: Schema) -> bool
     if n > SCHEMA_FIELDS {
         return false;
     }
-    schema_id_formed(id) & fields_formed(s)
+    let mut ok = schema_id_formed(id);
+    let mut i = 0;
+    while i < n {
+        let f = s.items[i];
+        i += 1;
+        ok = ok & (field_formed(f) & field_is_new(s, f, i));
+    }
+    ok
 }
 
 pub fn schema_ids_formed(t: SchemaIds) -> bool

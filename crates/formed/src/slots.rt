@@ -151,10 +151,13 @@ pub fn metadata_log_formed(t: MetadataLog) -> bool
 fn schema_slot(used: bool, s: Schema) -> bool
     ensures { λ r. ⌜ r ≡ cond used (isTidySchema s && schemaFormed (readSchema s)) (isBlankSchema s) ⌝ }
 {
-    if used {
-        return schema_fits(true, s) & schema_formed(s);
+    if !schema_fits(used, s) {
+        return false;
     }
-    schema_fits(false, s)
+    if used {
+        return schema_formed(s);
+    }
+    true
 }
 
 pub fn schemas_filled(t: Schemas) -> bool

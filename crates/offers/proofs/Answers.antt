@@ -3,24 +3,27 @@ use Prim.Native.Nat.{ℕ, _+_, _*_, _≤_}
 use native.Mathlib.Omega.{arith}
 use mathlib.Core.Path.{_≡_, refl, sym, ap, _∙_}
 use mathlib.Core.Bool.{Bool, true, false, not, _&&_, false≢true}
-use mathlib.Core.List.{List, [], _∷_}
+use mathlib.Core.List.{List}
 use borrow.Author.Tests.{leb-true, not-true, not-false}
 use lib.Dec.{leb}
 use lib.ListN.{length}
 use lib.Signed.{nonNeg}
 use Rattle.records.specs.Blanks.{noSchema}
 use Rattle.records.specs.declared.schema.Schema.{Schema}
-use Rattle.rules.specs.Words.{all, unequal}
+use Rattle.rules.specs.Words.{all}
 use Rattle.rules.specs.Capacities.{schemaFieldRoom, fieldBytes}
 use Rattle.rules.specs.Register as plain
-use Rattle.rules.specs.WellFormed.{atLeastOne, fieldIds, schemaFormed}
-use Rattle.rules.specs.Offers.{isTidyField, offeredFields, offeredSchema, isTidyOffer, offerFormed}
+use Rattle.rules.specs.WellFormed.{nameFormed, schemaFormed}
+use Rattle.rules.specs.Blanks.{isTidySchema}
+use Rattle.rules.specs.Offers.{isTidyField, offeredField, offeredFields, offeredSchema, isTidyOffer, offerFormed}
 use Rattle.rules.specs.Layout.{readSchema, laidSchema}
-use Rattle.rules.proofs.Checks.{both, and-left, and-right, parts}
+use Rattle.rules.proofs.Checks.{both, and-left, and-right, parts, schemaTests}
+use Rattle.rules.proofs.Slots.Laid.{all-map, tidy-names}
 use Rattle.rules.proofs.Slots.Reread.{reread-schema}
 use Rattle.tables.specs.Laid.{LaidSchema}
 use Rattle.offers.specs.declared.OfferedSchema.{OfferedSchema}
 use Rattle.offers.specs.Offered.{Offered}
+use Rattle.offers.proofs.Named.{name-formed}
 use Rattle.offers.proofs.Fields.{fields-counted}
 
 -- a test that holds only where another does fails with it
@@ -45,7 +48,7 @@ module _ (bs : List ℕ) (o : plain.SchemaOffer) where
   unfolding offerFormed isTidyOffer
   formed-there e =
       let s = offeredSchema bs o in
-      let k = parts (nonNeg (s .id)) (leb (length (s .fields)) schemaFieldRoom ∷ all atLeastOne (fieldIds s) ∷ unequal (fieldIds s) ∷ []) (and-right (isTidyOffer bs o) _ e) in
+      let k = parts (nonNeg (s .id)) (schemaTests s) (and-right (isTidyOffer bs o) _ e) in
       both (rw (fields-counted bs o) at (k .1 .0)) (and-left (leb (o .at + o .count * fieldBytes) (length bs)) _ (and-left (isTidyOffer bs o) _ e))
 
   formed-tidy : offerFormed bs o ≡ true → tidy ≡ true
@@ -66,6 +69,13 @@ module _ (bs : List ℕ) (o : plain.SchemaOffer) where
   passed-there {z} e h =
       let t : there ≡ true = sym e ∙ not-false z h in
       (leb-true _ _ (and-left (leb (o .count) schemaFieldRoom) _ t), leb-true _ _ (and-right (leb (o .count) schemaFieldRoom) _ t))
+
+  -- the schema that passed both is tidy
+  pub tidy-offered : {s : Schema} {t d : Bool} → s ≡ laidSchema (offeredSchema bs o) → t ≡ there → not t ≡ false → d ≡ tidy → not d ≡ false → isTidySchema s ≡ true
+  unfolding offeredSchema
+  tidy-offered {s} {t} {d} l u v x y =
+      let h : leb (length (offeredSchema bs o .fields)) schemaFieldRoom ≡ true = rw (fields-counted bs o) (and-left (leb (o .count) schemaFieldRoom) _ (sym u ∙ not-false t v)) in
+      ap isTidySchema l ∙ tidy-names (offeredSchema bs o) h (all-map (λ (f : plain.SchemaField). nameFormed (f .name)) isTidyField offeredField name-formed (offeredFields bs o) (sym x ∙ not-false d y))
 
   module _ {r : OfferedSchema} (n : (r .formed ≡ false) × (r .schema ≡ noSchema)) where
     refused : offerFormed bs o ≡ false → Offered bs o r

@@ -2,15 +2,17 @@
 use crate::template::say_part;
 use cards::card::Card;
 use cards::card::List;
+use cards::card::NOTHING;
 use cards::item::item_at;
 use cards::item::items;
 use tokens::output::Output;
 
-// A template for each kind of item: the word for no elements, an id, the source id, direction and nulls of a sort field, and how many more
-// are counted than there are slots for.
+// A template for each kind of item: the word for no elements, an id, a field of a schema, of which its name and type are said unless it is a long that
+// is named by its id, the source id, direction and nulls of a sort field, and how many more are counted than there are slots for.
 fn say_list(output: &mut Output, end: &mut usize, list: List) {
     let templates = b"none\
         ;?3{|, }#0\
+        ;?3{|, }#0?2{| $ (long)| $ (timestamp)~ $ (type #1)}\
         ;?3{|, }#0 ?1{ascending|descending~in direction #1} nulls ?2{first|last~#2}\
         ; and %1 more";
     let n = items(list);
@@ -39,7 +41,7 @@ pub fn say_record(output: &mut Output, end: &mut usize, record: usize, card: Car
         ;snapshot #0: file $, #1 bytes\
         ;*";
     say_part(output, end, templates, record, 0, card);
-    if card.list.width > 0 {
+    if card.list.kind != NOTHING {
         say_list(output, end, card.list);
         say_part(output, end, templates, record, 1, card);
     }

@@ -96,7 +96,7 @@ noRefs = record { items = replicate 16 noRef; count = 0 }
 -- ---- schemas
 
 abbrev pub noSchemaField : SchemaField
-noSchemaField = record { id = record { 0 = pos 0 } }
+noSchemaField = record { id = record { 0 = pos 0 }; «field_type» = 0; name = noName }
 
 unfoldable pub noSchema : Schema
 noSchema = record { «schema_id» = record { 0 = pos 0 }; items = replicate 32 noSchemaField; count = 0 }

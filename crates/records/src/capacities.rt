@@ -26,7 +26,7 @@ pub const TEXT: usize = 96;
 
 pub const UPDATES: usize = 64;
 
-// The bytes in which a field of a schema is offered: four of its id, then 34 that are not read yet.
+// The bytes in which a field of a schema is offered: four of its id, the lowest first, one of its type, one of its name's length, and 32 of its name.
 pub const FIELD_BYTES: usize = 38;
 
 // Those of every field that a list can offer.

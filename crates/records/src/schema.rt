@@ -1,4 +1,4 @@
-// Schemas: flat lists of optional longs. A field is a record, so that it can gain a name and a type.
+// Schemas: flat lists of fields.
 ghost use mathlib.Core.Path.{_≡_};
 ghost use Rattle.records.specs.Blanks.{noSchemaField, noSchema, noSchemas, noSchemaOffer, noSchemaIds};
 use crate::capacities::REMOVALS;
@@ -6,9 +6,17 @@ use crate::capacities::SCHEMA_FIELDS;
 use crate::capacities::SCHEMAS;
 use crate::counters::FieldId;
 use crate::counters::SchemaId;
+use crate::text::Name;
+
+// The types of a field.
+pub const LONG: u8 = 1;
+
+pub const TIMESTAMP: u8 = 2;
 
 pub struct SchemaField {
     pub id: FieldId,
+    pub field_type: u8,
+    pub name: Name,
 }
 
 pub struct Schema {
@@ -40,7 +48,12 @@ impl SchemaField {
     pub fn blank() -> SchemaField
         ensures { λ r. ⌜ r ≡ noSchemaField ⌝ }
     {
-        SchemaField { id: FieldId(0) }
+        let name = Name::blank();
+        SchemaField {
+            id: FieldId(0),
+            field_type: 0,
+            name,
+        }
     }
 }
 

@@ -14,6 +14,7 @@ use Rattle.records.specs.declared.counters.Time.{Time}
 use Rattle.records.specs.declared.metadata.TableMetadata.{TableMetadata}
 use Rattle.records.specs.declared.update.TableUpdate.{TableUpdate}
 use Rattle.records.specs.declared.schema.Schema.{Schema}
+use Rattle.records.specs.declared.schema.Schemas.{Schemas}
 use Rattle.rules.specs.Words.{any, first, ascending}
 use Rattle.rules.specs.Capacities.{snapshotRoom, refRoom, snapshotLogRoom, schemaRoom, sortOrderRoom, statisticsRoom, nameRoom, schemaFieldRoom, sortFieldRoom, locationRoom}
 use Rattle.rules.specs.Register as plain
@@ -23,19 +24,33 @@ use Rattle.rules.specs.WellFormed.{snapshotFormed, refFormed, schemaFormed, ord
 use lib.Signed.{nonNeg}
 use Rattle.rules.specs.ChangeLog.{logsMain, logsRemoval}
 use Rattle.rules.specs.Run.{started, listSum}
-use Rattle.rules.specs.Layout.{given, pad, readMetadata, readSnapshots, readRefs, readSnapshotLog, readSchema, readSchemas, readSortOrders, readStatistics, laidStatistics, laidFields, readFields, laidText, laidMetadata}
+use Rattle.rules.specs.Layout.{given, pad, readMetadata, readSnapshots, readRefs, readSnapshotLog, readSchema, readSchemas, laidSchemas, readSortOrders, readStatistics, laidStatistics, laidFields, readFields, laidText, laidMetadata}
 use Rattle.rules.proofs.Sound.Metadata.{formed-sound, statistics-formed}
 use Rattle.rules.proofs.Slots.Relaid.{relaid}
 use Rattle.rules.proofs.Slots.Reread.{reread-snapshots, reread-refs, reread-snapshot-log, reread-schemas, reread-sort-orders, reread-statistics, reread-fields}
 use Rattle.rules.proofs.Tables.{table-parts, log-fits, all-then}
-use Rattle.rules.proofs.Checks.{and-left, parts}
+use Rattle.rules.proofs.Checks.{and-left, parts, schemaTests}
 use Rattle.tables.specs.Laid.{LaidSnapshots, LaidRefs, LaidSnapshotLog, LaidSchemas, LaidOrders, LaidStatistics}
 use Rattle.builder.specs.declared.builder.TableMetadataBuilder.{TableMetadataBuilder}
 use Rattle.builder.specs.Pieces.{fresh, laidBuilder, idsOf, lastTime, IsCurrent}
 use Rattle.close.specs.Facts.{additions}
 use Rattle.start.specs.Start.{startNumber}
 use Rattle.start.proofs.Started.{Starts, starts, file-short, sum-counts}
-use Rattle.refinement.specs.Standing.{Given, Pieces, filesOf, Represents, Standing}
+use Rattle.schema_updates.specs.declared.keys.SchemaKeys.{SchemaKeys}
+use Rattle.schema_updates.specs.Keys.{laidKeys}
+use Rattle.refinement.specs.Standing.{Given, HeldSchemas, Pieces, filesOf, Represents, Standing}
+
+-- schemas that are laid out from well-formed ones
+pub schemas-laid : (l : List plain.Schema) {t : Schemas} → t ≡ laidSchemas l → schemasFormed l ≡ true → LaidSchemas t
+unfolding schemasFormed
+schemas-laid l {t} e f =
+    let q : readSchemas t ≡ l = rw e (reread-schemas l) in
+    let k = table-parts schemaRoom schemaFormed schemaBelow l f in
+    record {
+      back = rw q (sym e);
+      fits = rw q (k .0);
+      fields = rw q (all-then schemaFormed (λ (x : plain.Schema). leb (length (x .fields)) schemaFieldRoom) (λ x e. parts (nonNeg (x .id)) (schemaTests x) e .1 .0) l (k .1));
+    }
 
 module _ (g : Given) (z : startNumber (g .metadata) (g .updates) (g .terms) ≡ 0) where
   start : Starts (g .metadata) (g .updates) (g .terms)
@@ -48,6 +63,10 @@ module _ (g : Given) (z : startNumber (g .metadata) (g .updates) (g .terms) ≡ 
   unfolding snapshotsFormed laidMetadata
   start-snapshots = record { back = ap (λ (x : TableMetadata). x .snapshots) back; fits = table-parts snapshotRoom snapshotFormed snapshotBelow (readSnapshots (g .metadata .snapshots)) (formed-sound (readMetadata (g .metadata)) (start .formed) .snapshots) .0 }
 
+  pub start-schemas : LaidSchemas (g .metadata .schemas)
+  unfolding laidMetadata
+  start-schemas = schemas-laid (readSchemas (g .metadata .schemas)) (sym (ap (λ (x : TableMetadata). x .schemas) back)) (formed-sound (readMetadata (g .metadata)) (start .formed) .schemas)
+
   pub start-log : LaidSnapshotLog (g .metadata .«snapshot_log»)
   unfolding snapshotLogFormed laidMetadata
   start-log = record { back = ap (λ (x : TableMetadata). x .«snapshot_log») back; fits = log-fits snapshotLogRoom (λ (e : plain.LogEntry). nonNeg (e .snapshot)) (readSnapshotLog (g .metadata .«snapshot_log»)) (formed-sound (readMetadata (g .metadata)) (start .formed) .snapshotLog) }
@@ -55,13 +74,13 @@ module _ (g : Given) (z : startNumber (g .metadata) (g .updates) (g .terms) ≡ 
   pub start-short : g .updates .count ≤ 64
   start-short = omega (arith, start .sum, sum-counts (g .updates))
 
-  pub standing-start : {b : TableMetadataBuilder} {is : List ℤ} {last : Time} {e : TableUpdate} → b ≡ fresh (g .metadata .fields) → is ≡ pad 64 (pos 0) (idsOf (readSnapshots (g .metadata .snapshots))) → given (ltb 0 (g .metadata .«snapshot_log» .count)) (last .0) ≡ lastTime (readSnapshotLog (g .metadata .«snapshot_log»)) → e ≡ noUpdate
+  pub standing-start : {b : TableMetadataBuilder} {is : List ℤ} {last : Time} {keys : SchemaKeys} {e : TableUpdate} → b ≡ fresh (g .metadata .fields) → is ≡ pad 64 (pos 0) (idsOf (readSnapshots (g .metadata .snapshots))) → given (ltb 0 (g .metadata .«snapshot_log» .count)) (last .0) ≡ lastTime (readSnapshotLog (g .metadata .«snapshot_log»)) → keys ≡ laidKeys (readSchemas (g .metadata .schemas)) → e ≡ noUpdate
       → Standing g 0 (record {
-        held = record { builder = b; snapshots = g .metadata .snapshots; ids = is; refs = g .metadata .refs; log = g .metadata .«snapshot_log»; last = last; ownTables = record { schemas = g .metadata .schemas; orders = g .metadata .«sort_orders»; statistics = g .metadata .statistics; partitionStatistics = g .metadata .«partition_statistics» } };
+        held = record { builder = b; snapshots = g .metadata .snapshots; ids = is; refs = g .metadata .refs; log = g .metadata .«snapshot_log»; last = last; ownTables = record { schemas = record { table = g .metadata .schemas; keys = keys }; orders = g .metadata .«sort_orders»; statistics = g .metadata .statistics; partitionStatistics = g .metadata .«partition_statistics» } };
         changes = record { entries = replicate 64 e; count = 0; added = replicate 64 (pos 0); adds = 0; mainTargets = replicate 64 (pos 0); mains = 0; removal = false };
       })
   unfolding fresh laidBuilder laidMetadata additions logsMain logsRemoval listSum
-  standing-start p q l r =
+  standing-start p q l k r =
       record {
         starts = start;
         state = started (readMetadata (g .metadata));
@@ -78,7 +97,7 @@ module _ (g : Given) (z : startNumber (g .metadata) (g .updates) (g .terms) ≡ 
             log = sym (ap (λ (x : TableMetadata). x .«snapshot_log») back);
             last = l;
             ownTables = record {
-              schemas = sym (ap (λ (x : TableMetadata). x .schemas) back);
+              schemas = λ i. record { table = sym (ap (λ (x : TableMetadata). x .schemas) back) i; keys = k i };
               orders = sym (ap (λ (x : TableMetadata). x .«sort_orders») back);
               statistics = sym (ap (λ (x : TableMetadata). x .statistics) back);
               partitionStatistics = sym (ap (λ (x : TableMetadata). x .«partition_statistics») back);
@@ -101,8 +120,14 @@ module _ {g : Given} {st : State} {p : Pieces} (E : Represents g st p) where
   pub read-log : readSnapshotLog (p .held .log) ≡ st .metadata .snapshotLog
   read-log = rw (E .tables .log) (reread-snapshot-log (st .metadata .snapshotLog))
 
-  pub read-schemas : readSchemas (p .held .ownTables .schemas) ≡ st .metadata .schemas
-  read-schemas = rw (E .tables .ownTables .schemas) (reread-schemas (st .metadata .schemas))
+  pub schemas-table : p .held .ownTables .schemas .table ≡ laidSchemas (st .metadata .schemas)
+  schemas-table = ap (λ (x : HeldSchemas). x .table) (E .tables .ownTables .schemas)
+
+  pub schemas-keys : p .held .ownTables .schemas .keys ≡ laidKeys (st .metadata .schemas)
+  schemas-keys = ap (λ (x : HeldSchemas). x .keys) (E .tables .ownTables .schemas)
+
+  pub read-schemas : readSchemas (p .held .ownTables .schemas .table) ≡ st .metadata .schemas
+  read-schemas = rw schemas-table (reread-schemas (st .metadata .schemas))
 
   pub read-orders : readSortOrders (p .held .ownTables .orders) ≡ st .metadata .orders
   read-orders = rw (E .tables .ownTables .orders) (reread-sort-orders (st .metadata .orders))
@@ -145,14 +170,8 @@ module _ {g : Given} {st : State} {p : Pieces} (E : Represents g st p) where
   pub laid-log : LaidSnapshotLog (p .held .log)
   laid-log = record { back = rw read-log (sym (E .tables .log)); fits = rw read-log log-fit }
 
-  pub laid-schemas : LaidSchemas (p .held .ownTables .schemas)
-  unfolding schemasFormed
-  laid-schemas =
-      record {
-        back = rw read-schemas (sym (E .tables .ownTables .schemas));
-        fits = rw read-schemas (table-parts schemaRoom schemaFormed schemaBelow (st .metadata .schemas) (E .sound .schemas) .0);
-        fields = rw read-schemas (all-then schemaFormed (λ (x : plain.Schema). leb (length (x .fields)) schemaFieldRoom) (λ x e. parts (nonNeg (x .id)) (leb (length (x .fields)) schemaFieldRoom ∷ _ ∷ _ ∷ []) e .1 .0) (st .metadata .schemas) (table-parts schemaRoom schemaFormed schemaBelow (st .metadata .schemas) (E .sound .schemas) .1));
-      }
+  pub laid-schemas : LaidSchemas (p .held .ownTables .schemas .table)
+  laid-schemas = schemas-laid (st .metadata .schemas) schemas-table (E .sound .schemas)
 
   pub laid-orders : LaidOrders (p .held .ownTables .orders)
   unfolding ordersFormed
@@ -187,10 +206,6 @@ module _ {g : Given} {st : State} {p : Pieces} (E : Represents g st p) where
   unfolding laidBuilder
   read-fields = rw (ap (λ (x : TableMetadataBuilder). x .fields) (E .tables .builder)) (reread-fields (st .metadata .fields))
 
-  pub schemas-ascend : ascending schemaBelow (readSchemas (p .held .ownTables .schemas)) ≡ true
-  unfolding schemasFormed
-  schemas-ascend = rw read-schemas (table-parts schemaRoom schemaFormed schemaBelow (st .metadata .schemas) (E .sound .schemas) .2)
-
   pub orders-formed : ordersFormed (readSortOrders (p .held .ownTables .orders)) ≡ true
   orders-formed = rw read-orders (E .sound .orders)
 
@@ -198,12 +213,12 @@ module _ {g : Given} {st : State} {p : Pieces} (E : Represents g st p) where
   unfolding refsFormed
   refs-ascend = rw read-refs (table-parts refRoom refFormed refBelow (st .metadata .refs) (E .sound .refs) .2)
 
-  pub schema-held : any (hasSchema (p .held .builder .fields .«current_schema_id» .0)) (readSchemas (p .held .ownTables .schemas)) ≡ true
+  pub schema-held : any (hasSchema (p .held .builder .fields .«current_schema_id» .0)) (readSchemas (p .held .ownTables .schemas .table)) ≡ true
   unfolding currentSchemaHeld
   schema-held = rw (read-schemas, ap (λ (x : plain.SingleFields). x .currentSchema) read-fields) (E .sound .schemaHeld)
 
   -- what is held under the id of the builder is the current schema
-  pub current-is : (s : Schema) → first (hasSchema (p .held .builder .fields .«current_schema_id» .0)) (readSchemas (p .held .ownTables .schemas)) ≡ some (readSchema s) → IsCurrent (st .metadata) s
+  pub current-is : (s : Schema) → first (hasSchema (p .held .builder .fields .«current_schema_id» .0)) (readSchemas (p .held .ownTables .schemas .table)) ≡ some (readSchema s) → IsCurrent (st .metadata) s
   current-is s e = rw (read-schemas, ap (λ (x : plain.SingleFields). x .currentSchema) read-fields) at e
 
   pub order-held : any (hasOrder (p .held .builder .fields .«default_sort_order_id» .0)) (readSortOrders (p .held .ownTables .orders)) ≡ true

@@ -173,14 +173,14 @@ module _ {g : Given} {st : State} {p : Pieces} (E : Represents g st p) where
   pub close-accepted : (place : ℕ) → firstOf checks ≡ 0 → {y : History} → HistoryOf (st .log) (st .metadata) y
       → {stay gone : MetadataLog} → stay ≡ laidMetadataLog (staying (termsOf g) (st .metadata)) → gone ≡ laidMetadataLog (expired (termsOf g) (st .metadata))
       → {x : Time} → x .0 ≡ orElse (given (p .held .builder .«has_own») (p .held .builder .own .0)) (g .terms .«clock_ms» .0)
-      → _≡_ {A = Answer} (record { number = 0; place = 0; metadata = record { fields = updated x (p .held .builder .fields); snapshots = p .held .snapshots; refs = p .held .refs; «snapshot_log» = y .log; «metadata_log» = stay; schemas = p .held .ownTables .schemas; «sort_orders» = p .held .ownTables .orders; statistics = p .held .ownTables .statistics; «partition_statistics» = p .held .ownTables .partitionStatistics }; changes = record { items = p .changes .entries; count = p .changes .count }; expired = gone })
+      → _≡_ {A = Answer} (record { number = 0; place = 0; metadata = record { fields = updated x (p .held .builder .fields); snapshots = p .held .snapshots; refs = p .held .refs; «snapshot_log» = y .log; «metadata_log» = stay; schemas = p .held .ownTables .schemas .table; «sort_orders» = p .held .ownTables .orders; statistics = p .held .ownTables .statistics; «partition_statistics» = p .held .ownTables .partitionStatistics }; changes = record { items = p .changes .entries; count = p .changes .count }; expired = gone })
       (laidOutcome (g .metadata) (close (termsOf g) place (st .log) st))
   unfolding laidOutcome closed laidMetadata laidFields laidUpdates
   close-accepted place e {y} Y S G {x} u =
       let T = E .tables in
       let own : x .0 ≡ orElse (st .own) (g .terms .«clock_ms» .0) = u ∙ ap (λ (o : Option ℤ). orElse o (g .terms .«clock_ms» .0)) (its-own st (T .builder)) in
       let F : updated x (p .held .builder .fields) ≡ updated (record { 0 = orElse (st .own) (g .terms .«clock_ms» .0) }) (laidFields (st .metadata .fields)) = λ i. updated (record { 0 = own i }) (fields-laid i) in
-      (λ i. record { number = 0; place = 0; metadata = record { fields = F i; snapshots = T .snapshots i; refs = T .refs i; «snapshot_log» = Y .log i; «metadata_log» = S i; schemas = T .ownTables .schemas i; «sort_orders» = T .ownTables .orders i; statistics = T .ownTables .statistics i; «partition_statistics» = T .ownTables .partitionStatistics i }; changes = record { items = E .logs .entries i; count = E .logs .count i }; expired = G i })
+      (λ i. record { number = 0; place = 0; metadata = record { fields = F i; snapshots = T .snapshots i; refs = T .refs i; «snapshot_log» = Y .log i; «metadata_log» = S i; schemas = T .ownTables .schemas i .table; «sort_orders» = T .ownTables .orders i; statistics = T .ownTables .statistics i; «partition_statistics» = T .ownTables .partitionStatistics i }; changes = record { items = E .logs .entries i; count = E .logs .count i }; expired = G i })
       ∙ ap (laidOutcome (g .metadata)) (sym (accepts e place))
 
   -- the parts that are lent

@@ -17,13 +17,13 @@ use Rattle.rules.specs.WellFormed.{updateFormed}
 use Rattle.rules.specs.RefUpdates.{hasName, refNamed, removeRef}
 use Rattle.rules.specs.Updates.{effect}
 use Rattle.rules.specs.Run.{weight}
-use Rattle.rules.specs.Layout.{readRefs, laidRefs, laidSchemas, laidSortOrders, laidStatistics}
+use Rattle.rules.specs.Layout.{readRefs, laidRefs, laidSortOrders, laidStatistics}
 use Rattle.rules.specs.Kinds.{readUpdates}
 use Rattle.rules.proofs.Checks.{by-test}
 use Rattle.builder.specs.declared.decision.Decision.{Decision}
 use Rattle.builder.specs.Pieces.{laidBuilder}
 use Rattle.builder.specs.Answers.{AnswersUpdate}
-use Rattle.refinement.specs.Standing.{Given, termsOf, OwnTables, OwnTable, Slots, tableOf, withTable, OwnLists, ownLists, laidOf, OwnLaid, Pieces, Represents, Standing}
+use Rattle.refinement.specs.Standing.{Given, termsOf, OwnTables, OwnTable, Slots, tableOf, withTable, OwnLists, ownLists, heldSchemas, laidOf, OwnLaid, Pieces, Represents, Standing}
 use Rattle.refinement.specs.Standing.OwnTable.{ofSchemas, ofOrders, ofStatistics}
 use Rattle.refinement.specs.Turns.{Stands, Decided}
 use Rattle.refinement.proofs.Effects.{group, statisticsGroup, Aside, aside}
@@ -113,7 +113,7 @@ module _ {g : Given} {i : ℕ} {p : Pieces} (S : Standing g i p) (v : Update) (a
     same-refs f = S .stands .tables .refs ∙ ap laidRefs (sym (Q .same .refs f))
 
     same-own : (o : OwnTable) → eqb (group v) (numberOf o) ≡ false → tableOf o (p .held .ownTables) ≡ laidOf o (ownLists (after .metadata))
-    same-own ofSchemas f = S .stands .tables .ownTables .schemas ∙ ap laidSchemas (sym (Q .same .schemas f))
+    same-own ofSchemas f = S .stands .tables .ownTables .schemas ∙ ap heldSchemas (sym (Q .same .schemas f))
     same-own ofOrders f = S .stands .tables .ownTables .orders ∙ ap laidSortOrders (sym (Q .same .orders f))
     same-own (ofStatistics Statistics) f = S .stands .tables .ownTables .statistics ∙ ap laidStatistics (sym (Q .same .statistics f))
     same-own (ofStatistics PartitionStatistics) f = S .stands .tables .ownTables .partitionStatistics ∙ ap laidStatistics (sym (Q .same .partitionStatistics f))

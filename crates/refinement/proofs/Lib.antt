@@ -7,6 +7,7 @@ pub mod Closed
 pub mod Moving
 pub mod Deciding
 pub mod Removing
+pub mod Shaping
 pub mod Adding
 pub mod Setting
 pub mod Taken

@@ -7,13 +7,14 @@ use Rattle.records.specs.declared.update.TableUpdate.{TableUpdate}
 use Rattle.rules.specs.Capacities.{nameRoom}
 use Rattle.rules.specs.WellFormed.{updateFormed, nameFormed}
 use Rattle.rules.specs.Layout.{readName, readSnapshot, laidSnapshot, readReference, laidReference}
-use Rattle.rules.specs.Kinds.{readUpdate, setBranchSnapshotKind, removeSnapshotsKind, setRefKind, removeRefKind}
+use Rattle.rules.specs.Kinds.{readUpdate, setBranchSnapshotKind, removeSnapshotsKind, setRefKind, removeRefKind, removeSchemasKind}
 use Rattle.rules.proofs.Checks.{and-left}
 use Rattle.rules.proofs.Slots.Relaid.{back-ref-name, back-snapshot, back-reference}
-use Rattle.tables.specs.Laid.{LaidName, LaidSnapshotIds}
+use Rattle.tables.specs.Laid.{LaidName, LaidSnapshotIds, LaidSchemaIds}
 use Rattle.start.proofs.Reading.{formed-tidy, read-set-branch-snapshot, read-remove-snapshots, read-set-ref, read-remove-ref}
 use Rattle.builder.proofs.Parts.{snapshot-tidy, ref-name-tidy, reference-tidy}
-use Rattle.builder.proofs.Given.{given-snapshot-ids}
+use Rattle.builder.proofs.Entries.{read-kind}
+use Rattle.builder.proofs.Given.{given-snapshot-ids, given-schema-ids}
 
 module _ (u : TableUpdate) (f : updateFormed (readUpdate u) ≡ true) where
   pub snapshot-back : laidSnapshot (readSnapshot (u .snapshots .added)) ≡ u .snapshots .added
@@ -25,6 +26,10 @@ module _ (u : TableUpdate) (f : updateFormed (readUpdate u) ≡ true) where
   pub asked-laid : u .kind ≡ removeSnapshotsKind → LaidSnapshotIds (u .snapshots .removed)
   unfolding updateFormed
   asked-laid k = given-snapshot-ids u (formed-tidy u f) (rw (read-remove-snapshots u f k) at f)
+
+  pub schemas-asked-laid : u .kind ≡ removeSchemasKind → LaidSchemaIds (u .schemas .removed)
+  unfolding updateFormed
+  schemas-asked-laid k = given-schema-ids u (formed-tidy u f) (rw (read-kind u (formed-tidy u f) 11 k) at f)
 
   -- a name that fits
   name-laid : nameFormed (readName (u .refs .name)) ≡ true → LaidName (u .refs .name)

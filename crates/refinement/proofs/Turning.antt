@@ -10,6 +10,7 @@ use Rattle.records.specs.declared.update.TableUpdate.{TableUpdate}
 use Rattle.rules.specs.WellFormed.{updateFormed}
 use Rattle.rules.specs.Kinds.{atKind, readings, readKind, readUpdate, assignUuidKind, setLocationKind, setBranchSnapshotKind, removeRefKind, addSchemaKind, removeSchemasKind, setDefaultSortOrderKind, removeStatisticsKind}
 use Rattle.builder.specs.declared.decision.Decision.{Decision}
+use Rattle.schema_updates.specs.Keys.{KeysFit}
 use Rattle.start.proofs.Reading.{formed-tidy, read-tidy, bounds}
 use Rattle.refinement.specs.Standing.{Given, Pieces, Standing}
 use Rattle.refinement.specs.Turns.{updateAt, Stands, Decided, Turn}
@@ -30,20 +31,20 @@ module _ {g : Given} {place : ℕ} {half : Bool} {p : Pieces} where
 
   module _ {number : ℕ} (z : number ≡ 0) (short : g .updates .count ≤ 64) {d : Decision} where
     -- from a turn that decides
-    pub decides : place < g .updates .count → Decided g place half p d → Turn g number place true half p d
-    decides l D = record { within = omega arith; short = λ _. short; refused = λ n. absurd (n z); stands = λ _ f. absurd (true≢false f); waits = λ _ _. (l, D) }
+    pub decides : place < g .updates .count → Decided g place half p d → KeysFit (p .held .ownTables .schemas .keys) → Turn g number place true half p d
+    decides l D k = record { within = omega arith; fit = k; short = λ _. short; refused = λ n. absurd (n z); stands = λ _ f. absurd (true≢false f); waits = λ _ _. (l, D) }
 
   -- from a turn that stores: a refusal, or the next decision
   module _ {d : Decision} (l : place < g .updates .count) (D : Decided g place half p d) (short : g .updates .count ≤ 64) where
-    pub refuses : {e : Decision} → (d .number ≡ 0 → ⊥) → Turn g (d .number) place false half p e
-    refuses n = record { within = omega arith; short = λ _. short; refused = λ _. D .refuses n; stands = λ z _. absurd (n z); waits = λ z _. absurd (n z) }
+    pub refuses : {e : Decision} → KeysFit (p .held .ownTables .schemas .keys) → (d .number ≡ 0 → ⊥) → Turn g (d .number) place false half p e
+    refuses k n = record { within = omega arith; fit = k; short = λ _. short; refused = λ _. D .refuses n; stands = λ z _. absurd (n z); waits = λ z _. absurd (n z) }
 
     ahead : cond half place (place + 1) ≤ g .updates .count
     ahead = cases half (λ t. rw t (omega arith)) (λ f. rw f (omega arith))
 
     module _ (z : d .number ≡ 0) {next : ℕ} (q : next ≡ cond half place (place + 1)) where
-      pub goes-on : {e : Decision} {w : Pieces} → Stands g (cond half place (place + 1)) half w → Turn g (d .number) next false half w e
-      goes-on S = record { within = rw q ahead; short = λ _. short; refused = λ n. absurd (n z); stands = λ _ _. rw q S; waits = λ _ f. absurd (false≢true f) }
+      pub goes-on : {e : Decision} {w : Pieces} → KeysFit (w .held .ownTables .schemas .keys) → Stands g (cond half place (place + 1)) half w → Turn g (d .number) next false half w e
+      goes-on k S = record { within = rw q ahead; fit = k; short = λ _. short; refused = λ n. absurd (n z); stands = λ _ _. rw q S; waits = λ _ f. absurd (false≢true f) }
 
 -- ---- the family of an update, by its kind
 

@@ -32,6 +32,8 @@ use Rattle.rules.proofs.Sound.Metadata.{Sound}
 use Rattle.builder.specs.declared.builder.TableMetadataBuilder.{TableMetadataBuilder}
 use Rattle.builder.specs.declared.decision.Decision.{Decision}
 use Rattle.builder.specs.Pieces.{laidBuilder, idsOf, lastTime}
+use Rattle.schema_updates.specs.declared.keys.SchemaKeys.{SchemaKeys}
+use Rattle.schema_updates.specs.Keys.{laidKeys}
 use Rattle.start.proofs.Started.{Starts}
 use Rattle.close.specs.Facts.{additions}
 
@@ -49,9 +51,14 @@ termsOf g = readTerms (g .terms) (g .lent)
 abbrev pub answerOf : Given → Answer
 answerOf g = answer (g .metadata) (g .updates) (g .terms) (g .lent)
 
+-- the schemas, and their ids beside the table, which is large
+pub record HeldSchemas : Type 0 where
+  pub table : Schemas
+  pub keys : SchemaKeys
+
 -- the tables that only their own updates change: a family of updates has one of them, and no other update touches it
 pub record OwnTables : Type 0 where
-  pub schemas : Schemas
+  pub schemas : HeldSchemas
   pub orders : SortOrders
   pub statistics : StatisticsFiles
   pub partitionStatistics : StatisticsFiles
@@ -63,7 +70,7 @@ pub data OwnTable : Type 0 where
   ofStatistics : StatisticsTable → OwnTable
 
 abbrev pub Slots : OwnTable → Type 0
-Slots ofSchemas = Schemas
+Slots ofSchemas = HeldSchemas
 Slots ofOrders = SortOrders
 Slots (ofStatistics which) = StatisticsFiles
 
@@ -146,14 +153,17 @@ abbrev pub filesIn : StatisticsTable → OwnLists → List plain.StatisticsFile
 filesIn Statistics l = l .statistics
 filesIn PartitionStatistics l = l .partitionStatistics
 
+abbrev pub heldSchemas : List plain.Schema → HeldSchemas
+heldSchemas l = record { table = laidSchemas l; keys = laidKeys l }
+
 abbrev pub laidOf : (o : OwnTable) → OwnLists → Slots o
-laidOf ofSchemas l = laidSchemas (l .schemas)
+laidOf ofSchemas l = heldSchemas (l .schemas)
 laidOf ofOrders l = laidSortOrders (l .orders)
 laidOf (ofStatistics which) l = laidStatistics (filesIn which l)
 
 -- the tables are these, laid out
 pub record OwnLaid (m : OwnLists) (s : OwnTables) : Type 0 where
-  pub schemas : s .schemas ≡ laidSchemas (m .schemas)
+  pub schemas : s .schemas ≡ heldSchemas (m .schemas)
   pub orders : s .orders ≡ laidSortOrders (m .orders)
   pub statistics : s .statistics ≡ laidStatistics (m .statistics)
   pub partitionStatistics : s .partitionStatistics ≡ laidStatistics (m .partitionStatistics)

@@ -18,6 +18,7 @@ use Rattle.rules.specs.Kinds.{setBranchSnapshotKind, readUpdate}
 use Rattle.rules.specs.Answer.{laidOutcome}
 use Rattle.builder.specs.declared.decision.Decision.{Decision}
 use Rattle.ref_updates.specs.Refs.{askedRef}
+use Rattle.schema_updates.specs.Keys.{KeysFit}
 use Rattle.refinement.specs.Standing.{Given, answerOf, termsOf, Pieces, stored, Tables, Logs, Represents, Standing}
 
 -- what the logic reads past the end of an array: every array in it is empty
@@ -75,6 +76,7 @@ pub record Decided (g : Given) (i : ℕ) (half : Bool) (p : Pieces) (d : Decisio
 -- before any turn
 pub record Turn (g : Given) (number place : ℕ) (decided half : Bool) (p : Pieces) (d : Decision) : Type 0 where
   pub within : place ≤ g .updates .count
+  pub fit : KeysFit (p .held .ownTables .schemas .keys)
   pub short : number ≡ 0 → g .updates .count ≤ 64
   pub refused : (number ≡ 0 → ⊥) → RefusedWith g number place
   pub stands : number ≡ 0 → decided ≡ false → Stands g place half p

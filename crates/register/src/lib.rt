@@ -26,12 +26,14 @@ use records::replies::ACCEPTED;
 use records::replies::UPDATE_NOT_FORMED;
 use records::run::Answer;
 use records::run::RunTerms;
+use records::update::ADD_SCHEMA;
 use records::update::ADD_SNAPSHOT;
 use records::update::REMOVE_REF;
 use records::update::REMOVE_SCHEMAS;
 use records::update::REMOVE_SNAPSHOTS;
 use records::update::REMOVE_STATISTICS;
 use records::update::SET_BRANCH_SNAPSHOT;
+use records::update::SET_CURRENT_SCHEMA;
 use records::update::SET_DEFAULT_SORT_ORDER;
 use records::update::SET_LOCATION;
 use records::update::SET_REF;
@@ -43,7 +45,14 @@ use ref_updates::ref_target;
 use ref_updates::refs_after;
 use ref_updates::remove_ref;
 use ref_updates::set_ref;
-use schema_updates::family as schema_family;
+use schema_updates::add_schema;
+use schema_updates::keys::current_place;
+use schema_updates::keys::keys_at_start;
+use schema_updates::keys::keys_of;
+use schema_updates::keys::with_key;
+use schema_updates::new_schema;
+use schema_updates::remove_schemas;
+use schema_updates::set_current_schema;
 use search::position;
 use search::position_ascending;
 use snapshot_updates::add_snapshot;
@@ -53,6 +62,7 @@ use start::start_number;
 use start::weight;
 use statistics_updates::family as statistics_family;
 use tables::names::is_main_name;
+use tables::schemas::find_equal;
 
 // The place after a decision is stored: the same one, if a branch commit has its second half to come.
 fn after(place: usize, half: bool) -> usize
@@ -76,8 +86,8 @@ fn slot(spot: usize, held: usize) -> usize
     0
 }
 
-// The loop decides an update, or one half of a branch commit, and in its next turn stores the decision. Entries, snapshots, their ids and the
-// snapshot log are stored in place, since a table that is handed over is copied.
+// The loop decides an update, or one half of a branch commit, and in its next turn stores the decision. Entries, snapshots, their ids, the
+// snapshot log and schemas are stored in place, since a table that is handed over is copied; so the ids of the schemas are beside their table.
 pub fn run(
     metadata: TableMetadata,
     updates: UpdateList,
@@ -87,44 +97,42 @@ pub fn run(
 ) -> Answer
     ensures { λ r. ⌜ r ≡ answer metadata updates terms (record { text = now (text .entry); offers = now (offers .entry) }) ⌝ }
 {
-    let none = TableUpdate::blank();
-    let first = metadata.fields;
-    let clock = terms.clock_ms;
     let listed = updates.count;
-    // What the change log says of snapshots: the ids that it adds, those to which it sets `main`, whether it removes any.
-    let mut added = [0i64; 64];
-    let mut main_targets = [0i64; 64];
+    let mut sum: usize = 0;
+    let mut place: usize = 0;
+    // Of the change log: how many entries it has, how many snapshots it adds, how often it sets `main`, whether it removes snapshots.
+    let mut count: usize = 0;
     let mut adds: usize = 0;
     let mut mains: usize = 0;
     let mut removal = false;
-    let mut sum: usize = 0;
-    let mut number = ACCEPTED;
-    // The change log, the update at hand, and the decision on it.
-    let mut entries = [none; 64];
-    let mut update = none;
-    let mut builder = TableMetadataBuilder::new_from_metadata(first);
-    let mut decision = decided(UPDATE_NOT_FORMED, false, builder, none);
-    let mut snapshots = metadata.snapshots;
-    let mut ids = ids_of(snapshots);
-    let mut refs = metadata.refs;
-    let mut log = metadata.snapshot_log;
-    let mut last = last_time(log, clock);
-    let mut schemas = metadata.schemas;
-    let mut orders = metadata.sort_orders;
-    let mut statistics = metadata.statistics;
-    let mut partition_statistics = metadata.partition_statistics;
-    let mut count: usize = 0;
-    let mut place: usize = 0;
     // `waits`: a decision is to be stored. `half`: a branch commit has added its snapshot, and its ref is still to be set; `begun` says so
     // of the turn before.
     let mut waits = false;
     let mut half = false;
     let mut begun = false;
+    // The update at hand, the change log, and the decision on the update.
+    let mut update = TableUpdate::blank();
+    let mut entries = [update; 64];
+    let mut builder = TableMetadataBuilder::new_from_metadata(metadata.fields);
+    let mut decision = decided(UPDATE_NOT_FORMED, false, builder, update);
+    let mut refs = metadata.refs;
+    let mut orders = metadata.sort_orders;
+    let mut statistics = metadata.statistics;
+    let mut partition_statistics = metadata.partition_statistics;
+    // The ids that the change log adds, and those to which it sets `main`.
+    let mut added = [0i64; 64];
+    let mut main_targets = [0i64; 64];
+    let mut snapshots = metadata.snapshots;
+    let mut ids = ids_of(snapshots);
+    let mut log = metadata.snapshot_log;
+    let mut last = last_time(log, terms.clock_ms);
+    let mut schemas = metadata.schemas;
     while (place < listed) & (place < 64) {
         sum += weight(updates.items[place].kind);
         place += 1;
     }
-    number = start_number(is_formed(metadata), terms, listed, sum);
+    let mut number = start_number(is_formed(metadata), terms, listed, sum);
+    let mut keys = keys_at_start(schemas, number);
     place = 0;
     while (number == ACCEPTED) & (waits | (place < listed)) {
         if waits {
@@ -156,15 +164,14 @@ pub fn run(
             decision = single::decide(builder, update);
             continue;
         }
-        let held = snapshots.count;
-        let history = log.count;
         if (kind == ADD_SNAPSHOT) | ((kind == SET_BRANCH_SNAPSHOT) & !begun) {
+            let held = snapshots.count;
             let on_tag = commits_on_tag(refs, update);
             decision = add_snapshot(
                 builder,
                 on_tag,
                 &ids[..held],
-                history > 0,
+                log.count > 0,
                 last,
                 terms.tolerance_ms,
                 update,
@@ -189,6 +196,8 @@ pub fn run(
             continue;
         }
         if (kind == SET_BRANCH_SNAPSHOT) | (kind == SET_REF) {
+            let held = snapshots.count;
+            let history = log.count;
             let id = ref_target(update);
             let key = id.0;
             let spot = position_ascending(&ids[..held], key);
@@ -202,7 +211,7 @@ pub fn run(
                 addition < adds,
                 target.timestamp_ms,
                 history,
-                clock,
+                terms.clock_ms,
                 update,
             );
             refs = refs_after(refs, decision);
@@ -232,14 +241,33 @@ pub fn run(
             refs = tables::refs::without(refs, update.refs.name);
             continue;
         }
-        if kind <= REMOVE_SCHEMAS {
-            decision = schema_family::decide(builder, schemas, update, offers);
-            schemas = schema_family::after(schemas, update, decision, offers);
+        if kind == ADD_SCHEMA {
+            let offered = offers::schema(update.schemas.added, offers);
+            let equal = find_equal(schemas, offered.schema);
+            decision = add_schema(builder, keys, equal, offered, update);
+            if !decision.grows {
+                continue;
+            }
+            let schema = new_schema(offered, decision);
+            let free = schemas.count;
+            schemas.items[free] = schema;
+            schemas.count = free + 1;
+            keys = with_key(keys, schema.schema_id);
+            continue;
+        }
+        if kind == SET_CURRENT_SCHEMA {
+            decision = set_current_schema(builder, keys, update);
+            continue;
+        }
+        if kind == REMOVE_SCHEMAS {
+            decision = remove_schemas(builder, keys, update);
+            schemas = tables::schemas::without(schemas, update.schemas.removed);
+            keys = keys_of(schemas);
             continue;
         }
         if kind <= SET_DEFAULT_SORT_ORDER {
-            let fields = builder.fields;
-            let schema = tables::schemas::get(schemas, fields.current_schema_id);
+            let at = current_place(builder, keys);
+            let schema = schemas.items[at];
             decision = order_family::decide(builder, schema, orders, update);
             orders = order_family::after(orders, update, decision);
             continue;
@@ -269,14 +297,20 @@ pub fn run(
     let stored = metadata.metadata_log.count;
     let gone = surplus(stored, terms.has_file, most);
     let overfull = is_overfull(stored, terms.has_file, gone);
-    let schema = tables::schemas::get(schemas, fields.current_schema_id);
+    let at = current_place(builder, keys);
+    let schema = schemas.items[at];
     number = close_number(history, fields, refs, schema, orders, overfull);
     if number != ACCEPTED {
         return refused(metadata, number, listed);
     }
     let expired = part(metadata.metadata_log, 0, gone);
-    let metadata_log = staying(metadata.metadata_log, gone, terms, first.last_updated_ms);
-    let updated = own_or(builder, clock);
+    let metadata_log = staying(
+        metadata.metadata_log,
+        gone,
+        terms,
+        metadata.fields.last_updated_ms,
+    );
+    let updated = own_or(builder, terms.clock_ms);
     let mut closed = fields;
     closed.last_updated_ms = updated;
     let snapshot_log = history.log;

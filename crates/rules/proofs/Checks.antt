@@ -5,9 +5,13 @@ use mathlib.Core.Path.{_≡_, refl}
 use mathlib.Core.Bool.{Bool, true, false, cond, _&&_, _||_, false≢true, true≢false}
 use mathlib.Core.List.{List, [], _∷_, _++_}
 use mathlib.Core.Option.{Option, none, some}
-use lib.Dec.{ltb}
+use lib.Dec.{ltb, leb}
+use lib.ListN.{length}
 use borrow.Author.Tests.{ltb-true}
-use Rattle.rules.specs.Words.{all, firstOf, Check}
+use Rattle.rules.specs.Words.{all, unequalBy, sameBytes, unequal, firstOf, Check}
+use Rattle.rules.specs.Capacities.{schemaFieldRoom}
+use Rattle.rules.specs.Register.{Schema}
+use Rattle.rules.specs.WellFormed.{fieldIds, fieldNames, schemaFieldFormed}
 
 -- ---- tests
 
@@ -72,6 +76,10 @@ parts a (b ∷ bs) e = let k : Hold ((a && b) ∷ bs) = parts (a && b) bs e in (
 pub whole : (a : Bool) (bs : List Bool) → Hold (a ∷ bs) → andAll a bs ≡ true
 whole a [] k = k .0
 whole a (b ∷ bs) k = whole (a && b) bs (both (k .0) (k .1 .0), k .1 .1)
+
+-- what is asked of a schema beside its id
+abbrev pub schemaTests : Schema → List Bool
+schemaTests s = leb (length (s .fields)) schemaFieldRoom ∷ all schemaFieldFormed (s .fields) ∷ unequal (fieldIds s) ∷ unequalBy sameBytes (fieldNames s) ∷ []
 
 -- ---- checks in order
 

@@ -138,11 +138,14 @@ isTidyRefs t = tidySlots refRoom isTidyRef isBlankRef (t .items) (t .count)
 
 -- ---- schemas
 
-abbrev pub isBlankSchemaField : SchemaField → Bool
-isBlankSchemaField f = isZeroZ (f .id .0)
+unfoldable pub isTidySchemaField : SchemaField → Bool
+isTidySchemaField f = isTidyName (f .name)
+
+unfoldable pub isBlankSchemaField : SchemaField → Bool
+isBlankSchemaField f = isZeroZ (f .id .0) && isZero (f .«field_type») && isBlankName (f .name)
 
 unfoldable pub isTidySchema : Schema → Bool
-isTidySchema s = restBlank schemaFieldRoom isBlankSchemaField (s .items) (s .count)
+isTidySchema s = tidySlots schemaFieldRoom isTidySchemaField isBlankSchemaField (s .items) (s .count)
 
 unfoldable pub isBlankSchema : Schema → Bool
 isBlankSchema s = isZeroZ (s .«schema_id» .0) && noneUsed schemaFieldRoom isBlankSchemaField (s .items) (s .count)

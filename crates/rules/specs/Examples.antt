@@ -13,15 +13,15 @@ use Rattle.records.specs.declared.counters.RowId.{RowId}
 use Rattle.rules.specs.Words.{eqZ, total}
 use Rattle.rules.specs.Names.{mainName}
 use Rattle.rules.specs.Window.{defaultTolerance}
-use Rattle.rules.specs.Register.{RowRange, Snapshot, Reference, NamedRef, LogEntry, FileEntry, Schema, SchemaOffer, SortField, SortOrder, StatisticsFile, StatisticsTable, Metadata, Update, Terms, Outcome, statisticsOf, withFields, withSnapshots, withRefs, withSnapshotLog, withMetadataLog, withSchemas, withOrders, withStatistics, withVersion, withLocation, withLastSequence, withCurrentSchema, withDefaultOrder}
+use Rattle.rules.specs.Register.{RowRange, Snapshot, Reference, NamedRef, LogEntry, FileEntry, SchemaField, Schema, SchemaOffer, SortField, SortOrder, StatisticsFile, StatisticsTable, Metadata, Update, Terms, Outcome, statisticsOf, withFields, withSnapshots, withRefs, withSnapshotLog, withMetadataLog, withSchemas, withOrders, withStatistics, withVersion, withLocation, withLastSequence, withCurrentSchema, withDefaultOrder}
 use Rattle.rules.specs.Register.StatisticsTable.{Statistics, PartitionStatistics}
 use Rattle.rules.specs.Register.Outcome.{Refused, Accepted}
 use Rattle.rules.specs.Register.Update.{AssignUuid, UpgradeFormatVersion, SetLocation, AddSnapshot, SetBranchSnapshot, RemoveSnapshots, SetRef, RemoveRef, AddSchema, SetCurrentSchema, RemoveSchemas, AddSortOrder, SetDefaultSortOrder, SetStatistics, RemoveStatistics, NotFormed}
 use Rattle.rules.specs.Limit.{limitGiven}
 use Rattle.rules.specs.RowIds.{rowNumber, rowNext}
 use Rattle.rules.specs.Walk.{Walk, Listed, Twice, Bad, ancestors, recordAncestors, walkNumber, walkCount, walkBuffer}
-use Rattle.rules.specs.WellFormed.{metadataFormed, updateFormed}
-use Rattle.rules.specs.Capacities.{fieldBytes}
+use Rattle.rules.specs.WellFormed.{long, timestamp, metadataFormed, updateFormed}
+use Rattle.rules.specs.Capacities.{nameRoom, fieldBytes}
 use Rattle.rules.specs.Offers.{offerFormed}
 use Rattle.rules.specs.Moment.{currentAt, entriesRead, isWhole, removesAndAdds}
 use Rattle.rules.specs.Run.{listSum, run}
@@ -185,17 +185,37 @@ abbrev pub allOf : List (List ℕ) → List ℕ
 allOf [] = []
 allOf (l ∷ ls) = l ++ allOf ls
 
--- the bytes of a field, by the four of its id
-abbrev pub fieldOffer : List ℕ → List ℕ
-fieldOffer id = id ++ replicate 34 0
+-- the bytes of a field: the four of its id, its type, its name's length, and its name with what stands behind it
+abbrev pub fieldOffer : List ℕ → ℕ → ℕ → List ℕ → List ℕ
+fieldOffer id type len name = id ++ (type ∷ len ∷ []) ++ name ++ replicate (nameRoom - length name) 0
 
--- 1 to 33, then 0, then 1 2 1, then 2 9 4, then 2 1
-abbrev pub offeredIds : List ℕ
-offeredIds = many 33 suc ++ (0 ∷ 1 ∷ 2 ∷ 1 ∷ 2 ∷ 9 ∷ 4 ∷ 2 ∷ 1 ∷ [])
+-- a field with an id of one byte, a type, and a name
+abbrev pub offering : ℕ → ℕ → List ℕ → List ℕ
+offering id type name = fieldOffer (id ∷ 0 ∷ 0 ∷ 0 ∷ []) type (length name) name
 
--- after them the largest id and one more than that
+-- a long whose name is its id
+abbrev pub longOffer : ℕ → List ℕ
+longOffer id = offering id long (id ∷ [])
+
+-- 0 to 32: the longs 1 to 33; 33 on: 0, then 1 2 1 of unequal names, then 2 9 4, then 2 1; 42 on: the largest id, and one more than that.
+-- 44 on: field 1 a timestamp, of another name, and then 2 of that name; of the types 0 and 3; with no name, and with the longest; with one byte past no name, and with a length past the longest
 abbrev pub offers : List ℕ
-offers = allOf (map (λ (id : ℕ). fieldOffer (id ∷ 0 ∷ 0 ∷ 0 ∷ [])) offeredIds) ++ fieldOffer (255 ∷ 255 ∷ 255 ∷ 127 ∷ []) ++ fieldOffer (0 ∷ 0 ∷ 0 ∷ 128 ∷ [])
+offers =
+    allOf (many 33 (λ (i : ℕ). longOffer (suc i)))
+    ++ allOf (map longOffer (0 ∷ 1 ∷ 2 ∷ []))
+    ++ offering 1 long (3 ∷ [])
+    ++ allOf (map longOffer (2 ∷ 9 ∷ 4 ∷ 2 ∷ 1 ∷ []))
+    ++ fieldOffer (255 ∷ 255 ∷ 255 ∷ 127 ∷ []) long 0 []
+    ++ fieldOffer (0 ∷ 0 ∷ 0 ∷ 128 ∷ []) long 0 []
+    ++ offering 1 timestamp (1 ∷ [])
+    ++ offering 1 long (97 ∷ [])
+    ++ offering 2 long (97 ∷ [])
+    ++ offering 1 0 (1 ∷ [])
+    ++ offering 1 3 (1 ∷ [])
+    ++ offering 1 long []
+    ++ offering 2 long (replicate 32 255)
+    ++ fieldOffer (1 ∷ 0 ∷ 0 ∷ 0 ∷ []) long 0 (replicate 31 0 ++ (1 ∷ []))
+    ++ fieldOffer (1 ∷ 0 ∷ 0 ∷ 0 ∷ []) long 33 (replicate 32 97)
 
 -- so many of these fields, from one on, counted from 0
 abbrev pub offerFrom : ℕ → ℕ → ℕ → SchemaOffer
@@ -204,6 +224,10 @@ offerFrom first count id = record { id = pos id; at = first * fieldBytes; count 
 -- one field, of 1 to 33
 abbrev pub offerOf : ℕ → ℕ → SchemaOffer
 offerOf field id = offerFrom (field - 1) 1 id
+
+-- a long whose name is its id
+abbrev pub longField : ℕ → SchemaField
+longField id = record { id = pos id; fieldType = long; name = id ∷ [] }
 
 -- a clock reading and a tolerance, no file name, an empty limit text. A call always has a limit text (`Answer.readTerms`)
 abbrev pub plainTerms : ℤ → ℤ → Terms
@@ -242,7 +266,7 @@ register version sequence next updated snapshots current refs log files =
       refs = refs;
       snapshotLog = log;
       metadataLog = files;
-      schemas = record { id = pos 0; fields = record { id = pos 1 } ∷ [] } ∷ [];
+      schemas = record { id = pos 0; fields = longField 1 ∷ [] } ∷ [];
       orders = record { id = pos 0; fields = [] } ∷ [];
       statistics = [];
       partitionStatistics = [];
@@ -303,9 +327,17 @@ twoHeld current refs = register 2 2 0 (pos 0) (snap 1 none 1 (pos 0) ∷ snap 2 
 abbrev pub unnamed : Metadata
 unnamed = register 2 1 0 (negsuc 99999) (snap 1 none 1 (negsuc 299999) ∷ []) none [] [] []
 
--- a schema of one field, with an id
+-- a schema of some fields, with an id
+abbrev pub schemaWith : List SchemaField → ℕ → Schema
+schemaWith fields id = record { id = pos id; fields = fields }
+
+-- of one long
 abbrev pub schemaOf : ℕ → ℕ → Schema
-schemaOf field id = record { id = pos id; fields = record { id = pos field } ∷ [] }
+schemaOf field id = schemaWith (longField field ∷ []) id
+
+-- field 2 with a type and a name
+abbrev pub second : ℕ → List ℕ → SchemaField
+second type name = record { id = pos 2; fieldType = type; name = name }
 
 -- a sort order by one field, ascending, nulls first, with an id
 abbrev pub orderOf : ℕ → ℕ → SortOrder
@@ -329,10 +361,6 @@ attachings (suc n) = attaching n 1 ∷ attachings n
 
 abbrev pub range : ℕ → ℕ → RowRange
 range first added = record { first = record { 0 = first }; added = added }
-
--- a schema of some fields, with an id
-abbrev pub schemaWith : List ℤ → ℕ → Schema
-schemaWith fields id = record { id = pos id; fields = map (λ (f : ℤ). record { id = f }) fields }
 
 -- a sort field; 0 ascending, 1 descending; 0 nulls first, 1 last
 abbrev pub by : ℤ → ℕ → ℕ → SortField
@@ -376,7 +404,7 @@ stocked =
       refs = named draft ∷ named mainName ∷ [];
       snapshotLog = entry 1 100000 ∷ [];
       metadataLog = file 97 1 ∷ [];
-      schemas = schemaOf 1 0 ∷ schemaOf 2 1 ∷ schemaWith (pos 2 ∷ pos 3 ∷ []) 2 ∷ [];
+      schemas = schemaOf 1 0 ∷ schemaOf 2 1 ∷ schemaWith (longField 2 ∷ longField 3 ∷ []) 2 ∷ [];
       orders = unordered 0 ∷ orderOf 2 1 ∷ orderBy 2 (by (pos 2) 1 0 ∷ []) ∷ [];
       statistics = attached 1 1 ∷ [];
       partitionStatistics = attached 2 2 ∷ [];
@@ -418,7 +446,7 @@ restocked =
       refs = named draft ∷ record { name = mainName; reference = branchTo 2 } ∷ [];
       snapshotLog = entry 1 100000 ∷ entry 2 500000 ∷ [];
       metadataLog = file 97 1 ∷ file 100 450000 ∷ [];
-      schemas = schemaOf 1 0 ∷ schemaOf 2 1 ∷ schemaWith (pos 2 ∷ pos 3 ∷ []) 2 ∷ schemaOf 10 3 ∷ [];
+      schemas = schemaOf 1 0 ∷ schemaOf 2 1 ∷ schemaWith (longField 2 ∷ longField 3 ∷ []) 2 ∷ schemaOf 10 3 ∷ [];
       orders = unordered 0 ∷ orderOf 2 1 ∷ orderBy 2 (by (pos 2) 1 0 ∷ []) ∷ orderBy 3 (by (pos 2) 0 1 ∷ []) ∷ [];
       statistics = attached 1 1 ∷ attached 3 3 ∷ [];
       partitionStatistics = attached 2 2 ∷ attached 3 4 ∷ [];
@@ -437,7 +465,7 @@ crowded snapshots refs log files schemas fields orders sortFields statistics par
     (withRefs (many refs (λ (i : ℕ). record { name = i ∷ []; reference = branchTo 0 }))
     (withSnapshotLog (replicate log (entry 0 0))
     (withMetadataLog (replicate files (file 97 0))
-    (withSchemas (many schemas (schemaWith (many fields (λ (i : ℕ). pos (suc i)))))
+    (withSchemas (many schemas (schemaWith (many fields (λ (i : ℕ). longField (suc i)))))
     (withOrders (many orders (orderAt sortFields))
     (withStatistics Statistics (many statistics (λ (i : ℕ). attached i 0))
     (withStatistics PartitionStatistics (many partition (λ (i : ℕ). attached i 0)) (empty 2 0 (pos 0) []))))))))
@@ -627,6 +655,9 @@ examples =
     gives Log (AddSchema (offerOf 2 1) ∷ AddSchema (offerOf 3 2) ∷ RemoveSchemas (pos 1 ∷ []) ∷ AddSchema (offerOf 4 3) ∷ RemoveSchemas (pos 2 ∷ pos 3 ∷ []) ∷ []))
     -- schema reused: logged as offered, not again while it is the last added, and -1 stands for it
     ∷ (OfRun AtLog terms three (AddSchema (offerOf 1 9) ∷ AddSchema (offerOf 1 8) ∷ SetCurrentSchema (negsuc 0) ∷ []) gives Log (AddSchema (offerOf 1 9) ∷ []))
+    -- unequal fields: field 1 under another name, and as a timestamp, makes a new schema; a name that another schema has does too
+    ∷ (OfRun AtLog terms three (AddSchema (offerFrom 45 1 0) ∷ AddSchema (offerFrom 44 1 0) ∷ AddSchema (offerFrom 46 1 0) ∷ [])
+    gives Log (AddSchema (offerFrom 45 1 1) ∷ AddSchema (offerFrom 44 1 2) ∷ AddSchema (offerFrom 46 1 3) ∷ []))
     -- last column: raised to a new schema's highest field id, and not lowered
     ∷ (OfRun AtColumn terms three (AddSchema (offerOf 9 0) ∷ AddSchema (offerOf 4 0) ∷ []) gives Column (pos 9))
     -- schema by id: one that is not the last added
@@ -814,6 +845,18 @@ examples =
     ∷ withStatistics PartitionStatistics (record { snapshot = negsuc 0; path = []; size = pos 0 } ∷ []) first
     ∷ []))
     gives Tests (replicate 10 false))
+    -- names and types in tables: beside field 1 a field of the type 0 or 3, of a name of 33 bytes or of the name of field 1, or of an id of both, is not well formed; one of 32 bytes and one of none are, the latter in two schemas
+    ∷ (OfTests (map metadataFormed
+    (withSchemas (schemaWith (longField 1 ∷ second 0 [] ∷ []) 0 ∷ []) first
+    ∷ withSchemas (schemaWith (longField 1 ∷ second 3 [] ∷ []) 0 ∷ []) first
+    ∷ withSchemas (schemaWith (longField 1 ∷ second long (replicate 33 97) ∷ []) 0 ∷ []) first
+    ∷ withSchemas (schemaWith (longField 3 ∷ longField 1 ∷ second long (1 ∷ []) ∷ []) 0 ∷ []) first
+    ∷ withSchemas (schemaWith (longField 2 ∷ second long (1 ∷ []) ∷ []) 0 ∷ []) first
+    ∷ withSchemas (schemaWith (longField 1 ∷ second timestamp (replicate 32 97) ∷ []) 0 ∷ []) first
+    ∷ withSchemas (schemaWith (longField 1 ∷ second timestamp [] ∷ []) 0 ∷ schemaWith (longField 1 ∷ second long [] ∷ []) 1 ∷ []) first
+    ∷ []))
+    gives Tests (replicate 5 false ++ (true ∷ true ∷ [])))
+    ∷ (OfRun AtLog terms (withSchemas (schemaWith (longField 1 ∷ second long (1 ∷ []) ∷ []) 0 ∷ []) three) [] gives Refusal 1 0)
     -- single fields: version 0 and 4, a location of 97 bytes, a last sequence number below 0
     ∷ (OfTests (map metadataFormed
     (withFields (withVersion 0 (record { 0 = 0 }) (first .fields)) first
@@ -851,8 +894,12 @@ examples =
     ∷ []))
     gives Tests (replicate 17 true))
     -- offers: as many fields as there may be, the largest id, no field, none past the last byte; and one more field, no id, an id twice, an id past the largest, a byte that is not there, a schema id below 0
-    ∷ (OfTests (map (offerFormed offers) (offerFrom 0 32 0 ∷ offerFrom 42 1 0 ∷ offerFrom 44 0 0 ∷ offerFrom 40 2 7 ∷ [])) gives Tests (replicate 4 true))
-    ∷ (OfTests (map (offerFormed offers) (offerFrom 0 33 0 ∷ offerFrom 33 1 0 ∷ offerFrom 34 3 0 ∷ offerFrom 43 1 0 ∷ offerFrom 44 1 0 ∷ offerFrom 45 0 0 ∷ record { id = negsuc 0; at = 0; count = 1 } ∷ [])) gives Tests (replicate 7 false))
+    ∷ (OfTests (map (offerFormed offers) (offerFrom 0 32 0 ∷ offerFrom 42 1 0 ∷ offerFrom 53 0 0 ∷ offerFrom 40 2 7 ∷ [])) gives Tests (replicate 4 true))
+    ∷ (OfTests (map (offerFormed offers) (offerFrom 0 33 0 ∷ offerFrom 33 1 0 ∷ offerFrom 34 3 0 ∷ offerFrom 43 1 0 ∷ offerFrom 53 1 0 ∷ offerFrom 54 0 0 ∷ record { id = negsuc 0; at = 0; count = 1 } ∷ [])) gives Tests (replicate 7 false))
+    -- offered names and types: a timestamp, a name that an older schema has, no name beside the longest; and a name twice, the types 0 and 3, a byte past the name, a length past the longest, which are 3
+    ∷ (OfTests (map (offerFormed offers) (offerFrom 44 1 0 ∷ offerFrom 45 1 0 ∷ offerFrom 46 1 0 ∷ offerFrom 49 2 0 ∷ [])) gives Tests (replicate 4 true))
+    ∷ (OfTests (map (offerFormed offers) (offerFrom 45 2 0 ∷ offerFrom 47 1 0 ∷ offerFrom 48 1 0 ∷ offerFrom 51 1 0 ∷ offerFrom 52 1 0 ∷ [])) gives Tests (replicate 5 false))
+    ∷ (OfRun AtLog terms three (AddSchema (offerFrom 45 2 0) ∷ []) gives Refusal 3 0)
     -- an offered id of four bytes
     ∷ (OfRun AtColumn terms three (AddSchema (offerFrom 42 1 0) ∷ []) gives Column (pos 2147483647))
     -- an offer that is not well formed is 3, also where a table is full

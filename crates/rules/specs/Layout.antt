@@ -166,10 +166,10 @@ laidRefs l = record { items = pad refRoom noRef (map laidRef l); count = length 
 -- ---- schemas
 
 abbrev pub readSchemaField : SchemaField → plain.SchemaField
-readSchemaField f = record { id = f .id .0 }
+readSchemaField f = record { id = f .id .0; fieldType = f .«field_type»; name = readName (f .name) }
 
-abbrev pub laidSchemaField : plain.SchemaField → SchemaField
-laidSchemaField f = record { id = record { 0 = f .id } }
+unfoldable pub laidSchemaField : plain.SchemaField → SchemaField
+laidSchemaField f = record { id = record { 0 = f .id }; «field_type» = f .fieldType; name = laidName (f .name) }
 
 abbrev pub readSchema : Schema → plain.Schema
 readSchema s = record { id = s .«schema_id» .0; fields = map readSchemaField (counted noSchemaField (s .items) (s .count)) }

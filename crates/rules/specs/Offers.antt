@@ -7,7 +7,8 @@ use lib.Dec.{leb}
 use lib.IntN.{pos}
 use lib.ListN.{length, take, drop, getD}
 use Rattle.rules.specs.Words.{all}
-use Rattle.rules.specs.Capacities.{largestFieldId, fieldBytes}
+use Rattle.rules.specs.Capacities.{largestFieldId, fieldBytes, nameRoom}
+use Rattle.rules.specs.Blanks.{isZero}
 use Rattle.rules.specs.Register.{SchemaField, Schema, SchemaOffer}
 use Rattle.rules.specs.WellFormed.{schemaFormed}
 
@@ -24,13 +25,22 @@ abbrev pub fieldsOf : ℕ → List ℕ → List (List ℕ)
 fieldsOf zero bs = []
 fieldsOf (suc n) bs = take fieldBytes bs ∷ fieldsOf n (drop fieldBytes bs)
 
--- the bytes of a field: four of its id
-abbrev pub offeredField : List ℕ → SchemaField
-offeredField bs = record { id = pos (numberOf bs) }
+-- the bytes of a field: four of its id, one of its type, one of its name's length, and those of its name
+abbrev pub offeredType : List ℕ → ℕ
+offeredType bs = getD bs 4 0
 
--- "Field ids" are numbers of 32 bits
+abbrev pub nameLength : List ℕ → ℕ
+nameLength bs = getD bs 5 0
+
+abbrev pub nameBytes : List ℕ → List ℕ
+nameBytes bs = drop 6 bs
+
+abbrev pub offeredField : List ℕ → SchemaField
+offeredField bs = record { id = pos (numberOf bs); fieldType = offeredType bs; name = take (nameLength bs) (nameBytes bs) }
+
+-- "Field ids" are numbers of 32 bits; the name has its bytes, and "Unused .. name bytes are zero"
 abbrev pub isTidyField : List ℕ → Bool
-isTidyField bs = leb (numberOf bs) largestFieldId
+isTidyField bs = leb (numberOf bs) largestFieldId && leb (nameLength bs) nameRoom && all isZero (drop (nameLength bs) (nameBytes bs))
 
 abbrev pub offeredFields : List ℕ → SchemaOffer → List (List ℕ)
 offeredFields offers o = fieldsOf (o .count) (drop (o .at) offers)

@@ -42,8 +42,11 @@ pub record FileEntry : Type 0 where
   pub file : List ℕ
   pub time : ℤ
 
+-- its type is 1 for a long and 2 for a timestamp
 pub record SchemaField : Type 0 where
   pub id : ℤ
+  pub fieldType : ℕ
+  pub name : List ℕ
 
 pub record Schema : Type 0 where
   pub id : ℤ

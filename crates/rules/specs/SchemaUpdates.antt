@@ -3,10 +3,10 @@
 use mathlib.Core.Bool.{Bool, cond, not, _&&_}
 use mathlib.Core.List.{List, [], _∷_, map}
 use mathlib.Core.Option.{Option, none, some}
-use lib.Dec.{leb}
+use lib.Dec.{eqb, leb}
 use lib.IntN.{ℤ, sucℤ}
 use lib.ListN.{length}
-use Rattle.rules.specs.Words.{eqZ, larger, isSome, orElse, someWith, any, keep, first, isEmpty, sameList, isIn, highest, put, Check}
+use Rattle.rules.specs.Words.{eqZ, larger, isSome, orElse, someWith, any, keep, first, isEmpty, sameList, sameBytes, isIn, highest, put, Check}
 use Rattle.rules.specs.Replies.{nothingAdded, unknownId, currentSchemaRemoved, idsExhausted, tableFull}
 use Rattle.rules.specs.Capacities.{schemaRoom, largestSchemaId}
 use Rattle.rules.specs.Register.{SchemaField, Schema, SchemaOffer, State, withSchemas, withMetadata, withAdded, withLastColumn, withCurrentSchema, onFields, logged, lastAdded}
@@ -15,8 +15,9 @@ use Rattle.rules.specs.WellFormed.{fieldIds, schemaBelow, hasSchema}
 
 -- ---- add schema
 
+-- another name or another type makes another field
 abbrev pub sameSchemaField : SchemaField → SchemaField → Bool
-sameSchemaField a b = eqZ (a .id) (b .id)
+sameSchemaField a b = eqZ (a .id) (b .id) && eqb (a .fieldType) (b .fieldType) && sameBytes (a .name) (b .name)
 
 -- "Equal field lists reuse the smallest such id": the table is ascending, so it is the first
 abbrev pub reusedSchema : Schema → List Schema → Option ℤ

@@ -9,7 +9,7 @@ use lib.Dec.{eqb, leb}
 use lib.IntN.{ℤ, pos}
 use lib.Signed.{ltZ, leZ, nonNeg}
 use lib.ListN.{length}
-use Rattle.rules.specs.Words.{eqZ, isSome, ifSome, sameOption, all, any, first, isEmpty, unequal, ascending}
+use Rattle.rules.specs.Words.{eqZ, isSome, ifSome, sameOption, all, any, first, isEmpty, unequalBy, sameBytes, unequal, ascending}
 use Rattle.rules.specs.Capacities.{snapshotRoom, refRoom, snapshotLogRoom, metadataLogRoom, schemaRoom, schemaFieldRoom, sortOrderRoom, sortFieldRoom, statisticsRoom, removalRoom, nameRoom, locationRoom, fileNameRoom}
 use Rattle.rules.specs.Names.{nameBelow, isMain}
 use Rattle.rules.specs.Register.{Snapshot, Reference, NamedRef, LogEntry, FileEntry, SchemaField, Schema, SortField, SortOrder, StatisticsFile, SingleFields, Metadata, Update, lastAdded}
@@ -61,9 +61,30 @@ refFormed r = nameFormed (r .name) && referenceFormed (r .reference)
 abbrev pub fieldIds : Schema → List ℤ
 fieldIds s = map (λ (f : SchemaField). f .id) (s .fields)
 
--- "Field ids are at least 1, unequal within a schema."
+abbrev pub fieldNames : Schema → List (List ℕ)
+fieldNames s = map (λ (f : SchemaField). f .name) (s .fields)
+
+abbrev pub long : ℕ
+long = 1
+
+abbrev pub timestamp : ℕ
+timestamp = 2
+
+abbrev pub fieldTypeFormed : ℕ → Bool
+fieldTypeFormed t = eqb t long || eqb t timestamp
+
+-- "Field ids are at least 1"; document 02, request (ix): "names of up to 32 bytes and a type, long or timestamp"
+abbrev pub schemaFieldFormed : SchemaField → Bool
+schemaFieldFormed f = atLeastOne (f .id) && fieldTypeFormed (f .fieldType) && nameFormed (f .name)
+
+-- ids "unequal within a schema"; document 02, request (ix): "Schema fields get unequal names of up to 32 bytes and a type, long or timestamp"
 abbrev pub schemaFormed : Schema → Bool
-schemaFormed s = nonNeg (s .id) && leb (length (s .fields)) schemaFieldRoom && all atLeastOne (fieldIds s) && unequal (fieldIds s)
+schemaFormed s =
+    nonNeg (s .id)
+    && leb (length (s .fields)) schemaFieldRoom
+    && all schemaFieldFormed (s .fields)
+    && unequal (fieldIds s)
+    && unequalBy sameBytes (fieldNames s)
 
 abbrev pub sortFieldFormed : SortField → Bool
 sortFieldFormed f = atLeastOne (f .source) && leb (f .direction) 1 && leb (f .nulls) 1

@@ -95,6 +95,11 @@ module _ {A : Type 0} where
   eachPair r [] = true
   eachPair r (x ∷ xs) = all (r x) xs && eachPair r xs
 
+  -- no two are the same
+  abbrev pub unequalBy : (A → A → Bool) → List A → Bool
+  unequalBy same [] = true
+  unequalBy same (x ∷ xs) = not (any (same x) xs) && unequalBy same xs
+
   -- the sum of what each counts
   abbrev pub total : (A → ℕ) → List A → ℕ
   total f [] = 0
@@ -115,8 +120,7 @@ isIn l x = any (eqZ x) l
 
 -- no number stands twice
 abbrev pub unequal : List ℤ → Bool
-unequal [] = true
-unequal (x ∷ xs) = not (isIn xs x) && unequal xs
+unequal = unequalBy eqZ
 
 -- the highest number of a list of which none is below 0; 0 where there is none
 abbrev pub highest : List ℤ → ℤ

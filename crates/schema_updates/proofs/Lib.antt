@@ -1,2 +1,3 @@
 -- What the proofs of the updates of schemas together cite.
-mod Tables
+mod Lent
+mod Last

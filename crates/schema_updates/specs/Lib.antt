@@ -1,3 +1,3 @@
 -- What the contracts of the updates of schemas cite beside the rules.
+pub mod Keys
 pub mod Schemas
-pub mod Family

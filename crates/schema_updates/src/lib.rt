@@ -1,28 +1,32 @@
 // Schemas: adding, choosing the current one, removing.
 // Document 01, "Rules for each update", as the crate `rules` writes it in SchemaUpdates.
 ghost use mathlib.Core.Path.{_≡_};
-ghost use mathlib.Core.Bool.{true, cond};
-ghost use lib.IntN.{sucℤ};
+ghost use mathlib.Core.Bool.{true};
+ghost use lib.Dec.{ltb};
+ghost use lib.IntN.{pos, sucℤ};
+ghost use lib.ListN.{length, getD};
 ghost use Rattle.records.specs.Blanks.{noSchemasPart};
-ghost use Rattle.rules.specs.Words.{eqZ, larger, highest as highestOf, ascending, put};
+ghost use Rattle.rules.specs.Words.{eqZ, larger, highest as highestOf, isIn, keep};
 ghost use Rattle.rules.specs.Capacities.{largestSchemaId};
 ghost use Rattle.rules.specs.Register.{Terms, State};
-ghost use Rattle.rules.specs.WellFormed.{fieldIds, schemaBelow, updateFormed};
-ghost use Rattle.rules.specs.SchemaUpdates.{reusedSchema, schemaIds, setCurrentSchemaChecks, setCurrentSchema};
-ghost use Rattle.rules.specs.Offers.{offeredSchema};
-ghost use Rattle.rules.specs.Layout.{given, readSchema, readSchemas, laidSchemas, readSchemaOffer};
+ghost use Rattle.rules.specs.WellFormed.{fieldIds, updateFormed};
+ghost use Rattle.rules.specs.SchemaUpdates.{setCurrentSchemaChecks, setCurrentSchema};
+ghost use Rattle.rules.specs.Layout.{given, readSchema, readSchemaIds, laidSchemaIds};
 ghost use Rattle.rules.specs.Kinds.{isTidyUpdate, readKind, ofKind, withSchemasPart, withSchemaId, addSchemaKind, setCurrentSchemaKind, removeSchemasKind};
-ghost use Rattle.tables.specs.Laid.{LaidSchema, LaidSchemas};
+ghost use Rattle.tables.specs.Laid.{LaidSchema, LaidSchemaIds};
 ghost use Rattle.builder.specs.Pieces.{laidBuilder};
 ghost use Rattle.builder.specs.Answers.{Answers, Decides};
 ghost use Rattle.builder.specs.Added.{Numbered};
-ghost use Rattle.schema_updates.specs.Schemas.{SchemaGrown, SchemaDecided, NewSchema};
+ghost use Rattle.schema_updates.specs.Keys.{laidKeys, lentKeys, KeysFit};
+ghost use Rattle.schema_updates.specs.Schemas.{schemaUnder, SchemaGrown, SchemaDecided};
 use builder::builder::TableMetadataBuilder;
 use builder::checks::choose;
 use builder::choice::choose_id;
 use builder::choice::reuse_or_create_new_id;
 use builder::decision::Decision;
 use builder::decision::decided;
+use keys::SchemaKeys;
+use offers::OfferedSchema;
 use records::capacities::SCHEMAS;
 use records::counters::FieldId;
 use records::counters::SchemaId;
@@ -32,19 +36,19 @@ use records::replies::IDS_EXHAUSTED;
 use records::replies::TABLE_FULL;
 use records::replies::UPDATE_NOT_FORMED;
 use records::schema::Schema;
-use records::schema::Schemas;
+use records::schema::SchemaIds;
 use records::update::TableUpdate;
 use search::Key;
 use search::highest;
+use tables::ids::has_schema;
+use tables::ids::push_schema;
 use tables::keys::field_id;
 use tables::keys::field_key;
 use tables::keys::schema_id;
 use tables::keys::schema_key;
 use tables::schemas::field_ids_of;
-use tables::schemas::find_equal;
-use tables::schemas::ids_of;
 
-pub mod family;
+pub mod keys;
 
 // ---- add schema
 
@@ -59,20 +63,18 @@ pub struct SchemaNumbered {
 }
 
 fn reuse_or_create_new_schema_id(
-    t: Schemas,
-    s: Schema,
+    keys: SchemaKeys,
+    equal: usize,
     has_last: bool,
     last: SchemaId,
 ) -> SchemaNumbered
-    requires { ⌜ LaidSchemas t ⌝ }
-    requires { ⌜ LaidSchema s ⌝ }
-    ensures { λ r. ⌜ Numbered (reusedSchema (readSchema s) (readSchemas t)) (eqZ (highestOf (schemaIds (readSchemas t))) largestSchemaId) (sucℤ (highestOf (schemaIds (readSchemas t)))) (given «has_last» (last .0)) (r .found) (r .exhausted) (r .«is_last») (r .id .0) ⌝ }
+    requires { ⌜ KeysFit keys ⌝ }
+    ensures { λ r. ⌜ Numbered (given (ltb equal (length (lentKeys keys))) (getD (lentKeys keys) equal (pos 0))) (eqZ (highestOf (lentKeys keys)) largestSchemaId) (sucℤ (highestOf (lentKeys keys))) (given «has_last» (last .0)) (r .found) (r .exhausted) (r .«is_last») (r .id .0) ⌝ }
 {
-    let n = t.count;
-    let ids = ids_of(t);
-    let i = find_equal(t, s);
+    let n = keys.count;
+    let ids = keys.items;
     let k = schema_key(last);
-    let x = reuse_or_create_new_id(&ids[..n], i, Key(LARGEST), has_last, k);
+    let x = reuse_or_create_new_id(&ids[..n], equal, Key(LARGEST), has_last, k);
     let id = schema_id(x.id);
     SchemaNumbered {
         found: x.found,
@@ -95,22 +97,28 @@ fn last_column(old: FieldId, s: Schema) -> FieldId
     field_id(column)
 }
 
-// The schema is the one to log, and where the table grows the one to put.
+// The id is the one to log, and where the table grows that of the new schema.
 pub struct SchemaAdded {
     pub number: u8,
     pub logs: bool,
     pub grows: bool,
-    pub schema: Schema,
+    pub schema_id: SchemaId,
     pub builder: TableMetadataBuilder,
 }
 
-fn schema_addition(b: TableMetadataBuilder, t: Schemas, s: Schema) -> SchemaAdded
-    requires { ⌜ LaidSchemas t ⌝ }
+fn schema_addition(
+    b: TableMetadataBuilder,
+    keys: SchemaKeys,
+    equal: usize,
+    s: Schema,
+) -> SchemaAdded
+    requires { ⌜ KeysFit keys ⌝ }
     requires { ⌜ LaidSchema s ⌝ }
-    ensures { λ r. ⌜ SchemaGrown b t s r ⌝ }
+    ensures { λ r. ⌜ SchemaGrown b keys equal s r ⌝ }
 {
-    let n = t.count;
-    let x = reuse_or_create_new_schema_id(t, s, b.has_schema, b.last_added_schema_id);
+    let n = keys.count;
+    let offered = s.schema_id;
+    let x = reuse_or_create_new_schema_id(keys, equal, b.has_schema, b.last_added_schema_id);
     let found = x.found;
     let exhausted = x.exhausted;
     let id = x.id;
@@ -122,7 +130,7 @@ fn schema_addition(b: TableMetadataBuilder, t: Schemas, s: Schema) -> SchemaAdde
             number: ACCEPTED,
             logs: !x.is_last,
             grows: false,
-            schema: s,
+            schema_id: offered,
             builder: c,
         };
     }
@@ -132,13 +140,11 @@ fn schema_addition(b: TableMetadataBuilder, t: Schemas, s: Schema) -> SchemaAdde
     let column = last_column(f.last_column_id, s);
     f.last_column_id = column;
     c.fields = f;
-    let mut y = s;
-    y.schema_id = id;
     SchemaAdded {
         number,
         logs: true,
         grows: number == ACCEPTED,
-        schema: y,
+        schema_id: id,
         builder: c,
     }
 }
@@ -153,13 +159,13 @@ pub struct SchemaSet {
     pub builder: TableMetadataBuilder,
 }
 
-fn schema_choice(b: TableMetadataBuilder, t: Schemas, id: SchemaId) -> SchemaSet
-    requires { ⌜ LaidSchemas t ⌝ }
-    ensures { λ r. ⌜ ((st : State) → b ≡ laidBuilder st → t ≡ laidSchemas (st .metadata .schemas) → Answers (setCurrentSchemaChecks (id .0) st) st (setCurrentSchema (id .0) st) (r .number) (r .logs) (r .builder) (withSchemasPart (withSchemaId (r .«schema_id») noSchemasPart) (ofKind setCurrentSchemaKind))) ⌝ }
+fn schema_choice(b: TableMetadataBuilder, keys: SchemaKeys, id: SchemaId) -> SchemaSet
+    requires { ⌜ KeysFit keys ⌝ }
+    ensures { λ r. ⌜ ((st : State) → b ≡ laidBuilder st → keys ≡ laidKeys (st .metadata .schemas) → Answers (setCurrentSchemaChecks (id .0) st) st (setCurrentSchema (id .0) st) (r .number) (r .logs) (r .builder) (withSchemasPart (withSchemaId (r .«schema_id») noSchemasPart) (ofKind setCurrentSchemaKind))) ⌝ }
 {
     let mut f = b.fields;
-    let n = t.count;
-    let ids = ids_of(t);
+    let n = keys.count;
+    let ids = keys.items;
     let asked = schema_key(id);
     let last = schema_key(b.last_added_schema_id);
     let current = schema_key(f.current_schema_id);
@@ -177,25 +183,54 @@ fn schema_choice(b: TableMetadataBuilder, t: Schemas, id: SchemaId) -> SchemaSet
     }
 }
 
+// ---- remove schemas
+
+// The ids of the table that are named, in table order.
+fn held(keys: SchemaKeys, named: SchemaIds) -> SchemaIds
+    requires { ⌜ KeysFit keys ⌝ }
+    requires { ⌜ LaidSchemaIds named ⌝ }
+    ensures { λ r. ⌜ r ≡ laidSchemaIds (keep (isIn (readSchemaIds named)) (lentKeys keys)) ⌝ }
+{
+    let n = keys.count;
+    let ids = keys.items;
+    let mut r = SchemaIds::blank();
+    let mut i = 0;
+    while i < n {
+        let x = ids[i];
+        let id = schema_id(Key(x));
+        i += 1;
+        if has_schema(named, id) {
+            r = push_schema(r, id);
+        }
+    }
+    r
+}
+
 // ---- the updates of a list
 
-// An offer that is not well formed is 3. The entry has the offer, under the id that a new schema gets.
-pub fn add_schema(b: TableMetadataBuilder, t: Schemas, u: TableUpdate, offers: &[u8]) -> Decision
-    requires { ⌜ LaidSchemas t ⌝ }
+// An offer that is not well formed is 3. The entry has the offer, under the id that a new schema gets. The first schema with its fields stands at `equal`;
+// none does where that is the number of schemas.
+pub fn add_schema(
+    b: TableMetadataBuilder,
+    keys: SchemaKeys,
+    equal: usize,
+    offered: OfferedSchema,
+    u: TableUpdate,
+) -> Decision
+    requires { ⌜ KeysFit keys ⌝ }
+    requires { ⌜ LaidSchema (offered .schema) ⌝ }
     requires { ⌜ isTidyUpdate u ≡ true ⌝ }
     requires { ⌜ u .kind ≡ addSchemaKind ⌝ }
-    ensures { λ r. ⌜ SchemaDecided b t u (now (offers .entry)) r ⌝ }
+    ensures { λ r. ⌜ SchemaDecided b keys equal offered u r ⌝ }
 {
-    let mut part = u.schemas;
-    let mut offer = part.added;
-    let offered = offers::schema(offer, offers);
     if !offered.formed {
         return decided(UPDATE_NOT_FORMED, false, b, u);
     }
-    let x = schema_addition(b, t, offered.schema);
-    let y = x.schema;
+    let x = schema_addition(b, keys, equal, offered.schema);
     let c = x.builder;
-    let id = y.schema_id;
+    let id = x.schema_id;
+    let mut part = u.schemas;
+    let mut offer = part.added;
     offer.schema_id = id;
     part.added = offer;
     let mut e = u;
@@ -209,27 +244,24 @@ pub fn add_schema(b: TableMetadataBuilder, t: Schemas, u: TableUpdate, offers: &
     }
 }
 
-// The table after an addition: a new schema is put into it.
-pub fn schemas_after(t: Schemas, d: Decision, offers: &[u8]) -> Schemas
-    requires { ⌜ LaidSchemas t ⌝ }
-    requires { ⌜ (d .grows ≡ true → NewSchema t (now offers) (readSchemaOffer (d .entry .schemas .added))) ⌝ }
-    ensures { λ r. ⌜ r ≡ cond (d .grows) (laidSchemas (put schemaBelow (offeredSchema (now (offers .entry)) (readSchemaOffer (d .entry .schemas .added))) (readSchemas t))) t ⌝ }
+// The schema that an addition puts into the table: as it is offered, under the id of the entry.
+pub fn new_schema(offered: OfferedSchema, d: Decision) -> Schema
+    ensures { λ r. ⌜ r ≡ schemaUnder (d .entry .schemas .added .«schema_id») (offered .schema) ⌝ }
 {
-    if d.grows {
-        let offered = offers::schema(d.entry.schemas.added, offers);
-        return tables::schemas::put(t, offered.schema);
-    }
-    t
+    let id = d.entry.schemas.added.schema_id;
+    let mut s = offered.schema;
+    s.schema_id = id;
+    s
 }
 
-pub fn set_current_schema(b: TableMetadataBuilder, t: Schemas, u: TableUpdate) -> Decision
-    requires { ⌜ LaidSchemas t ⌝ }
+pub fn set_current_schema(b: TableMetadataBuilder, keys: SchemaKeys, u: TableUpdate) -> Decision
+    requires { ⌜ KeysFit keys ⌝ }
     requires { ⌜ isTidyUpdate u ≡ true ⌝ }
     requires { ⌜ u .kind ≡ setCurrentSchemaKind ⌝ }
-    ensures { λ r. ⌜ ((terms : Terms) (st : State) → b ≡ laidBuilder st → t ≡ laidSchemas (st .metadata .schemas) → Decides terms u st r) ⌝ }
+    ensures { λ r. ⌜ ((terms : Terms) (st : State) → b ≡ laidBuilder st → keys ≡ laidKeys (st .metadata .schemas) → Decides terms u st r) ⌝ }
 {
     let mut part = u.schemas;
-    let x = schema_choice(b, t, part.chosen);
+    let x = schema_choice(b, keys, part.chosen);
     let c = x.builder;
     let id = x.schema_id;
     part.chosen = id;
@@ -239,23 +271,22 @@ pub fn set_current_schema(b: TableMetadataBuilder, t: Schemas, u: TableUpdate) -
 }
 
 // The entry has the ids that were held.
-pub fn remove_schemas(b: TableMetadataBuilder, t: Schemas, u: TableUpdate) -> Decision
-    requires { ⌜ LaidSchemas t ⌝ }
-    requires { ⌜ ascending schemaBelow (readSchemas t) ≡ true ⌝ }
+pub fn remove_schemas(b: TableMetadataBuilder, keys: SchemaKeys, u: TableUpdate) -> Decision
+    requires { ⌜ KeysFit keys ⌝ }
     requires { ⌜ isTidyUpdate u ≡ true ⌝ }
     requires { ⌜ updateFormed (readKind u) ≡ true ⌝ }
     requires { ⌜ u .kind ≡ removeSchemasKind ⌝ }
-    ensures { λ r. ⌜ ((terms : Terms) (st : State) → b ≡ laidBuilder st → t ≡ laidSchemas (st .metadata .schemas) → Decides terms u st r) ⌝ }
+    ensures { λ r. ⌜ ((terms : Terms) (st : State) → b ≡ laidBuilder st → keys ≡ laidKeys (st .metadata .schemas) → Decides terms u st r) ⌝ }
 {
     let mut part = u.schemas;
-    let ids = part.removed;
-    let n = ids.count;
+    let named = part.removed;
+    let n = named.count;
     let f = b.fields;
     let current = f.current_schema_id;
-    let removed = tables::ids::has_schema(ids, current);
+    let removed = has_schema(named, current);
     let number = choose(removed, CURRENT_SCHEMA_REMOVED, ACCEPTED);
-    let held = tables::schemas::held(t, ids);
-    part.removed = held;
+    let logged = held(keys, named);
+    part.removed = logged;
     let mut e = u;
     e.schemas = part;
     decided(number, n > 0, b, e)

@@ -5,9 +5,12 @@ use mathlib.Core.Path.{_≡_, sym, ap}
 use lib.ListN.{length, take, replicate, length-append}
 use lib.Seq.{length-take-le}
 use Rattle.records.specs.declared.text.Name.{Name}
+use Rattle.rules.specs.Words.{sameBytes}
 use Rattle.rules.specs.Capacities.{nameRoom}
 use Rattle.rules.specs.Layout.{pad, readName, laidName}
 use Rattle.rules.proofs.Slots.Relaid.{counted-take, length-counted}
+use Rattle.equality.specs.Same.{sameName}
+use Rattle.equality.proofs.Told.{names-alike}
 use Rattle.tables.specs.Laid.{LaidName}
 
 module _ {a : Name} (h : LaidName a) where
@@ -22,3 +25,7 @@ module _ {a : Name} (h : LaidName a) where
 
   pub name-read : take (a .len) (a .bytes) ≡ readName a
   name-read = sym (counted-take 0 (a .bytes) (a .len) name-within)
+
+-- two names that are laid out are the same as records exactly if the same is read of them
+pub same-names : {a b : Name} → LaidName a → LaidName b → sameName a b ≡ sameBytes (readName a) (readName b)
+same-names {a} {b} p q = names-alike a b (p .back) (q .back)

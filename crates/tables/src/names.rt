@@ -1,25 +1,11 @@
 // Names as records.
 ghost use mathlib.Core.Path.{_≡_};
-ghost use Rattle.rules.specs.Words.{sameBytes};
 ghost use Rattle.rules.specs.Names.{isMain, nameBelow};
 ghost use Rattle.rules.specs.Layout.{readName};
 ghost use Rattle.tables.specs.Laid.{LaidName};
 use primitives::names::is_main;
 use primitives::names::name_below;
-use primitives::names::same_bytes;
 use records::text::Name;
-
-pub fn same_name(a: Name, b: Name) -> bool
-    requires { ⌜ LaidName a ⌝ }
-    requires { ⌜ LaidName b ⌝ }
-    ensures { λ r. ⌜ r ≡ sameBytes (readName a) (readName b) ⌝ }
-{
-    let m = a.len;
-    let n = b.len;
-    let x = a.bytes;
-    let y = b.bytes;
-    same_bytes(&x[..m], &y[..n])
-}
 
 pub fn name_is_below(a: Name, b: Name) -> bool
     requires { ⌜ LaidName a ⌝ }

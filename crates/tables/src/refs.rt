@@ -14,7 +14,7 @@ ghost use Rattle.search.specs.Places.{indexOf};
 ghost use Rattle.tables.specs.Laid.{LaidName, LaidRef, LaidRefs};
 use crate::ids::is_held;
 use crate::names::name_is_below;
-use crate::names::same_name;
+use equality::text::same_name;
 use records::reference::NamedRef;
 use records::reference::Refs;
 use records::text::Name;

@@ -3,7 +3,7 @@ use Prim.Native.Nat.{ℕ, _+_, _*_, _-_, _≤_, _<_}
 use native.Mathlib.Omega.{arith}
 use mathlib.Core.Path.{_≡_, refl, sym, ap, _∙_}
 use mathlib.Core.Bool.{Bool, true, false, not, cond, _&&_, _||_, false≢true}
-use mathlib.Core.List.{_∷_, List}
+use mathlib.Core.List.{List, [], _∷_}
 use borrow.Author.Needs.{needs, sfits-of}
 use borrow.Author.Tests.{not-true, not-false, eqb-true, eqb-false, eq-eqb, ltb-true, ltb-false}
 use borrow.Table.Steps.{cases}
@@ -12,12 +12,14 @@ use mir.Val.{toZ, ofZ}
 use mir.Facts.{toZ-ofZ}
 use lib.Dec.{eqb, ltb}
 use lib.IntN.{ℤ, pos}
-use lib.ListN.{length, drop, take, length-map, getD}
+use lib.ListN.{length, drop, take, set, length-map, getD}
 use lib.Signed.{ltZ}
-use Rattle.records.specs.Blanks.{noSnapshot}
+use Rattle.records.specs.Blanks.{noSnapshot, noSchemaId}
+use Rattle.records.specs.declared.schema.Schema.{Schema}
 use Rattle.records.specs.declared.snapshot.Snapshots.{Snapshots}
 use Rattle.records.specs.declared.update.TableUpdate.{TableUpdate}
 use Rattle.rules.specs.Words.{total, eqZ, firstOf, ascending, put}
+use Rattle.rules.specs.Capacities.{schemaRoom}
 use Rattle.rules.specs.Names.{isMain}
 use Rattle.rules.specs.Register as plain
 use Rattle.rules.specs.Register.{Terms}
@@ -25,8 +27,8 @@ use Rattle.rules.specs.Register.StatisticsTable.{Statistics, PartitionStatistic
 use Rattle.rules.specs.WellFormed.{updateFormed, snapshotBelow}
 use Rattle.rules.specs.SnapshotUpdates.{addSnapshotChecks}
 use Rattle.rules.specs.Run.{weight, listSum}
-use Rattle.rules.specs.Layout.{pad, readSnapshot, laidSnapshot, laidSnapshots, readSnapshotIds, readName}
-use Rattle.rules.specs.Kinds.{isTidyUpdate, readUpdate, readUpdates, addSnapshotKind, setBranchSnapshotKind, setRefKind, addSchemaKind, readKind}
+use Rattle.rules.specs.Layout.{pad, readSnapshot, laidSnapshot, laidSnapshots, readSnapshotIds, readName, readSchema, readSchemaOffer, readSchemaIds}
+use Rattle.rules.specs.Kinds.{isTidyUpdate, readUpdate, readUpdates, addSnapshotKind, setBranchSnapshotKind, setRefKind, addSchemaKind, removeSchemasKind, readKind}
 use Rattle.close.specs.Answers.{HistoryOf}
 use Rattle.rules.proofs.Checks.{and-left, and-right, by-either, neither}
 use Rattle.tables.specs.Laid.{LaidName}
@@ -34,6 +36,11 @@ use Rattle.search.specs.Places.{indexOf}
 use Rattle.builder.specs.declared.decision.Decision.{Decision}
 use Rattle.builder.specs.Answers.{Decides}
 use Rattle.builder.specs.Pieces.{idsOf, isAbove}
+use Rattle.builder.proofs.Entries.{read-kind}
+use Rattle.offers.specs.declared.OfferedSchema.{OfferedSchema}
+use Rattle.offers.specs.Offered.{Offered}
+use Rattle.schema_updates.specs.Keys.{KeysFit}
+use Rattle.schema_updates.specs.Schemas.{schemaUnder, Sought}
 use Rattle.snapshot_updates.specs.Snapshots.{SnapshotDecided}
 use Rattle.ref_updates.specs.Refs.{RefSet}
 use Rattle.start.specs.Start.{startNumber}
@@ -42,14 +49,15 @@ use Rattle.start.proofs.Started.{refused-start}
 use Rattle.refinement.specs.Standing.{Given, termsOf, Pieces, Represents, Standing, OwnTable, Slots, withTable, ownLists, laidOf}
 use Rattle.refinement.specs.Standing.OwnTable.{ofSchemas, ofOrders, ofStatistics}
 use Rattle.refinement.specs.Turns.{nothing, updateAt, nameAt, Midway, Stands, Decided, Turn}
-use Rattle.refinement.proofs.Beginning.{start-snapshots, start-log, start-short, standing-start, laid-snapshots, laid-refs, laid-log, laid-schemas, laid-orders, laid-statistics, statistics-ascend, location-fits, snapshots-ascend, schemas-ascend, refs-ascend, orders-formed, schema-held, current-is, order-held}
+use Rattle.refinement.proofs.Beginning.{start-snapshots, start-schemas, start-log, start-short, standing-start, schemas-keys, laid-snapshots, laid-refs, laid-log, laid-schemas, laid-orders, laid-statistics, statistics-ascend, location-fits, snapshots-ascend, refs-ascend, orders-formed, order-held}
 use Rattle.refinement.proofs.Closed.{held-ids, held-ascend, held-fits, held-within, held-slice, adds-within, added-slice, mains-within, main-slice, adds-most, mains-most, told, handed, files-laid, files-fit, gone-fits, overfull-is, joins-fit, stay-is, gone-is, checks, close-refused, close-accepted}
 use Rattle.refinement.proofs.Moving.{fits, ends}
 use Rattle.refinement.proofs.Deciding.{whole, not-formed-decided, fields-decided, refs-decided, refs-left, tabled, numberOf, own-decided}
 use Rattle.refinement.proofs.Removing.{left-laid, left-lent, removed-decided}
+use Rattle.refinement.proofs.Shaping.{current-slot, current-laid, current-there, same-count, schemas-sought, not-grown, one-more, schemas-same, schemas-left-laid, schemas-left}
 use Rattle.refinement.proofs.Adding.{has-room, stored-last, id-last, put-new, put-laid, put-tables, put-ids, add-refused, adds-fine, add-decided, grown}
 use Rattle.refinement.proofs.Setting.{faced, set-midway, set-decides, main-room, other-decided, main-decided}
-use Rattle.refinement.proofs.Taken.{snapshot-back, reference-back, asked-laid, branch-name-laid, set-name-laid, removed-name-laid}
+use Rattle.refinement.proofs.Taken.{snapshot-back, reference-back, asked-laid, branch-name-laid, set-name-laid, removed-name-laid, schemas-asked-laid}
 use Rattle.refinement.proofs.Effects.{group}
 use Rattle.refinement.proofs.Turning.{undivided, unformed, at-the-end, decides, refuses, goes-on, is-ref-removal, is-single, is-schemas, is-orders, is-statistics, is-partition-statistics}
 use Rattle.rules.specs.Updates.{effect}
@@ -57,6 +65,10 @@ use Rattle.statistics_updates.specs.Family.{Within}
 use Rattle.refinement.proofs.Ending.{turns, stored-less, refused-less, decided-less, halved-less}
 use Rattle.register.proofs.run.Statement.{statement}
 use Rattle.register.proofs.run.Tie as tie
+
+-- what the logic reads past the end of a table of schemas
+abbrev past : Schema
+past = record { «schema_id» = noSchemaId; items = []; count = 0 }
 
 or-second : (a b : Bool) → a ≡ false → (a || b) ≡ true → b ≡ true
 or-second a b e h = rw e at h
@@ -68,35 +80,35 @@ and-second a b e h = rw e at h
 
 -- the sum of the updates passed, and of the rest of a list that is not too long, make the list's sum
 abbrev Inv-loop : tie.InvT-loop
-Inv-loop metadata terms text offers updates first clock listed added main-targets adds mains removal sum₀ number entries builder decision snapshots ids refs log last schemas orders statistics partitions count place₀ waits half begun sum place =
+Inv-loop metadata terms text offers updates listed sum₀ place₀ count adds mains removal waits half begun entries builder decision refs orders statistics partitions added main-targets snapshots ids log last schemas sum place =
     (place ≤ 64) × (sum ≤ 2 * place) × (listed ≤ 64 → (place ≤ listed) × (sum + total weight (drop place (readUpdates updates)) ≡ listSum (readUpdates updates)))
 
 abbrev μ-loop : tie.MeasureT-loop
-μ-loop metadata terms text offers updates first clock listed added main-targets adds mains removal sum₀ number entries builder decision snapshots ids refs log last schemas orders statistics partitions count place₀ waits half begun sum place = 64 - place
+μ-loop metadata terms text offers updates listed sum₀ place₀ count adds mains removal waits half begun entries builder decision refs orders statistics partitions added main-targets snapshots ids log last schemas sum place = 64 - place
 
 abbrev Inv-loop2 : tie.InvT-loop2
-Inv-loop2 metadata terms text offers updates first clock listed added₀ main-targets₀ adds₀ mains₀ removal₀ sum number₀ entries₀ builder₀ decision₀ snapshots₀ ids₀ refs₀ log₀ last₀ schemas₀ orders₀ statistics₀ partitions₀ count₀ place₀ waits₀ half₀ begun₀ added main-targets adds mains removal number entries builder decision snapshots ids refs log last schemas orders statistics partitions count place waits half begun =
+Inv-loop2 metadata terms text offers updates listed sum place₀ count₀ adds₀ mains₀ removal₀ waits₀ half₀ begun₀ entries₀ builder₀ decision₀ refs₀ orders₀ statistics₀ partitions₀ added₀ main-targets₀ snapshots₀ ids₀ log₀ last₀ schemas₀ number₀ keys₀ place count adds mains removal waits half begun entries builder decision refs orders statistics partitions added main-targets snapshots ids log last schemas number keys =
     Turn (record { metadata = metadata; updates = updates; terms = terms; lent = record { text = text; offers = offers } }) number place waits half
     (record {
-      held = record { builder = builder; snapshots = snapshots; ids = ids; refs = refs; log = log; last = last; ownTables = record { schemas = schemas; orders = orders; statistics = statistics; partitionStatistics = partitions } };
+      held = record { builder = builder; snapshots = snapshots; ids = ids; refs = refs; log = log; last = last; ownTables = record { schemas = record { table = schemas; keys = keys }; orders = orders; statistics = statistics; partitionStatistics = partitions } };
       changes = record { entries = entries; count = count; added = added; adds = adds; mainTargets = main-targets; mains = mains; removal = removal };
     })
     decision
 
 abbrev μ-loop2 : tie.MeasureT-loop2
-μ-loop2 metadata terms text offers updates first clock listed added₀ main-targets₀ adds₀ mains₀ removal₀ sum number₀ entries₀ builder₀ decision₀ snapshots₀ ids₀ refs₀ log₀ last₀ schemas₀ orders₀ statistics₀ partitions₀ count₀ place₀ waits₀ half₀ begun₀ added main-targets adds mains removal number entries builder decision snapshots ids refs log last schemas orders statistics partitions count place waits half begun =
+μ-loop2 metadata terms text offers updates listed sum place₀ count₀ adds₀ mains₀ removal₀ waits₀ half₀ begun₀ entries₀ builder₀ decision₀ refs₀ orders₀ statistics₀ partitions₀ added₀ main-targets₀ snapshots₀ ids₀ log₀ last₀ schemas₀ number₀ keys₀ place count adds mains removal waits half begun entries builder decision refs orders statistics partitions added main-targets snapshots ids log last schemas number keys =
     cond (eqb number 0) (4 * (listed - place) + turns waits half) 0
 
 -- ---- before the loops
 
-abbrev begin : tie.After-partition-statistics Inv-loop μ-loop Inv-loop2 μ-loop2 → tie.Start Inv-loop μ-loop Inv-loop2 μ-loop2
-begin c = c .before .before .before .before .before .before .before .before .before .before .before .before .before .before .before .before
+abbrev begin : tie.After-schemas Inv-loop μ-loop Inv-loop2 μ-loop2 → tie.Start Inv-loop μ-loop Inv-loop2 μ-loop2
+begin c = c .before .before .before .before .before .before .before .before .before .before .before .before .before .before
 
 -- what the run is given
-abbrev G : tie.After-partition-statistics Inv-loop μ-loop Inv-loop2 μ-loop2 → Given
+abbrev G : tie.After-schemas Inv-loop μ-loop Inv-loop2 μ-loop2 → Given
 G c = record { metadata = begin c .args .metadata; updates = begin c .args .t2; terms = begin c .args .terms; lent = record { text = begin c .args .text .now; offers = begin c .args .offers .now } }
 
-long : (c : tie.After-partition-statistics Inv-loop μ-loop Inv-loop2 μ-loop2) → length (G c .updates .items) ≡ 64
+long : (c : tie.After-schemas Inv-loop μ-loop Inv-loop2 μ-loop2) → length (G c .updates .items) ≡ 64
 long c = sym (length-map (G c .updates .items) _) ∙ begin c .good .1 .0 .1 .1 .0 .1 .0 .1
 
 -- ---- the sum
@@ -135,12 +147,12 @@ whole-sum c h =
 -- what the run is given, and the pieces at the loop
 module _ (a : tie.At-loop2 Inv-loop μ-loop Inv-loop2 μ-loop2) where
   abbrev given : Given
-  given = G (a .before .before .before .before .before)
+  given = G (a .before .before .before .before .before .before)
 
   abbrev here-pieces : Pieces
   here-pieces =
       record {
-        held = record { builder = a .loop2 .builder; snapshots = a .loop2 .snapshots; ids = a .loop2 .ids; refs = a .loop2 .refs; log = a .loop2 .log; last = a .loop2 .last; ownTables = record { schemas = a .loop2 .schemas; orders = a .loop2 .orders; statistics = a .loop2 .statistics; partitionStatistics = a .loop2 .partition-statistics } };
+        held = record { builder = a .loop2 .builder; snapshots = a .loop2 .snapshots; ids = a .loop2 .ids; refs = a .loop2 .refs; log = a .loop2 .log; last = a .loop2 .last; ownTables = record { schemas = record { table = a .loop2 .schemas; keys = a .loop2 .keys }; orders = a .loop2 .orders; statistics = a .loop2 .statistics; partitionStatistics = a .loop2 .partition-statistics } };
         changes = record { entries = a .loop2 .entries; count = a .loop2 .count; added = a .loop2 .added; adds = a .loop2 .adds; mainTargets = a .loop2 .main-targets; mains = a .loop2 .mains; removal = a .loop2 .removal };
       }
 
@@ -177,14 +189,17 @@ module _ (c : tie.Else1 Inv-loop μ-loop Inv-loop2 μ-loop2) where
   stands = decided-at .loop2 .inv .stands (zero (c .before)) (c .if1 .left)
 
   at : drop (decided-at .loop2 .place) (readUpdates (given decided-at .updates)) ≡ readUpdate (U decided-at) ∷ drop (decided-at .loop2 .place + 1) (readUpdates (given decided-at .updates))
-  at = here (given decided-at .updates) (decided-at .loop2 .place) nothing below (omega (arith, long (decided-at .before .before .before .before .before), short (c .before)))
+  at = here (given decided-at .updates) (decided-at .loop2 .place) nothing below (omega (arith, long (decided-at .before .before .before .before .before .before), short (c .before)))
 
   one : 1 ≤ weight (readUpdate (U decided-at))
   one = omega (arith, weight-read (U decided-at), counts (U decided-at .kind) .0)
 
   -- the decision waits to be stored
-  waits-now : {half : Bool} {p : Pieces} {d : Decision} → Decided (given decided-at) (decided-at .loop2 .place) half p d → Turn (given decided-at) (decided-at .loop2 .number) (decided-at .loop2 .place) true half p d
+  waits-now : {half : Bool} {p : Pieces} {d : Decision} → Decided (given decided-at) (decided-at .loop2 .place) half p d → KeysFit (p .held .ownTables .schemas .keys) → Turn (given decided-at) (decided-at .loop2 .number) (decided-at .loop2 .place) true half p d
   waits-now D = decides (zero (c .before)) (short (c .before)) below D
+
+  fit : KeysFit (decided-at .loop2 .keys)
+  fit = decided-at .loop2 .inv .fit
 
 turn-less : (e : tie.Else1 Inv-loop μ-loop Inv-loop2 μ-loop2) → let l = decided-at e .loop2 in let listed = given (decided-at e) .updates .count in
     cond (eqb (l .number) 0) (4 * (listed - l .place) + turns true false) 0 < cond (eqb (l .number) 0) (4 * (listed - l .place) + turns (l .waits) (l .half)) 0
@@ -221,7 +236,7 @@ module _ (c : tie.Else4 Inv-loop μ-loop Inv-loop2 μ-loop2) where
   standing n = undivided (stands deciding) n
 
   -- an update of a family with a table of its own
-  own : (s : Stood) (o : OwnTable) → group (readUpdate u) ≡ numberOf o → {d : Decision} → Decides terms u (s .state) d → {t : Slots o} → (d .number ≡ 0 → t ≡ laidOf o (ownLists (effect terms (readUpdate u) (s .state) .metadata)))
+  own : (s : Stood) (o : OwnTable) → group (readUpdate u) ≡ numberOf o → {d : Decision} → Decides terms u (s .state) d → {t : Slots o} → (d .number ≡ 0 → t ≡ laidOf o (ownLists (effect terms (readUpdate u) (s .state) .metadata))) → KeysFit (withTable o t (here-pieces loop-at .held .ownTables) .schemas .keys)
       → Turn (given loop-at) (loop-at .loop2 .number) (loop-at .loop2 .place) true false (tabled (loop-at .loop2 .refs) (withTable o t (here-pieces loop-at .held .ownTables)) (here-pieces loop-at)) d
   own s o k A x = waits-now deciding (own-decided s (readUpdate u) (at deciding) (one deciding) formed A o k x)
 
@@ -316,7 +331,7 @@ added-now : (w : tie.Else7 Inv-loop μ-loop Inv-loop2 μ-loop2) {s : Snapshots} 
 added-now w p q r =
     let t = add-kind w in
     let e = deciding (adding t) in
-    waits-now e (add-decided (adding-standing t) (at e) (one e) (formed (adding t)) (either-kind t) (added-call w .before .before .commits-on-tag .ensures) (add-says (added-call w)) (add-zero w) p q r)
+    waits-now e (add-decided (adding-standing t) (at e) (one e) (formed (adding t)) (either-kind t) (added-call w .before .before .commits-on-tag .ensures) (add-says (added-call w)) (add-zero w) p q r) (fit e)
 
 -- ---- a set ref, or the second half of a branch commit
 
@@ -437,46 +452,95 @@ module _ (c : tie.Then13 Inv-loop μ-loop Inv-loop2 μ-loop2) where
   shaping = c .before .before .before .before .before .before
 
   shaped : Stood shaping
-  shaped = standing shaping (λ q. omega (arith, q, beyond (c .before)))
+  shaped = standing shaping (λ q. omega (arith, q, c .if13 .taken))
 
-module _ (c : tie.Then14 Inv-loop μ-loop Inv-loop2 μ-loop2) where
-  abbrev ordering : tie.Else4 Inv-loop μ-loop Inv-loop2 μ-loop2
-  ordering = c .before .before .before .before .before .before .before
+-- an addition of a schema, decided
+module _ (c : tie.After-add-schema Inv-loop μ-loop Inv-loop2 μ-loop2) where
+  abbrev shapes-at : tie.Then13 Inv-loop μ-loop Inv-loop2 μ-loop2
+  shapes-at = c .before .before .before
 
-  ordered : Stood ordering
-  ordered = standing ordering (λ q. omega (arith, q, c .before .if13 .left))
+  abbrev schemas-held : Represents (given (loop-at (shaping shapes-at))) (shaped shapes-at .state) (here-pieces (loop-at (shaping shapes-at)))
+  schemas-held = shaped shapes-at .stands
+
+  abbrev offered : OfferedSchema
+  offered = c .before .before .schema .result
+
+  said : Offered (given (loop-at (shaping shapes-at)) .lent .offers) (readSchemaOffer (u (shaping shapes-at) .schemas .added)) offered
+  said = c .before .before .schema .ensures
+
+  told-of : Sought (shaped shapes-at .state .metadata .schemas) (readSchema (offered .schema)) (loop-at (shaping shapes-at) .loop2 .keys) (c .before .find-equal .result)
+  told-of = schemas-sought schemas-held (readSchema (offered .schema)) (c .before .find-equal .ensures)
+
+-- a schema is put
+module _ (c : tie.Else14 Inv-loop μ-loop Inv-loop2 μ-loop2) where
+  abbrev adds-schema : tie.After-add-schema Inv-loop μ-loop Inv-loop2 μ-loop2
+  adds-schema = c .before .before
+
+  schema-grows : adds-schema .add-schema .result .grows ≡ true
+  schema-grows = not-false (adds-schema .add-schema .result .grows) (c .if14 .left)
+
+  keys-room : loop-at (shaping (shapes-at adds-schema)) .loop2 .keys .count < schemaRoom
+  keys-room = adds-schema .add-schema .ensures .room schema-grows
+
+  schemas-room : loop-at (shaping (shapes-at adds-schema)) .loop2 .schemas .count < 16
+  schemas-room = omega (arith, keys-room, same-count (schemas-held adds-schema))
 
 module _ (c : tie.Then15 Inv-loop μ-loop Inv-loop2 μ-loop2) where
+  abbrev choosing : tie.Else4 Inv-loop μ-loop Inv-loop2 μ-loop2
+  choosing = c .before .before .before .before .before .before .before
+
+  choice : Stood choosing
+  choice = standing choosing (λ q. omega (arith, q, c .if15 .taken))
+
+module _ (c : tie.Then16 Inv-loop μ-loop Inv-loop2 μ-loop2) where
+  abbrev unshaping : tie.Else4 Inv-loop μ-loop Inv-loop2 μ-loop2
+  unshaping = c .before .before .before .before .before .before .before .before
+
+  unshaped : Stood unshaping
+  unshaped = standing unshaping (λ q. omega (arith, q, c .if16 .taken))
+
+-- the kinds of schemas have had their turns
+past-schemas : (c : tie.Else16 Inv-loop μ-loop Inv-loop2 μ-loop2) → removeSchemasKind < u (c .before .before .before .before .before .before .before .before) .kind
+past-schemas c = let d = c .before in let e = d .before in omega (arith, beyond (e .before), e .if13 .left, d .if15 .left, c .if16 .left)
+
+module _ (c : tie.Then17 Inv-loop μ-loop Inv-loop2 μ-loop2) where
+  abbrev ordering : tie.Else4 Inv-loop μ-loop Inv-loop2 μ-loop2
+  ordering = c .before .before .before .before .before .before .before .before .before
+
+  ordered : Stood ordering
+  ordered = standing ordering (λ q. omega (arith, q, past-schemas (c .before)))
+
+module _ (c : tie.Then18 Inv-loop μ-loop Inv-loop2 μ-loop2) where
   abbrev filing-at : tie.Else4 Inv-loop μ-loop Inv-loop2 μ-loop2
-  filing-at = c .before .before .before .before .before .before .before .before
+  filing-at = c .before .before .before .before .before .before .before .before .before .before
 
   filed : Stood filing-at
-  filed = standing filing-at (λ q. omega (arith, q, c .before .if14 .left))
+  filed = standing filing-at (λ q. omega (arith, q, c .before .if17 .left))
 
-module _ (c : tie.Else15 Inv-loop μ-loop Inv-loop2 μ-loop2) where
+module _ (c : tie.Else18 Inv-loop μ-loop Inv-loop2 μ-loop2) where
   abbrev partition-at : tie.Else4 Inv-loop μ-loop Inv-loop2 μ-loop2
-  partition-at = c .before .before .before .before .before .before .before .before
+  partition-at = c .before .before .before .before .before .before .before .before .before .before
 
   partition : Stood partition-at
-  partition = standing partition-at (λ q. omega (arith, q, c .if15 .left))
+  partition = standing partition-at (λ q. omega (arith, q, c .if18 .left))
 
 -- ---- the close
 
-module _ (c : tie.Else16 Inv-loop μ-loop Inv-loop2 μ-loop2) where
+module _ (c : tie.Else19 Inv-loop μ-loop Inv-loop2 μ-loop2) where
   abbrev end-at : tie.At-loop2 Inv-loop μ-loop Inv-loop2 μ-loop2
   end-at = c .before .before
 
   over : (end-at .loop2 .waits || ltb (end-at .loop2 .place) (given end-at .updates .count)) ≡ false
-  over = and-second (eqb (end-at .loop2 .number) 0) (end-at .loop2 .waits || ltb (end-at .loop2 .place) (given end-at .updates .count)) (eq-eqb _ _ (c .if16 .left)) (c .before .loop2-test .left)
+  over = and-second (eqb (end-at .loop2 .number) 0) (end-at .loop2 .waits || ltb (end-at .loop2 .place) (given end-at .updates .count)) (eq-eqb _ _ (c .if19 .left)) (c .before .loop2-test .left)
 
   passed : given end-at .updates .count ≤ end-at .loop2 .place
   passed = ltb-false _ _ (neither (end-at .loop2 .waits) (ltb (end-at .loop2 .place) (given end-at .updates .count)) over .1)
 
   end : Standing (given end-at) (end-at .loop2 .place) (here-pieces end-at)
-  end = at-the-end (end-at .loop2 .inv .stands (c .if16 .left) (neither (end-at .loop2 .waits) (ltb (end-at .loop2 .place) (given end-at .updates .count)) over .0)) passed
+  end = at-the-end (end-at .loop2 .inv .stands (c .if19 .left) (neither (end-at .loop2 .waits) (ltb (end-at .loop2 .place) (given end-at .updates .count)) over .0)) passed
 
 module _ (c : tie.After-surplus Inv-loop μ-loop Inv-loop2 μ-loop2) where
-  abbrev closing : tie.Else16 Inv-loop μ-loop Inv-loop2 μ-loop2
+  abbrev closing : tie.Else19 Inv-loop μ-loop Inv-loop2 μ-loop2
   closing = c .before .before .before .before .before .before .before
 
   history : HistoryOf (end closing .state .log) (end closing .state .metadata) (c .before .before .close-log .result)
@@ -490,28 +554,33 @@ module _ (c : tie.After-surplus Inv-loop μ-loop Inv-loop2 μ-loop2) where
 
 module _ (c : tie.After-close-number Inv-loop μ-loop Inv-loop2 μ-loop2) where
   abbrev filing : tie.After-surplus Inv-loop μ-loop Inv-loop2 μ-loop2
-  filing = c .before .before .before
+  filing = c .before .before .before .before
 
   numbered : c .close-number .result ≡ firstOf (checks (E filing))
   numbered =
-      c .close-number .ensures (termsOf (given (end-at (closing filing)))) (end (closing filing) .state .log) (end (closing filing) .state .metadata) (history filing) (handed (E filing) (c .before .get2 .result) (current-is (E filing) (c .before .get2 .result) (c .before .get2 .ensures .0)))
-      (overfull-is (E filing) (filing .before .limit .ensures) (filing .surplus .ensures) (c .before .before .is-overfull .ensures))
+      c .close-number .ensures (termsOf (given (end-at (closing filing)))) (end (closing filing) .state .log) (end (closing filing) .state .metadata) (history filing) (handed (E filing) _ (current-there (E filing) (c .before .before .current-place2 .ensures) past))
+      (overfull-is (E filing) (filing .before .limit .ensures) (filing .surplus .ensures) (c .before .before .before .is-overfull .ensures))
 
 loop-holds : tie.Need-loop-holds Inv-loop μ-loop Inv-loop2 μ-loop2
 unfolding listSum
 loop-holds c = (omega arith, omega arith, λ h. (omega arith, omega arith))
 
+-- the number of the start
+started : (c : tie.After-start-number Inv-loop μ-loop Inv-loop2 μ-loop2) → let g = G (c .before .before .before .before) in c .start-number .result ≡ startNumber (g .metadata) (g .updates) (g .terms)
+started c = let g = G (c .before .before .before .before) in c .start-number .ensures (g .metadata) (g .updates) (c .before .is-formed .ensures) refl (whole-sum (c .before .before))
+
 loop2-holds : tie.Need-loop2-holds Inv-loop μ-loop Inv-loop2 μ-loop2
 loop2-holds c =
-    let a = c .before .before .before .before in
-    let orders = a .before .before in
+    let a = c .before .before .before .before .before in
+    let made = a .before .before .before .before .before .before .before .before in
     let g = G a in
-    let n : c .start-number .result ≡ startNumber (g .metadata) (g .updates) (g .terms) = c .start-number .ensures (g .metadata) (g .updates) (c .before .is-formed .ensures) refl (whole-sum (c .before .before)) in
+    let n = started (c .before) in
     record {
       within = omega arith;
+      fit = c .keys-at-start .ensures .0;
       short = λ z. start-short g (sym n ∙ z);
       refused = λ z. refused-start (g .metadata) (g .updates) (g .terms) (g .lent) _ (sym n) z;
-      stands = λ z _. whole (standing-start g (sym n ∙ z) (orders .before .before .before .before .before .before .before .before .new-from-metadata .ensures) (orders .before .before .before .before .before .ids-of .ensures (start-snapshots g (sym n ∙ z))) (orders .before .before .last-time .ensures (start-log g (sym n ∙ z))) (orders .before .before .before .before .before .before .before .before .before .before .before .blank .ensures));
+      stands = λ z _. whole (standing-start g (sym n ∙ z) (made .before .before .new-from-metadata .ensures) (a .before .before .before .ids-of .ensures (start-snapshots g (sym n ∙ z))) (a .before .last-time .ensures (start-log g (sym n ∙ z))) (c .keys-at-start .ensures .1 z) (made .before .before .before .blank .ensures));
       waits = λ _ f. absurd (false≢true f);
     }
 
@@ -523,7 +592,7 @@ loop2-less c =
 loop2-again : tie.Need-loop2-again Inv-loop μ-loop Inv-loop2 μ-loop2
 loop2-again c =
     let t = c .before in
-    refuses (waiting t .0) (waiting t .1) (short (t .before)) (c .if2 .taken)
+    refuses (waiting t .0) (waiting t .1) (short (t .before)) (stored-at t .loop2 .inv .fit) (c .if2 .taken)
 
 loop2-less-2 : tie.Need-loop2-less-2 Inv-loop μ-loop Inv-loop2 μ-loop2
 loop2-less-2 c =
@@ -535,7 +604,7 @@ loop2-again-2 : tie.Need-loop2-again-2 Inv-loop μ-loop Inv-loop2 μ-loop2
 loop2-again-2 c =
     let f = c .before .before in
     let t = f .before .before in
-    goes-on (waiting t .0) (waiting t .1) (short (t .before)) (f .before .if2 .left) (f .after .ensures) (waiting t .1 .stays (f .before .if2 .left) (not-true (stored-at t .loop2 .decision .logs) (c .if3 .taken)))
+    goes-on (waiting t .0) (waiting t .1) (short (t .before)) (f .before .if2 .left) (f .after .ensures) (stored-at t .loop2 .inv .fit) (waiting t .1 .stays (f .before .if2 .left) (not-true (stored-at t .loop2 .decision .logs) (c .if3 .taken)))
 
 mul-entries : tie.Need-mul-entries Inv-loop μ-loop Inv-loop2 μ-loop2
 mul-entries c =
@@ -565,21 +634,21 @@ loop2-again-3 : tie.Need-loop2-again-3 Inv-loop μ-loop Inv-loop2 μ-loop2
 loop2-again-3 c =
     let f = c .before .before .before .before in
     let t = f .before .before in
-    goes-on (waiting t .0) (waiting t .1) (short (t .before)) (f .before .if2 .left) (f .after .ensures) (waiting t .1 .logs (f .before .if2 .left) (not-false (stored-at t .loop2 .decision .logs) (c .before .before .if3 .left)))
+    goes-on (waiting t .0) (waiting t .1) (short (t .before)) (f .before .if2 .left) (f .after .ensures) (stored-at t .loop2 .inv .fit) (waiting t .1 .logs (f .before .if2 .left) (not-false (stored-at t .loop2 .decision .logs) (c .before .before .if3 .left)))
 
 loop2-again-4 : tie.Need-loop2-again-4 Inv-loop μ-loop Inv-loop2 μ-loop2
 loop2-again-4 c =
     let f = c .before .before in
     let e = f .before .before in
     let n : updateFormed (readUpdate (U (decided-at e))) ≡ false = sym (f .is-formed2 .ensures) ∙ not-true (f .is-formed2 .result) (c .before .if4 .taken) in
-    waits-now e (not-formed-decided (unformed (stands e) n) (readUpdate (U (decided-at e))) (at e) (one e) n false (ap (λ (d : Decision). d .number) (c .decided2 .ensures)))
+    waits-now e (not-formed-decided (unformed (stands e) n) (readUpdate (U (decided-at e))) (at e) (one e) n false (ap (λ (d : Decision). d .number) (c .decided2 .ensures))) (fit e)
 
 loop2-again-5 : tie.Need-loop2-again-5 Inv-loop μ-loop Inv-loop2 μ-loop2
 loop2-again-5 c =
     let t = c .before in
     let e = t .before in
     let s = single t in
-    waits-now (deciding e) (fields-decided s (readUpdate (u e)) (at (deciding e)) (one (deciding e)) (formed e) (c .decide .ensures (terms e) (s .state) (s .stands .tables .builder)) (is-single (u e) (formed e) (t .if5 .taken)))
+    waits-now (deciding e) (fields-decided s (readUpdate (u e)) (at (deciding e)) (one (deciding e)) (formed e) (c .decide .ensures (terms e) (s .state) (s .stands .tables .builder)) (is-single (u e) (formed e) (t .if5 .taken))) (fit (deciding e))
 
 loop2-again-6 : tie.Need-loop2-again-6 Inv-loop μ-loop Inv-loop2 μ-loop2
 loop2-again-6 c =
@@ -587,7 +656,7 @@ loop2-again-6 c =
     let t = adds-at a in
     let e = adding t in
     let n : a .add-snapshot .result .number ≡ 0 → ⊥ = eqb-false _ _ (sym (add-says a .grows) ∙ not-true (a .add-snapshot .result .grows) (c .if7 .taken)) in
-    waits-now (deciding e) (add-refused (adding-standing t) (at (deciding e)) (one (deciding e)) (formed e) (either-kind t) (a .before .before .commits-on-tag .ensures) (add-says a) (eqb (adding-kind t) 5) n)
+    waits-now (deciding e) (add-refused (adding-standing t) (at (deciding e)) (one (deciding e)) (formed e) (either-kind t) (a .before .before .commits-on-tag .ensures) (add-says a) (eqb (adding-kind t) 5) n) (fit (deciding e))
 
 loop2-again-7 : tie.Need-loop2-again-7 Inv-loop μ-loop Inv-loop2 μ-loop2
 loop2-again-7 c =
@@ -624,14 +693,14 @@ loop2-again-9 c =
     let m = c .before .before in
     let t = set-kind m in
     let n : (set-call m .set-ref .result .grows && isMain (nameAt (given (loop-at (setting t))) (loop-at (setting t) .loop2 .place))) ≡ false = ap (λ (b : Bool). set-call m .set-ref .result .grows && b) (sym (main-is m)) ∙ not-true (set-call m .set-ref .result .grows && m .is-main-name .result) (c .if10 .taken) in
-    waits-now (deciding (setting t)) (other-decided (midway t) (set-says (set-call m)) (m .before .refs-after .ensures) n)
+    waits-now (deciding (setting t)) (other-decided (midway t) (set-says (set-call m)) (m .before .refs-after .ensures) n) (fit (deciding (setting t)))
 
 loop2-again-10 : tie.Need-loop2-again-10 Inv-loop μ-loop Inv-loop2 μ-loop2
 loop2-again-10 c =
     let w = c .before .before in
     let m = named w in
     let t = set-kind m in
-    waits-now (deciding (setting t)) (main-decided (midway t) (set-says (set-call m)) (m .before .refs-after .ensures) (set-grows w) (set-main w) (c .before .main-entry .ensures) (log-room w) refl refl (target-key (sought (set-call m) .before .before .before .before)))
+    waits-now (deciding (setting t)) (main-decided (midway t) (set-says (set-call m)) (m .before .refs-after .ensures) (set-grows w) (set-main w) (c .before .main-entry .ensures) (log-room w) refl refl (target-key (sought (set-call m) .before .before .before .before))) (fit (deciding (setting t)))
 
 loop2-again-11 : tie.Need-loop2-again-11 Inv-loop μ-loop Inv-loop2 μ-loop2
 loop2-again-11 c =
@@ -643,7 +712,7 @@ loop2-again-11 c =
     let v = readUpdate (u e) in
     let xs = readSnapshotIds (u e .snapshots .removed) in
     let w = read-remove-snapshots (u e) (formed e) (t .if11 .taken) in
-    waits-now (deciding e) (removed-decided s v (at (deciding e)) (one (deciding e)) (formed e) xs w (l .before .remove-snapshots .ensures (s .state) (T .builder) (T .snapshots)) (l .without .ensures) (c .before .before .before .ids-of3 .ensures (left-laid s v (at (deciding e)) (one (deciding e)) (formed e) xs w (l .without .ensures))) (c .before .pointing .ensures))
+    waits-now (deciding e) (removed-decided s v (at (deciding e)) (one (deciding e)) (formed e) xs w (l .before .remove-snapshots .ensures (s .state) (T .builder) (T .snapshots)) (l .without .ensures) (c .before .before .before .ids-of3 .ensures (left-laid s v (at (deciding e)) (one (deciding e)) (formed e) xs w (l .without .ensures))) (c .before .pointing .ensures)) (fit (deciding e))
 
 loop2-again-12 : tie.Need-loop2-again-12 Inv-loop μ-loop Inv-loop2 μ-loop2
 loop2-again-12 c =
@@ -653,62 +722,107 @@ loop2-again-12 c =
     let T = s .stands .tables in
     let q = t .if12 .taken in
     waits-now (deciding e) (refs-decided s (readUpdate (u e)) (at (deciding e)) (one (deciding e)) (formed e) (c .before .remove-ref .ensures (terms e) (s .state) (T .builder) (T .refs)) (is-ref-removal (u e) (formed e) q)
-    (λ z. refs-left (s .stands) (readUpdate (u e)) (readName (u e .refs .name)) (read-remove-ref (u e) (formed e) q) (c .without2 .ensures)))
+    (λ z. refs-left (s .stands) (readUpdate (u e)) (readName (u e .refs .name)) (read-remove-ref (u e) (formed e) q) (c .without2 .ensures))) (fit (deciding e))
 
 loop2-again-13 : tie.Need-loop2-again-13 Inv-loop μ-loop Inv-loop2 μ-loop2
 loop2-again-13 c =
-    let t = c .before .before in
+    let a = c .before .before in
+    let t = shapes-at a in
     let e = shaping t in
     let s = shaped t in
-    let T = s .stands .tables in
-    let D = c .before .decide2 .ensures in
-    own e s ofSchemas (is-schemas (u e) (formed e) (beyond (t .before)) (t .if13 .taken)) (D .answers (terms e) (s .state) refl (T .builder) (T .ownTables .schemas))
-    (λ z. c .after2 .ensures ∙ D .table (terms e) (s .state) refl (T .ownTables .schemas) z)
+    let D = a .add-schema .ensures in
+    own e s ofSchemas (is-schemas (u e) (formed e) (omega (arith, t .if13 .taken)) (omega (arith, t .if13 .taken))) (D .answers (terms e) (s .state) (said a) (s .stands .tables .builder) (told-of a))
+    (λ z. not-grown (schemas-held a) (readSchema (schemaUnder (a .add-schema .result .entry .schemas .added .«schema_id») (offered a .schema))) (D .table (terms e) (s .state) (said a) (told-of a) z) (not-true (a .add-schema .result .grows) (c .if14 .taken)))
+    (fit (deciding e))
 
 loop2-again-14 : tie.Need-loop2-again-14 Inv-loop μ-loop Inv-loop2 μ-loop2
 loop2-again-14 c =
-    let t = c .before .before .before .before in
-    let e = ordering t in
-    let s = ordered t in
-    let T = s .stands .tables in
-    let D = c .before .decide3 .ensures in
-    own e s ofOrders (is-orders (u e) (formed e) (t .before .if13 .left) (t .if14 .taken)) (D .answers (terms e) (s .state) (T .builder) (current-is (s .stands) (c .before .before .get .result) (c .before .before .get .ensures .0)) (T .ownTables .orders))
-    (λ z. c .after3 .ensures ∙ D .table (terms e) (s .state) (T .ownTables .orders) z)
+    let n = c .before in
+    let w = n .before in
+    let a = adds-schema w in
+    let t = shapes-at a in
+    let e = shaping t in
+    let s = shaped t in
+    let D = a .add-schema .ensures in
+    let id = a .add-schema .result .entry .schemas .added .«schema_id» in
+    let l = loop-at e .loop2 in
+    own e s ofSchemas (is-schemas (u e) (formed e) (omega (arith, t .if13 .taken)) (omega (arith, t .if13 .taken))) (D .answers (terms e) (s .state) (said a) (s .stands .tables .builder) (told-of a))
+    (λ z. one-more (schemas-held a) id (said a .laid) (schemas-room w) (D .table (terms e) (s .state) (said a) (told-of a) z) (schema-grows w)
+    (ap (set (l .schemas .items) (l .schemas .count)) (n .new-schema .ensures)) refl
+    (λ k x f q. c .with-key .ensures .1 k x f (q ∙ sym (ap (λ (y : Schema). y .«schema_id» .0) (n .new-schema .ensures)))))
+    (c .with-key .ensures .0)
 
 loop2-again-15 : tie.Need-loop2-again-15 Inv-loop μ-loop Inv-loop2 μ-loop2
 loop2-again-15 c =
+    let t = c .before in
+    let e = choosing t in
+    let s = choice t in
+    let q = t .if15 .taken in
+    own e s ofSchemas (is-schemas (u e) (formed e) (omega (arith, q)) (omega (arith, q))) (c .set-current-schema .ensures (terms e) (s .state) (s .stands .tables .builder) (schemas-keys (s .stands)))
+    (λ z. schemas-same (s .stands) (readUpdate (u e)) (u e .schemas .chosen .0) (read-kind (u e) (tidy e) 10 q))
+    (fit (deciding e))
+
+loop2-again-16 : tie.Need-loop2-again-16 Inv-loop μ-loop Inv-loop2 μ-loop2
+loop2-again-16 c =
+    let o = c .before in
+    let r = o .before in
+    let t = r .before in
+    let e = unshaping t in
+    let s = unshaped t in
+    let q = t .if16 .taken in
+    own e s ofSchemas (is-schemas (u e) (formed e) (omega (arith, q)) (omega (arith, q))) (r .remove-schemas .ensures (terms e) (s .state) (s .stands .tables .builder) (schemas-keys (s .stands)))
+    (λ z. schemas-left (s .stands) (readSchemaIds (u e .schemas .removed)) (o .without3 .ensures) (readUpdate (u e)) (read-kind (u e) (tidy e) 11 q) (c .keys-of .ensures .1))
+    (c .keys-of .ensures .0)
+
+loop2-again-17 : tie.Need-loop2-again-17 Inv-loop μ-loop Inv-loop2 μ-loop2
+loop2-again-17 c =
+    let d = c .before in
+    let p = d .before .before in
+    let t = p .before in
+    let e = ordering t in
+    let s = ordered t in
+    let T = s .stands .tables in
+    let D = d .decide2 .ensures in
+    own e s ofOrders (is-orders (u e) (formed e) (past-schemas (t .before)) (t .if17 .taken)) (D .answers (terms e) (s .state) (T .builder) (current-there (s .stands) (p .current-place .ensures) past) (T .ownTables .orders))
+    (λ z. c .after2 .ensures ∙ D .table (terms e) (s .state) (T .ownTables .orders) z)
+    (fit (deciding e))
+
+loop2-again-18 : tie.Need-loop2-again-18 Inv-loop μ-loop Inv-loop2 μ-loop2
+loop2-again-18 c =
     let t = c .before .before in
     let e = filing-at t in
     let s = filed t in
     let T = s .stands .tables in
-    let D = c .before .decide4 .ensures in
-    let w : Within Statistics (u e) = (omega (arith, t .before .if14 .left), t .if15 .taken) in
-    own e s (ofStatistics Statistics) (is-statistics (u e) (formed e) (t .before .if14 .left) (t .if15 .taken)) (D .answers Statistics (terms e) (s .state) w (T .builder) (T .ownTables .statistics))
-    (λ z. c .after4 .ensures ∙ D .table Statistics (terms e) (s .state) w (T .ownTables .statistics) z)
+    let D = c .before .decide3 .ensures in
+    let w : Within Statistics (u e) = (omega (arith, t .before .if17 .left), t .if18 .taken) in
+    own e s (ofStatistics Statistics) (is-statistics (u e) (formed e) (t .before .if17 .left) (t .if18 .taken)) (D .answers Statistics (terms e) (s .state) w (T .builder) (T .ownTables .statistics))
+    (λ z. c .after3 .ensures ∙ D .table Statistics (terms e) (s .state) w (T .ownTables .statistics) z)
+    (fit (deciding e))
 
-loop2-again-16 : tie.Need-loop2-again-16 Inv-loop μ-loop Inv-loop2 μ-loop2
-loop2-again-16 c =
+loop2-again-19 : tie.Need-loop2-again-19 Inv-loop μ-loop Inv-loop2 μ-loop2
+loop2-again-19 c =
     let t = c .before .before in
     let e = partition-at t in
     let s = partition t in
     let T = s .stands .tables in
-    let D = c .before .decide5 .ensures in
-    let w : Within PartitionStatistics (u e) = (omega (arith, t .if15 .left), bounds (u e) (formed e) .1) in
-    own e s (ofStatistics PartitionStatistics) (is-partition-statistics (u e) (formed e) (t .if15 .left)) (D .answers PartitionStatistics (terms e) (s .state) w (T .builder) (T .ownTables .partitionStatistics))
-    (λ z. c .after5 .ensures ∙ D .table PartitionStatistics (terms e) (s .state) w (T .ownTables .partitionStatistics) z)
+    let D = c .before .decide4 .ensures in
+    let w : Within PartitionStatistics (u e) = (omega (arith, t .if18 .left), bounds (u e) (formed e) .1) in
+    own e s (ofStatistics PartitionStatistics) (is-partition-statistics (u e) (formed e) (t .if18 .left)) (D .answers PartitionStatistics (terms e) (s .state) w (T .builder) (T .ownTables .partitionStatistics))
+    (λ z. c .after4 .ensures ∙ D .table PartitionStatistics (terms e) (s .state) w (T .ownTables .partitionStatistics) z)
+    (fit (deciding e))
 
 staying-requires : tie.Need-staying-requires Inv-loop μ-loop Inv-loop2 μ-loop2
 staying-requires c κs =
     let n = c .before .before in
     let f = filing n in
-    (files-laid (E f), (gone-within f, joins-fit (E f) (f .before .limit .ensures) (f .surplus .ensures) (sym (numbered n) ∙ c .before .if17 .left)))
+    (files-laid (E f), (gone-within f, joins-fit (E f) (f .before .limit .ensures) (f .surplus .ensures) (sym (numbered n) ∙ c .before .if20 .left)))
 
 returns-3 : tie.Need-returns-3 Inv-loop μ-loop Inv-loop2 μ-loop2
 returns-3 c =
     let l = c .before in
     let n = l .before .before .before .before in
     let f = filing n in
-    close-accepted (E f) _ (sym (numbered n) ∙ l .before .before .before .if17 .left) (history f)
+    close-accepted (E f) _ (sym (numbered n) ∙ l .before .before .before .if20 .left) (history f)
     (stay-is (E f) (f .before .limit .ensures) (f .surplus .ensures) (l .before .staying .ensures))
     (gone-is (E f) (f .before .limit .ensures) (f .surplus .ensures) (l .before .before .part .ensures))
     (l .own-or .ensures)
@@ -737,6 +851,7 @@ run-spec =
     (λ c. (omega (arith, slotted (c .before)), omega (arith, c .weight .ensures, counts (updateAt (G (c .before .before .before)) (c .before .before .loop .place) .kind) .1, c .before .before .loop .inv .1), more-summed (c .before) (c .weight .ensures ∙ sym (weight-read (updateAt (G (c .before .before .before)) (c .before .before .loop .place))))))
     (λ c κs. search needs)
     (λ c κs. search needs)
+    (λ c κs z. start-schemas (G (c .before .before .before .before)) (sym (started c) ∙ z))
     loop2-holds
     loop2-less
     loop2-again
@@ -816,25 +931,43 @@ run-spec =
     (λ c κs. let t = c .before in let e = dropping t in (laid-refs (dropped t .stands), removed-name-laid (u e) (formed e) (t .if12 .taken)))
     (λ c. turn-less (deciding (dropping (c .before .before))))
     loop2-again-12
-    (λ c κs. let e = shaping c in let E = shaped c .stands in (laid-schemas E, (schemas-ascend E, (tidy e, (by-kind e, (beyond (c .before), c .if13 .taken))))))
-    (λ c κs. (laid-schemas (shaped (c .before) .stands), c .decide2 .ensures .next))
-    (λ c. turn-less (deciding (shaping (c .before .before))))
-    loop2-again-13
-    (λ c κs. let E = ordered (c .before) .stands in (laid-schemas E, schema-held E))
-    (λ c κs. let t = c .before .before in let e = ordering t in let E = ordered t .stands in (c .get .ensures .1, (laid-orders E, (orders-formed E, (tidy e, (by-kind e, (omega (arith, t .before .if13 .left), t .if14 .taken)))))))
-    (λ c κs. (laid-orders (ordered (c .before .before .before) .stands), c .decide3 .ensures .new))
-    (λ c. turn-less (deciding (ordering (c .before .before .before .before))))
-    loop2-again-14
-    (λ c κs. let e = filing-at c in (laid-statistics (filed c .stands) Statistics, (tidy e, by-kind e)))
-    (λ c κs. let E = filed (c .before) .stands in (laid-statistics E Statistics, (statistics-ascend E Statistics, c .decide4 .ensures .new)))
-    (λ c. turn-less (deciding (filing-at (c .before .before))))
-    loop2-again-15
-    (λ c κs. let e = partition-at c in (laid-statistics (partition c .stands) PartitionStatistics, (tidy e, by-kind e)))
-    (λ c κs. let E = partition (c .before) .stands in (laid-statistics E PartitionStatistics, (statistics-ascend E PartitionStatistics, c .decide5 .ensures .new)))
-    (λ c. turn-less (deciding (partition-at (c .before .before))))
-    loop2-again-16
     (λ c κs. search needs)
-    (λ c. c .refused .ensures ∙ c .before .before .before .loop2 .inv .refused (c .before .if16 .taken))
+    (λ c κs. (laid-schemas (shaped (c .before) .stands), c .schema .ensures .laid))
+    (λ c κs. let t = c .before .before in let e = shaping t in (fit (deciding e), (c .before .schema .ensures .laid, (tidy e, t .if13 .taken))))
+    (λ c. turn-less (deciding (shaping (shapes-at (c .before .before)))))
+    loop2-again-13
+    (λ c κs. search needs)
+    (λ c. omega (arith, schemas-room (c .before)))
+    (λ c. omega (arith, schemas-room (c .before)))
+    (λ c. omega (arith, schemas-room (c .before)))
+    (λ c κs. let w = c .before in (fit (deciding (shaping (shapes-at (adds-schema w)))), keys-room w))
+    (λ c. turn-less (deciding (shaping (shapes-at (adds-schema (c .before .before))))))
+    loop2-again-14
+    (λ c κs. let e = choosing c in (fit (deciding e), (tidy e, c .if15 .taken)))
+    (λ c. turn-less (deciding (choosing (c .before))))
+    loop2-again-15
+    (λ c κs. let e = unshaping c in (fit (deciding e), (tidy e, (by-kind e, c .if16 .taken))))
+    (λ c κs. let t = c .before in let e = unshaping t in (laid-schemas (unshaped t .stands), schemas-asked-laid (u e) (formed e) (t .if16 .taken)))
+    (λ c κs. let t = c .before .before in schemas-left-laid (unshaped t .stands) (readSchemaIds (u (unshaping t) .schemas .removed)) (c .without3 .ensures))
+    (λ c. turn-less (deciding (unshaping (c .before .before .before))))
+    loop2-again-16
+    (λ c κs. fit (deciding (ordering c)))
+    (λ c. omega (arith, current-slot (ordered (c .before) .stands) (c .current-place .ensures)))
+    (λ c. current-slot (ordered (c .before) .stands) (c .current-place .ensures))
+    (λ c κs. let p = c .before in let t = p .before in let e = ordering t in let E = ordered t .stands in (current-laid E (p .current-place .ensures) past, (laid-orders E, (orders-formed E, (tidy e, (by-kind e, (omega (arith, past-schemas (t .before)), t .if17 .taken)))))))
+    (λ c κs. (laid-orders (ordered (c .before .before .before) .stands), c .decide2 .ensures .new))
+    (λ c. turn-less (deciding (ordering (c .before .before .before .before))))
+    loop2-again-17
+    (λ c κs. let e = filing-at c in (laid-statistics (filed c .stands) Statistics, (tidy e, by-kind e)))
+    (λ c κs. let E = filed (c .before) .stands in (laid-statistics E Statistics, (statistics-ascend E Statistics, c .decide3 .ensures .new)))
+    (λ c. turn-less (deciding (filing-at (c .before .before))))
+    loop2-again-18
+    (λ c κs. let e = partition-at c in (laid-statistics (partition c .stands) PartitionStatistics, (tidy e, by-kind e)))
+    (λ c κs. let E = partition (c .before) .stands in (laid-statistics E PartitionStatistics, (statistics-ascend E PartitionStatistics, c .decide4 .ensures .new)))
+    (λ c. turn-less (deciding (partition-at (c .before .before))))
+    loop2-again-19
+    (λ c κs. search needs)
+    (λ c. c .refused .ensures ∙ c .before .before .before .loop2 .inv .refused (c .before .if19 .taken))
     (λ c. held-within (end (c .before) .stands))
     (λ c. held-slice (end (c .before .before) .stands))
     (λ c. adds-within (end (c .before .before) .stands))
@@ -845,10 +978,12 @@ run-spec =
     (λ c κs. search needs)
     (λ c κs. files-fit (end (c .before .before .before .before .before .before) .stands))
     (λ c κs. (files-fit (E c), gone-within c))
-    (λ c κs. let e = E (c .before) in (laid-schemas e, schema-held e))
-    (λ c κs. let e = E (c .before .before) in (c .before .before .before .before .close-log .ensures .1, (laid-refs e, (c .get2 .ensures .1, (laid-orders e, order-held e)))))
+    (λ c κs. end-at (closing (c .before)) .loop2 .inv .fit)
+    (λ c. omega (arith, current-slot (E (c .before .before)) (c .current-place2 .ensures)))
+    (λ c. current-slot (E (c .before .before)) (c .current-place2 .ensures))
+    (λ c κs. let p = c .before in let f = p .before .before in let e = E f in (f .before .before .close-log .ensures .1, (laid-refs e, (current-laid e (p .current-place2 .ensures) past, (laid-orders e, order-held e)))))
     (λ c κs. search needs)
-    (λ c. let n = c .before .before in let e = closing (filing n) in c .refused2 .ensures ∙ close-refused (E (filing n)) _ (numbered n) (c .before .if17 .taken) ∙ ends (end e) (passed e))
+    (λ c. let n = c .before .before in let e = closing (filing n) in c .refused2 .ensures ∙ close-refused (E (filing n)) _ (numbered n) (c .before .if20 .taken) ∙ ends (end e) (passed e))
     (λ c κs. let f = filing (c .before) in (files-laid (E f), (search needs, gone-within f)))
     staying-requires
     (λ c κs. search needs)

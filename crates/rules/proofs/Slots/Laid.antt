@@ -12,17 +12,18 @@ use lib.ListN.{length, take, replicate, length-append, length-replicate, length-
 use lib.Seq.{take-at, drop-at}
 use borrow.Author.Tests.{leb-true, eq-eqb}
 use Rattle.records.specs.Blanks.{noSnapshotId, noSnapshot, noLogEntry, noRef, noSchemaField, noSchema, noSchemaId, noSortField, noSortOrder, noStatisticsFile, noMetadataLogEntry, noFieldsPart, noSnapshotsPart, noSchemasPart, noSortOrdersPart, noStatisticsPart, noUpdate}
-use Rattle.rules.specs.Words.{isSome, orElse, all, unequal, ascending}
+use Rattle.rules.specs.Words.{isSome, orElse, all, ascending}
 use Rattle.rules.specs.Capacities.{snapshotRoom, refRoom, snapshotLogRoom, metadataLogRoom, schemaRoom, schemaFieldRoom, sortOrderRoom, sortFieldRoom, statisticsRoom, removalRoom, nameRoom, textRoom}
 use Rattle.rules.specs.Register as plain
 use Rattle.rules.specs.Register.{Update}
 use Rattle.rules.specs.Register.Update.{AssignUuid, UpgradeFormatVersion, SetLocation, AddSnapshot, SetBranchSnapshot, RemoveSnapshots, SetRef, RemoveRef, AddSchema, SetCurrentSchema, RemoveSchemas, AddSortOrder, SetDefaultSortOrder, SetStatistics, RemoveStatistics, NotFormed}
 use Rattle.rules.specs.Register.StatisticsTable.{Statistics, PartitionStatistics}
-use Rattle.rules.specs.WellFormed.{snapshotFormed, refFormed, nameFormed, fileNameFormed, schemaFormed, orderFormed, offeredOrderFormed, sortFieldFormed, statisticsFileFormed, removalFormed, atLeastOne, versionFormed, locationFormed, fieldIds, snapshotBelow, refBelow, schemaBelow, orderBelow, statisticsBelow, snapshotsFormed, refsFormed, snapshotLogFormed, metadataLogFormed, schemasFormed, ordersFormed, statisticsFormed, fieldsFormed, refsHeld, mainAgrees, currentSchemaHeld, defaultOrderHeld, metadataFormed, updateFormed}
-use Rattle.rules.specs.Blanks.{isZero, isZeroZ, restBlank, tidySlots, isTidyName, isTidyText, isTidySnapshot, isBlankSnapshot, isTidySnapshots, isBlankSnapshotId, isTidySnapshotIds, isBlankSnapshotIds, isBlankLogEntry, isTidySnapshotLog, isTidyReference, isBlankReference, isTidyRef, isBlankRef, isTidyRefs, isBlankSchemaField, isTidySchema, isBlankSchema, isTidySchemas, isBlankSchemaId, isTidySchemaIds, isBlankSchemaIds, isBlankSortField, isTidySortOrder, isBlankSortOrder, isTidySortOrders, isTidyStatisticsFile, isBlankStatisticsFile, isTidyStatistics, isTidyMetadataLogEntry, isBlankMetadataLogEntry, isTidyMetadataLog, isTidyFields, isTidyMetadata}
+use Rattle.rules.specs.WellFormed.{snapshotFormed, refFormed, nameFormed, fileNameFormed, schemaFormed, orderFormed, offeredOrderFormed, sortFieldFormed, statisticsFileFormed, removalFormed, atLeastOne, fieldTypeFormed, schemaFieldFormed, versionFormed, locationFormed, snapshotBelow, refBelow, schemaBelow, orderBelow, statisticsBelow, snapshotsFormed, refsFormed, snapshotLogFormed, metadataLogFormed, schemasFormed, ordersFormed, statisticsFormed, fieldsFormed, refsHeld, mainAgrees, currentSchemaHeld, defaultOrderHeld, metadataFormed, updateFormed}
+use Rattle.rules.specs.Blanks.{isZero, isZeroZ, restBlank, tidySlots, isTidyName, isTidyText, isTidySnapshot, isBlankSnapshot, isTidySnapshots, isBlankSnapshotId, isTidySnapshotIds, isBlankSnapshotIds, isBlankLogEntry, isTidySnapshotLog, isTidyReference, isBlankReference, isTidyRef, isBlankRef, isTidyRefs, isTidySchemaField, isBlankSchemaField, isTidySchema, isBlankSchema, isTidySchemas, isBlankSchemaId, isTidySchemaIds, isBlankSchemaIds, isBlankSortField, isTidySortOrder, isBlankSortOrder, isTidySortOrders, isTidyStatisticsFile, isBlankStatisticsFile, isTidyStatistics, isTidyMetadataLogEntry, isBlankMetadataLogEntry, isTidyMetadataLog, isTidyFields, isTidyMetadata}
 use Rattle.rules.specs.Layout.{pad, firstRow, addedRows, laidName, laidText, laidSnapshot, laidSnapshots, laidSnapshotIds, laidLogEntry, laidSnapshotLog, laidReference, laidRef, laidRefs, laidSchemaField, laidSchema, laidSchemas, laidSchemaIds, laidSortField, laidSortOrder, laidSortOrders, laidStatisticsFile, laidStatistics, laidMetadataLogEntry, laidMetadataLog, laidFields, laidMetadata}
 use Rattle.rules.specs.Kinds.{isTidyFieldsPart, isTidySnapshotsPart, isTidyRefsPart, isTidySchemasPart, isTidySortOrdersPart, isTidyStatisticsPart, isTidyUpdate, laidUpdate}
-use Rattle.rules.proofs.Checks.{both, and-left, and-right, parts, whole}
+use Rattle.rules.proofs.Checks.{both, and-left, and-right, parts, whole, schemaTests}
+use Rattle.rules.proofs.Tables.{all-then}
 
 -- ---- numbers behind a flag
 
@@ -129,14 +130,28 @@ tidy-refs l f =
 
 -- ---- schemas
 
-pub tidy-schema : (s : plain.Schema) → schemaFormed s ≡ true → isTidySchema (laidSchema s) ≡ true
+tidy-schema-field : (f : plain.SchemaField) → nameFormed (f .name) ≡ true → isTidySchemaField (laidSchemaField f) ≡ true
+unfolding isTidySchemaField laidSchemaField
+tidy-schema-field f e = tidy-ref-name (f .name) e
+
+no-schema-field : isBlankSchemaField noSchemaField ≡ true
+unfolding isBlankSchemaField
+no-schema-field = refl
+
+-- whatever its ids and types
+pub tidy-names : (s : plain.Schema) → leb (length (s .fields)) schemaFieldRoom ≡ true → all (λ (f : plain.SchemaField). nameFormed (f .name)) (s .fields) ≡ true → isTidySchema (laidSchema s) ≡ true
 unfolding isTidySchema laidSchema
+tidy-names s h n =
+    table-tidy noSchemaField isBlankSchemaField no-schema-field laidSchemaField isTidySchemaField (λ (f : plain.SchemaField). nameFormed (f .name)) tidy-schema-field schemaFieldRoom (s .fields) h n
+
+pub tidy-schema : (s : plain.Schema) → schemaFormed s ≡ true → isTidySchema (laidSchema s) ≡ true
 tidy-schema s f =
-    let k = parts (nonNeg (s .id)) (leb (length (s .fields)) schemaFieldRoom ∷ all atLeastOne (fieldIds s) ∷ unequal (fieldIds s) ∷ []) f in
-    fields-tidy noSchemaField isBlankSchemaField refl laidSchemaField schemaFieldRoom (s .fields) (k .1 .0)
+    let k = parts (nonNeg (s .id)) (schemaTests s) f in
+    let named = all-then schemaFieldFormed (λ (x : plain.SchemaField). nameFormed (x .name)) (λ x e. and-right (atLeastOne (x .id) && fieldTypeFormed (x .fieldType)) (nameFormed (x .name)) e) (s .fields) (k .1 .1 .0) in
+    tidy-names s (k .1 .0) named
 
 no-schema : isBlankSchema noSchema ≡ true
-unfolding isBlankSchema noSchema
+unfolding isBlankSchema noSchema isBlankSchemaField
 no-schema = refl
 
 pub tidy-schemas : (l : List plain.Schema) → schemasFormed l ≡ true → isTidySchemas (laidSchemas l) ≡ true

@@ -39,14 +39,14 @@ use Rattle.records.specs.declared.metadata.SingleFields.{SingleFields}
 use Rattle.records.specs.declared.metadata.TableMetadata.{TableMetadata}
 use Rattle.records.specs.declared.snapshot.Snapshot.{Snapshot}
 use Rattle.records.specs.declared.snapshot.Snapshots.{Snapshots}
-use Rattle.rules.specs.Words.{isSome, orElse, all, unequal, ascending}
+use Rattle.rules.specs.Words.{isSome, orElse, all, ascending}
 use Rattle.rules.specs.Capacities.{snapshotRoom, refRoom, snapshotLogRoom, metadataLogRoom, schemaRoom, schemaFieldRoom, sortOrderRoom, sortFieldRoom, statisticsRoom, removalRoom, nameRoom, textRoom}
-use Rattle.rules.specs.WellFormed.{snapshotFormed, refFormed, nameFormed, fileNameFormed, schemaFormed, orderFormed, offeredOrderFormed, sortFieldFormed, statisticsFileFormed, removalFormed, atLeastOne, versionFormed, locationFormed, fieldIds, snapshotBelow, refBelow, schemaBelow, orderBelow, statisticsBelow, snapshotsFormed, refsFormed, snapshotLogFormed, metadataLogFormed, schemasFormed, ordersFormed, statisticsFormed, fieldsFormed, refsHeld, mainAgrees, currentSchemaHeld, defaultOrderHeld, metadataFormed}
-use Rattle.rules.specs.Blanks.{isZero, isZeroZ, restBlank, tidySlots, noneUsed, isBlankUuid, isTidyName, isBlankName, isTidyText, isBlankText, isTidySnapshot, isBlankSnapshot, isTidySnapshots, isBlankSnapshotId, isTidySnapshotIds, isBlankSnapshotIds, isBlankLogEntry, isTidySnapshotLog, isTidyReference, isBlankReference, isTidyRef, isBlankRef, isTidyRefs, isBlankSchemaField, isTidySchema, isBlankSchema, isTidySchemas, isBlankSchemaOffer, isBlankSchemaId, isTidySchemaIds, isBlankSchemaIds, isBlankSortField, isTidySortOrder, isBlankSortOrder, isTidySortOrders, isTidyStatisticsFile, isBlankStatisticsFile, isTidyStatistics, isTidyMetadataLogEntry, isBlankMetadataLogEntry, isTidyMetadataLog, isTidyFields, isTidyMetadata}
+use Rattle.rules.specs.WellFormed.{snapshotFormed, refFormed, nameFormed, fileNameFormed, schemaFormed, orderFormed, offeredOrderFormed, sortFieldFormed, statisticsFileFormed, removalFormed, atLeastOne, fieldTypeFormed, schemaFieldFormed, versionFormed, locationFormed, snapshotBelow, refBelow, schemaBelow, orderBelow, statisticsBelow, snapshotsFormed, refsFormed, snapshotLogFormed, metadataLogFormed, schemasFormed, ordersFormed, statisticsFormed, fieldsFormed, refsHeld, mainAgrees, currentSchemaHeld, defaultOrderHeld, metadataFormed}
+use Rattle.rules.specs.Blanks.{isZero, isZeroZ, restBlank, tidySlots, noneUsed, isBlankUuid, isTidyName, isBlankName, isTidyText, isBlankText, isTidySnapshot, isBlankSnapshot, isTidySnapshots, isBlankSnapshotId, isTidySnapshotIds, isBlankSnapshotIds, isBlankLogEntry, isTidySnapshotLog, isTidyReference, isBlankReference, isTidyRef, isBlankRef, isTidyRefs, isTidySchemaField, isBlankSchemaField, isTidySchema, isBlankSchema, isTidySchemas, isBlankSchemaOffer, isBlankSchemaId, isTidySchemaIds, isBlankSchemaIds, isBlankSortField, isTidySortOrder, isBlankSortOrder, isTidySortOrders, isTidyStatisticsFile, isBlankStatisticsFile, isTidyStatistics, isTidyMetadataLogEntry, isBlankMetadataLogEntry, isTidyMetadataLog, isTidyFields, isTidyMetadata}
 use Rattle.rules.specs.Layout.{counted, pad, given, firstRow, addedRows, readName, laidName, readText, laidText, readSnapshot, laidSnapshot, readSnapshots, laidSnapshots, readSnapshotIds, laidSnapshotIds, readLogEntry, laidLogEntry, readSnapshotLog, laidSnapshotLog, readReference, laidReference, readRef, laidRef, readRefs, laidRefs, readSchemaField, laidSchemaField, readSchema, laidSchema, readSchemas, laidSchemas, readSchemaIds, laidSchemaIds, readSortField, laidSortField, readSortOrder, laidSortOrder, readSortOrders, laidSortOrders, readStatisticsFile, laidStatisticsFile, readStatistics, laidStatistics, readMetadataLogEntry, laidMetadataLogEntry, readMetadataLog, laidMetadataLog, readFields, laidFields, readMetadata, laidMetadata}
 use Rattle.rules.specs.Register as plain
 use Rattle.rules.proofs.Orders.{eqZ-equal}
-use Rattle.rules.proofs.Checks.{and-left, and-right, parts}
+use Rattle.rules.proofs.Checks.{and-left, and-right, parts, schemaTests}
 
 -- ---- numbers and flags
 
@@ -147,7 +147,7 @@ module _ {A : Type 0} (b : A) (isBlank : A → Bool) (blank : (x : A) → isBlan
           slots-back room n items r f (all-back (counted b items n) t g)
 
 -- the bytes of a text, read and laid again
-bytes-back : (room : ℕ) (bytes : List ℕ) (n : ℕ) → restBlank room isZero bytes n ≡ true → n ≤ room → pad room 0 (counted 0 bytes n) ≡ bytes
+pub bytes-back : (room : ℕ) (bytes : List ℕ) (n : ℕ) → restBlank room isZero bytes n ≡ true → n ≤ room → pad room 0 (counted 0 bytes n) ≡ bytes
 bytes-back room bytes n e h =
     let k : length bytes ≡ room = eqb-true _ _ (and-left (eqb (length bytes) room) _ e) in
     rw (counted-take 0 bytes n (omega arith)) (sym (padded 0 isZero zero room n bytes e h))
@@ -307,7 +307,18 @@ back-refs t e f =
 -- ---- schemas
 
 pub blank-schema-field : (f : SchemaField) → isBlankSchemaField f ≡ true → f ≡ noSchemaField
-blank-schema-field f e = λ i. record { id = record { 0 = zeroZ (f .id .0) e i } }
+unfolding isBlankSchemaField
+blank-schema-field f e =
+    let h = parts (isZeroZ (f .id .0)) (isZero (f .«field_type») ∷ isBlankName (f .name) ∷ []) e in
+    let n : f .name ≡ noName = blank-ref-name (f .name) (h .1 .1 .0) in
+    λ i. record { id = record { 0 = zeroZ (f .id .0) (h .0) i }; «field_type» = zero (f .«field_type») (h .1 .0) i; name = n i }
+
+pub back-schema-field : (f : SchemaField) → isTidySchemaField f ≡ true → schemaFieldFormed (readSchemaField f) ≡ true → laidSchemaField (readSchemaField f) ≡ f
+unfolding isTidySchemaField laidSchemaField
+back-schema-field f e g =
+    let k = and-right (atLeastOne (f .id .0) && fieldTypeFormed (f .«field_type»)) (nameFormed (readName (f .name))) g in
+    let n : laidName (readName (f .name)) ≡ f .name = back-ref-name (f .name) e (leb-true _ nameRoom k) in
+    λ i. record { id = f .id; «field_type» = f .«field_type»; name = n i }
 
 pub blank-schema : (s : Schema) → isBlankSchema s ≡ true → s ≡ noSchema
 unfolding isBlankSchema noSchema
@@ -319,8 +330,8 @@ blank-schema s e =
 pub back-schema : (s : Schema) → isTidySchema s ≡ true → schemaFormed (readSchema s) ≡ true → laidSchema (readSchema s) ≡ s
 unfolding isTidySchema laidSchema
 back-schema s e f =
-    let k = parts (nonNeg (s .«schema_id» .0)) (leb (length (readSchema s .fields)) schemaFieldRoom ∷ all atLeastOne (fieldIds (readSchema s)) ∷ unequal (fieldIds (readSchema s)) ∷ []) f in
-    let r = fields-back noSchemaField isBlankSchemaField blank-schema-field readSchemaField laidSchemaField (λ x. refl) schemaFieldRoom (s .count) (s .items) e (k .1 .0) in
+    let k = parts (nonNeg (s .«schema_id» .0)) (schemaTests (readSchema s)) f in
+    let r = table-back noSchemaField isBlankSchemaField blank-schema-field readSchemaField laidSchemaField isTidySchemaField schemaFieldFormed back-schema-field schemaFieldRoom (s .count) (s .items) e (k .1 .0) (k .1 .1 .0) in
     λ i. record { «schema_id» = s .«schema_id»; items = r .0 i; count = r .1 i }
 
 pub blank-schema-offer : (o : SchemaOffer) → isBlankSchemaOffer o ≡ true → o ≡ noSchemaOffer

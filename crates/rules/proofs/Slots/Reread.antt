@@ -107,9 +107,13 @@ reread-refs l = table-reread readRef laidRef reread-ref refRoom noRef l
 
 -- ---- schemas
 
+pub reread-schema-field : (f : plain.SchemaField) → readSchemaField (laidSchemaField f) ≡ f
+unfolding laidSchemaField
+reread-schema-field f = λ i. record { id = f .id; fieldType = f .fieldType; name = reread-ref-name (f .name) i }
+
 pub reread-schema : (s : plain.Schema) → readSchema (laidSchema s) ≡ s
 unfolding laidSchema
-reread-schema s = let f = table-reread readSchemaField laidSchemaField (λ x. refl) schemaFieldRoom noSchemaField (s .fields) in λ i. record { id = s .id; fields = f i }
+reread-schema s = let f = table-reread readSchemaField laidSchemaField reread-schema-field schemaFieldRoom noSchemaField (s .fields) in λ i. record { id = s .id; fields = f i }
 
 pub reread-schemas : (l : List plain.Schema) → readSchemas (laidSchemas l) ≡ l
 unfolding laidSchemas

@@ -4,19 +4,18 @@ use mathlib.Core.Path.{_≡_, refl, ap, _∙_}
 use mathlib.Core.Bool.{Bool, true, false, not}
 use mathlib.Core.List.{List, [], _∷_, _++_}
 use mathlib.Core.Option.{Option}
-use lib.Dec.{leb}
 use lib.IntN.{ℤ, sucℤ}
 use lib.Signed.{nonNeg}
 use lib.ListN.{length}
 use borrow.Author.Tests.{leb-false, not-false}
-use Rattle.rules.specs.Words.{eqZ, larger, isSome, someWith, all, any, keep, isEmpty, unequal, isIn, highest, put, firstOf, Check}
+use Rattle.rules.specs.Words.{eqZ, larger, isSome, someWith, any, keep, isEmpty, isIn, highest, put, firstOf, Check}
 use Rattle.rules.specs.Replies.{updateNotFormed}
-use Rattle.rules.specs.Capacities.{schemaRoom, schemaFieldRoom}
+use Rattle.rules.specs.Capacities.{schemaRoom}
 use Rattle.rules.specs.Register.{Schema, SchemaOffer, Metadata, State, withSchemas, withLastColumn}
-use Rattle.rules.specs.WellFormed.{atLeastOne, fieldIds, schemaFormed, schemaBelow, schemasFormed, fieldsFormed, currentSchemaHeld, hasSchema}
+use Rattle.rules.specs.WellFormed.{fieldIds, schemaFormed, schemaBelow, schemasFormed, fieldsFormed, currentSchemaHeld, hasSchema}
 use Rattle.rules.specs.Offers.{offeredSchema, isTidyOffer, offerFormed}
 use Rattle.rules.specs.SchemaUpdates.{reusedSchema, schemaIds, addSchemaChecks, offeredAs, newSchema, addSchema, chosen, choiceChecks, holdsSchema, setCurrentSchemaChecks, setCurrentSchema, removeSchemasChecks, removeSchemas}
-use Rattle.rules.proofs.Checks.{by-test, by-option, both, and-left, and-right, parts, whole, passed, passed-unless, passed-before}
+use Rattle.rules.proofs.Checks.{by-test, by-option, both, and-left, and-right, parts, whole, schemaTests, passed, passed-unless, passed-before}
 use Rattle.rules.proofs.Orders.{numbers-ordered, numbers-told, highest-nonNeg, suc-nonNeg}
 use Rattle.rules.proofs.Tables.{any-put, any-keep, table-put, table-keep}
 use Rattle.rules.proofs.Sound.Metadata.{Sound, SoundState, with-fields, with-current-schema, with-schemas}
@@ -39,9 +38,7 @@ module _ (offers : List ℕ) (o : SchemaOffer) where
 
 -- a well-formed schema under another id
 schema-named : (s : Schema) (id : ℤ) → nonNeg id ≡ true → schemaFormed s ≡ true → schemaFormed (record { id = id; fields = s .fields }) ≡ true
-schema-named s id h k =
-    let more : List Bool = leb (length (s .fields)) schemaFieldRoom ∷ all atLeastOne (fieldIds s) ∷ unequal (fieldIds s) ∷ [] in
-    whole (nonNeg id) more (h, parts (nonNeg (s .id)) more k .1)
+schema-named s id h k = whole (nonNeg id) (schemaTests s) (h, parts (nonNeg (s .id)) (schemaTests s) k .1)
 
 -- the bytes of an offer do not say its id
 pub reoffered-formed : (offers : List ℕ) (id : ℤ) (o : SchemaOffer) → nonNeg id ≡ true → offerFormed offers o ≡ true → offerFormed offers (offeredAs id o) ≡ true

@@ -1,42 +1,40 @@
--- A schema whose fields are held gets that id and is logged as offered; any other gets the next id, under which it is put and logged.
+-- A schema whose fields are held gets that id and is logged as offered; any other gets the next id, under which it is put at the end and logged.
 use Prim.Native.Nat.{ℕ}
 use mathlib.Core.Path.{_≡_, refl, sym, ap, _∙_}
 use mathlib.Core.Bool.{Bool, true, false, cond, not, false≢true}
 use mathlib.Core.List.{List, [], _∷_}
-use mathlib.Core.Option.{none, some}
+use mathlib.Core.Option.{Option, none, some}
 use native.Mathlib.Omega.{arith}
 use borrow.Author.Needs.{needs}
 use borrow.Author.Tests.{leb-false, eq-eqb, eqb-true}
-use lib.Dec.{eqb, leb}
-use lib.IntN.{ℤ, sucℤ}
-use lib.ListN.{length}
+use lib.Dec.{eqb, leb, ltb}
+use lib.IntN.{ℤ, pos, sucℤ}
+use lib.ListN.{length, getD}
 use Rattle.records.specs.Blanks.{noSchemasPart}
 use Rattle.records.specs.declared.counters.FieldId.{FieldId}
 use Rattle.records.specs.declared.counters.SchemaId.{SchemaId}
 use Rattle.records.specs.declared.schema.Schema.{Schema}
-use Rattle.records.specs.declared.schema.Schemas.{Schemas}
-use Rattle.rules.specs.Words.{eqZ, larger, someWith, highest, put, firstOf, Check}
+use Rattle.rules.specs.Words.{eqZ, larger, someWith, sameList, highest, put, firstOf, Check}
 use Rattle.rules.specs.Capacities.{schemaRoom, largestSchemaId}
 use Rattle.rules.specs.Register as plain
 use Rattle.rules.specs.Register.{State, withLastColumn, withSchemas, withMetadata, onFields}
 use Rattle.rules.specs.Register.Update.{AddSchema}
 use Rattle.rules.specs.WellFormed.{fieldIds, schemaBelow}
-use Rattle.rules.specs.SchemaUpdates.{reusedSchema, schemaIds, addSchemaChecks, offeredAs, addSchema}
+use Rattle.rules.specs.SchemaUpdates.{sameSchemaField, reusedSchema, schemaIds, addSchemaChecks, offeredAs, addSchema}
 use Rattle.rules.specs.SchemaUpdates as rule
-use Rattle.rules.specs.Layout.{readSchema, laidSchema, readSchemas, laidSchemas, laidSchemaOffer, laidFields}
+use Rattle.rules.specs.Layout.{given, readSchema, laidSchemaOffer, laidFields}
 use Rattle.rules.specs.Kinds.{laidUpdate, ofKind, withSchemasPart, withSchemaOffer, addSchemaKind}
 use Rattle.rules.proofs.Checks.{by-test, Passed, passed}
-use Rattle.rules.proofs.Orders.{highest-nonNeg, suc-nonNeg}
-use Rattle.rules.proofs.Slots.Reread.{reread-schemas}
-use Rattle.tables.specs.Laid.{LaidSchema}
-use Rattle.tables.proofs.Table.{listed-length}
-use Rattle.tables.proofs.Each.{schemas}
 use Rattle.builder.specs.declared.builder.TableMetadataBuilder.{TableMetadataBuilder}
 use Rattle.builder.specs.Pieces.{laidBuilder}
-use Rattle.schema_updates.specs.Schemas.{addedSchema, SchemaGrown}
 use Rattle.builder.proofs.Steps.{stepped-unless}
 use Rattle.builder.proofs.Choices.{given-back}
-use Rattle.builder.proofs.NewIds.{highest-not-held}
+use Rattle.builder.proofs.NewIds.{reused-at}
+use Rattle.schema_updates.specs.declared.keys.SchemaKeys.{SchemaKeys}
+use Rattle.schema_updates.specs.Keys.{laidKeys, lentKeys}
+use Rattle.schema_updates.specs.Schemas.{addedSchema, schemaUnder, Sought, SchemaGrown}
+use Rattle.schema_updates.proofs.Lent.{keys-lent}
+use Rattle.schema_updates.proofs.Last.{put-next}
 use Rattle.schema_updates.proofs.schema_addition.Statement.{statement}
 use Rattle.schema_updates.proofs.schema_addition.Tie as tie
 
@@ -66,23 +64,22 @@ after id column b =
       «last_added_order_id» = b .«last_added_order_id»;
     }
 
--- under another id it is laid out as it was
-schema-renamed : (s : Schema) → LaidSchema s → (id : SchemaId) → LaidSchema (record { «schema_id» = id; items = s .items; count = s .count })
-unfolding laidSchema
-schema-renamed s h id = record { back = λ i. record { «schema_id» = id; items = h .back i .items; count = h .back i .count }; fits = h .fits }
+module _ (b : TableMetadataBuilder) (keys : SchemaKeys) (equal : ℕ) (s : Schema) (id : SchemaId) where
+  -- what the search comes to
+  abbrev found : Option ℤ
+  found = given (ltb equal (length (lentKeys keys))) (getD (lentKeys keys) equal (pos 0))
 
-module _ (b : TableMetadataBuilder) (t : Schemas) (s : Schema) (k : LaidSchema s) (id : SchemaId) where
-  at-state : (st : State) → t ≡ laidSchemas (st .metadata .schemas) → readSchemas t ≡ st .metadata .schemas
-  at-state st q = ap (λ (x : Schemas). readSchemas x) q ∙ reread-schemas (st .metadata .schemas)
+  reused-is : {l : List plain.Schema} → Sought l (readSchema s) keys equal → reusedSchema (readSchema s) l ≡ found
+  reused-is {l} q = reused-at (λ (y : plain.Schema). sameList sameSchemaField (y .fields) (readSchema s .fields)) (λ y. y .id) l (q .place) (keys-lent l (q .ids))
 
   -- ---- its fields are held
 
-  module _ (e : reusedSchema (readSchema s) (readSchemas t) ≡ some (id .0)) where
-    held-at-state : (st : State) → t ≡ laidSchemas (st .metadata .schemas) → reusedSchema (readSchema s) (st .metadata .schemas) ≡ some (id .0)
-    held-at-state st q = ap (reusedSchema (readSchema s)) (sym (at-state st q)) ∙ e
+  module _ (e : found ≡ some (id .0)) where
+    held-at-state : (st : State) → Sought (st .metadata .schemas) (readSchema s) keys equal → reusedSchema (readSchema s) (st .metadata .schemas) ≡ some (id .0)
+    held-at-state st q = reused-is q ∙ e
 
     held : (last : Bool) → last ≡ someWith (eqZ (id .0)) (addedSchema b)
-        → SchemaGrown b t s (record { number = 0; logs = not last; grows = false; schema = s; builder = after id (b .fields .«last_column_id») b })
+        → SchemaGrown b keys equal s (record { number = 0; logs = not last; grows = false; «schema_id» = s .«schema_id»; builder = after id (b .fields .«last_column_id») b })
     unfolding addSchemaChecks addSchema laidBuilder laidFields laidUpdate
     held last x =
         record {
@@ -92,76 +89,73 @@ module _ (b : TableMetadataBuilder) (t : Schemas) (s : Schema) (k : LaidSchema s
                 λ z. rw (held-at-state st q, addSchema, l, p) (stepped-unless (someWith (eqZ (id .0)) (st .added .schema)) st (rule.addedSchema (id .0) st) (AddSchema o) _ _ refl refl (ap (λ (y : ℤ). withSchemasPart (withSchemaOffer (laidSchemaOffer (offeredAs y o)) noSchemasPart) (ofKind addSchemaKind)) (sym w))),
               );
           table = λ o st q z. rw (held-at-state st q, addSchema) (by-test (λ (y : State). y .metadata .schemas ≡ st .metadata .schemas) (someWith (eqZ (id .0)) (st .added .schema)) (λ h. refl) (λ h. refl));
-          laid = k;
-          fields = refl;
           room = λ h. absurd (false≢true h);
-          numbered = λ h. absurd (false≢true h);
-          new = λ h. absurd (false≢true h);
         }
 
   -- ---- they are not
 
-  abbrev top : List plain.Schema → ℤ
-  top l = highest (schemaIds l)
+  abbrev newChecks : List ℤ → ℕ → List Check
+  newChecks ids n = (eqZ (highest ids) largestSchemaId, 18) ∷ (leb schemaRoom n, 19) ∷ []
 
-  abbrev newChecks : List plain.Schema → List Check
-  newChecks l = (eqZ (top l) largestSchemaId, 18) ∷ (leb schemaRoom (length l), 19) ∷ []
+  module _ (e : found ≡ none) (exhausted : Bool) (x : exhausted ≡ eqZ (highest (lentKeys keys)) largestSchemaId) (g : eqZ (highest (lentKeys keys)) largestSchemaId ≡ false → id .0 ≡ sucℤ (highest (lentKeys keys)))
+      (number : ℕ) (n : number ≡ cond exhausted 18 (cond (leb schemaRoom (keys .count)) 19 0)) where
+    new-at-state : (st : State) → Sought (st .metadata .schemas) (readSchema s) keys equal → reusedSchema (readSchema s) (st .metadata .schemas) ≡ none
+    new-at-state st q = reused-is q ∙ e
 
-  module _ (e : reusedSchema (readSchema s) (readSchemas t) ≡ none) (exhausted : Bool) (x : exhausted ≡ eqZ (top (readSchemas t)) largestSchemaId) (g : eqZ (top (readSchemas t)) largestSchemaId ≡ false → id .0 ≡ sucℤ (top (readSchemas t)))
-      (number : ℕ) (n : number ≡ cond exhausted 18 (cond (leb schemaRoom (t .count)) 19 0)) where
-    new-at-state : (st : State) → t ≡ laidSchemas (st .metadata .schemas) → reusedSchema (readSchema s) (st .metadata .schemas) ≡ none
-    new-at-state st q = ap (reusedSchema (readSchema s)) (sym (at-state st q)) ∙ e
+    checked : number ≡ firstOf (newChecks (lentKeys keys) (keys .count))
+    checked = n ∙ ap (λ (y : Bool). cond y 18 (cond (leb schemaRoom (keys .count)) 19 0)) x
 
-    checked : number ≡ firstOf (newChecks (readSchemas t))
-    checked = n ∙ ap (λ (y : Bool). cond y 18 (cond (leb schemaRoom (t .count)) 19 0)) x ∙ ap (λ (y : ℕ). cond (eqZ (top (readSchemas t)) largestSchemaId) 18 (cond (leb schemaRoom y) 19 0)) (sym (listed-length schemas t))
+    -- the checks by the table
+    at-state : {l : List plain.Schema} → Sought l (readSchema s) keys equal → number ≡ firstOf (newChecks (schemaIds l) (length l))
+    unfolding laidKeys
+    at-state {l} q = checked ∙ (λ j. firstOf (newChecks (keys-lent l (q .ids) j) (q .ids j .count)))
 
-    accepted : number ≡ 0 → Passed (newChecks (readSchemas t))
-    accepted z = passed (newChecks (readSchemas t)) refl (sym checked ∙ z)
+    accepted : number ≡ 0 → Passed (newChecks (lentKeys keys) (keys .count))
+    accepted z = passed (newChecks (lentKeys keys) (keys .count)) refl (sym checked ∙ z)
 
-    numbered : (st : State) → t ≡ laidSchemas (st .metadata .schemas) → number ≡ 0 → id .0 ≡ sucℤ (top (st .metadata .schemas))
-    numbered st q z = g (accepted z .0) ∙ ap (λ (l : List plain.Schema). sucℤ (top l)) (at-state st q)
+    numbered : {l : List plain.Schema} → Sought l (readSchema s) keys equal → number ≡ 0 → id .0 ≡ sucℤ (highest (schemaIds l))
+    numbered {l} q z = g (accepted z .0) ∙ ap (λ (y : List ℤ). sucℤ (highest y)) (keys-lent l (q .ids))
 
     new : (column : FieldId) → column .0 ≡ larger (b .fields .«last_column_id» .0) (highest (fieldIds (readSchema s)))
-        → SchemaGrown b t s (record { number = number; logs = true; grows = eqb number 0; schema = record { «schema_id» = id; items = s .items; count = s .count }; builder = after id column b })
+        → SchemaGrown b keys equal s (record { number = number; logs = true; grows = eqb number 0; «schema_id» = id; builder = after id column b })
     unfolding addSchemaChecks addSchema laidBuilder laidFields laidUpdate
     new column y =
         record {
           answers = λ o st _ p q.
               let m = st .metadata in
-              let one : plain.Schema = record { id = sucℤ (top (m .schemas)); fields = readSchema s .fields } in
+              let one : plain.Schema = record { id = sucℤ (highest (schemaIds (m .schemas))); fields = readSchema s .fields } in
               let end : State = rule.addedSchema (one .id) (onFields (λ f. withLastColumn (larger (f .lastColumn) (highest (fieldIds one))) f) (withMetadata (withSchemas (put schemaBelow one (m .schemas)) m) st)) in (
-                checked ∙ rw (new-at-state st q, at-state st q),
+                at-state q ∙ rw (new-at-state st q),
                 λ z.
-                    let i : id ≡ record { 0 = one .id } = λ j. record { 0 = numbered st q z j } in
+                    let i : id ≡ record { 0 = one .id } = λ j. record { 0 = numbered q z j } in
                     let v : column .0 ≡ larger (m .fields .lastColumn) (highest (fieldIds (readSchema s))) = y ∙ ap (λ (w : TableMetadataBuilder). larger (w .fields .«last_column_id» .0) (highest (fieldIds (readSchema s)))) p in
                     let w : column ≡ record { 0 = larger (m .fields .lastColumn) (highest (fieldIds (readSchema s))) } = λ j. record { 0 = v j } in
-                    rw (new-at-state st q, addSchema) (stepped-unless false st end (AddSchema (offeredAs (one .id) o)) _ _ refl (rw (i, w, p)) (ap (λ (d : ℤ). withSchemasPart (withSchemaOffer (laidSchemaOffer (offeredAs d o)) noSchemasPart) (ofKind addSchemaKind)) (numbered st q z))),
+                    rw (new-at-state st q, addSchema) (stepped-unless false st end (AddSchema (offeredAs (one .id) o)) _ _ refl (rw (i, w, p)) (ap (λ (d : ℤ). withSchemasPart (withSchemaOffer (laidSchemaOffer (offeredAs d o)) noSchemasPart) (ofKind addSchemaKind)) (numbered q z))),
               );
-          table = λ o st q z. rw (new-at-state st q, addSchema, eq-eqb number 0 z) (ap (λ (d : ℤ). put schemaBelow (record { id = d; fields = readSchema s .fields }) (st .metadata .schemas)) (sym (numbered st q z)));
-          laid = schema-renamed s k id;
-          fields = refl;
-          room = λ h. let f = leb-false schemaRoom (length (readSchemas t)) (accepted (eqb-true number 0 h) .1 .0) in omega (arith, f, listed-length schemas t);
-          numbered = λ h. rw (g (accepted (eqb-true number 0 h) .0)) (suc-nonNeg (top (readSchemas t)) (highest-nonNeg (schemaIds (readSchemas t))));
-          new = λ h. rw (g (accepted (eqb-true number 0 h) .0)) (highest-not-held (λ (d : plain.Schema). d .id) (readSchemas t));
+          table = λ o st q z.
+              let l = st .metadata .schemas in
+              rw (new-at-state st q, addSchema, eq-eqb number 0 z)
+              (ap (λ (d : ℤ). put schemaBelow (record { id = d; fields = readSchema s .fields }) l) (sym (numbered q z)) ∙ put-next (readSchema (schemaUnder id s)) l (numbered q z));
+          room = λ h. omega (arith, leb-false schemaRoom (keys .count) (accepted (eqb-true number 0 h) .1 .0));
         }
 
 returns : tie.Need-returns
 returns c =
     let f = c .before .before .before in
-    let a = f .before in
+    let a = f .before .before in
     let r = f .reuse-or-create-new-schema-id in
     let yes = c .before .if1 .taken in
-    held (a .args .b) (a .args .t) (a .args .s) (a .pre .1) (r .result .id) (r .ensures .held yes) (r .result .«is_last») (r .ensures .again yes)
+    held (a .args .b) (a .args .keys) (a .args .equal) (a .args .s) (r .result .id) (r .ensures .held yes) (r .result .«is_last») (r .ensures .again yes)
 
 returns-2 : tie.Need-returns-2
 returns-2 c =
     let i = c .before .before in
     let j = i .before .before in
     let f = j .before .before in
-    let a = f .before in
+    let a = f .before .before in
     let r = f .reuse-or-create-new-schema-id in
     let no = j .if1 .left in
-    new (a .args .b) (a .args .t) (a .args .s) (a .pre .1) (r .result .id) (r .ensures .new no) (r .result .exhausted) (r .ensures .over no) (r .ensures .gets no)
+    new (a .args .b) (a .args .keys) (a .args .equal) (a .args .s) (r .result .id) (r .ensures .new no) (r .result .exhausted) (r .ensures .over no) (r .ensures .gets no)
     (i .choose2 .result)
     (i .choose2 .ensures ∙ ap (cond (r .result .exhausted) 18) (i .before .choose .ensures))
     (c .last-column .result)

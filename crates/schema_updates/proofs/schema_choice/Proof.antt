@@ -1,28 +1,27 @@
 -- The choice is made of the state's last added and current ids, and the builder that comes back has the chosen one.
 use mathlib.Core.Path.{_≡_, refl, ap, _∙_}
-use mathlib.Core.List.{List}
 use mathlib.Core.Option.{Option}
 use borrow.Author.Needs.{needs}
 use lib.IntN.{ℤ}
+use lib.ListN.{length}
 use mir.Syntax.{w32}
-use Rattle.records.specs.declared.schema.Schemas.{Schemas}
 use Rattle.rules.specs.Words.{eqZ}
-use Rattle.rules.specs.Register as plain
 use Rattle.rules.specs.Register.{withCurrentSchema, onFields}
 use Rattle.rules.specs.Register.Update.{SetCurrentSchema}
-use Rattle.rules.specs.SchemaUpdates.{chosen, choiceLogged, holdsSchema, setCurrentSchemaChecks, setCurrentSchema}
-use Rattle.rules.specs.Layout.{given, readSchemas, laidFields}
+use Rattle.rules.specs.SchemaUpdates.{chosen, choiceLogged, setCurrentSchemaChecks, setCurrentSchema}
+use Rattle.rules.specs.Layout.{given, laidFields}
 use Rattle.rules.specs.Kinds.{laidUpdate}
-use Rattle.rules.proofs.Slots.Reread.{reread-schemas}
-use Rattle.tables.proofs.Keyed.{lent-in, lent-within, lent-slice}
-use Rattle.tables.proofs.Each.{tidy-schemas}
 use Rattle.builder.specs.declared.builder.TableMetadataBuilder.{TableMetadataBuilder}
 use Rattle.builder.specs.Pieces.{laidBuilder}
 use Rattle.builder.proofs.Steps.{stepped-unless}
 use Rattle.builder.proofs.Choices.{given-back, chosen-as, takes-fits, logs-fits}
 use Rattle.schema_updates.specs.Schemas.{addedSchema}
+use Rattle.schema_updates.proofs.Lent.{keys-within, keys-slice, keys-in}
 use Rattle.schema_updates.proofs.schema_choice.Statement.{statement}
 use Rattle.schema_updates.proofs.schema_choice.Tie as tie
+
+long : (c : tie.Start) → length (c .args .keys .items) ≡ 16
+long c = search needs
 
 returns : tie.Need-returns
 unfolding setCurrentSchemaChecks setCurrentSchema laidBuilder laidFields laidUpdate
@@ -38,7 +37,7 @@ returns c st p q =
     chosen-as (k .before .before .schema-key .ensures .0)
     (ap (given (a .b .«has_schema»)) (k .before .schema-key2 .ensures .0) ∙ ap (λ (b : TableMetadataBuilder). addedSchema b) p ∙ given-back last)
     (k .schema-key3 .ensures .0 ∙ ap (λ (b : TableMetadataBuilder). b .fields .«current_schema_id» .0) p)
-    (λ i z. (lent-in (tidy-schemas (s .pre)) (λ y. y .id) (g .ids-of .ensures .0) z ∙ ap (λ (l : List plain.Schema). holdsSchema l z) (ap (λ (t : Schemas). readSchemas t) q ∙ reread-schemas (st .metadata .schemas))) i)
+    (λ i z. keys-in (st .metadata .schemas) q z i)
     (x .choose-id .ensures) in
     let y : ℤ = chosen (a .id .0) last in
     let new : c .before .before .schema-id .result ≡ record { 0 = y } = λ i. record { 0 = (c .before .before .schema-id .ensures ∙ K .takes) i } in
@@ -54,9 +53,8 @@ schema-choice-spec =
     (λ c κs. search needs)
     (λ c κs. search needs)
     (λ c κs. search needs)
-    (λ c κs. search needs)
-    (λ c. let g = c .before .before .before in lent-within (tidy-schemas (g .before .before .pre)) (λ y. y .id) (g .ids-of .ensures .0))
-    (λ c. let g = c .before .before .before .before in lent-slice (tidy-schemas (g .before .before .pre)) (λ y. y .id) (g .ids-of .ensures .0))
+    (λ c. let s = c .before .before .before .before .before in keys-within (s .pre) (long s))
+    (λ c. let s = c .before .before .before .before .before .before in keys-slice (s .pre) (long s))
     (λ c κs. search needs)
     (λ c κs. let k = c .before .before .before in takes-fits w32 (k .before .before .before .before .args .b .«has_schema») (k .schema-key2 .result .0) (c .choose-id .ensures) (k .before .schema-key .ensures .1) (k .schema-key2 .ensures .1))
     (λ c κs. let k = c .before .before .before .before in logs-fits w32 (k .before .before .before .before .args .b .«has_schema») (k .schema-key2 .result .0) (c .before .choose-id .ensures) (k .before .schema-key .ensures .1) (k .schema-key2 .ensures .1))

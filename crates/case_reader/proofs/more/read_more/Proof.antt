@@ -5,10 +5,10 @@ use Rattle.case_reader.proofs.more.read_more.Statement.{statement}
 use Rattle.case_reader.proofs.more.read_more.Tie as tie
 
 abbrev Inv-loop : tie.InvT-loop
-Inv-loop input₀ place₀ more₀ count last₀ i₀ input place more last i = Unit {0}
+Inv-loop more₀ input₀ place₀ count last₀ i₀ input place more last i = Unit {0}
 
 abbrev μ-loop : tie.MeasureT-loop
-μ-loop input₀ place₀ more₀ count last₀ i₀ input place more last i = count - i
+μ-loop more₀ input₀ place₀ count last₀ i₀ input place more last i = count - i
 
 pub read-more-spec : {M : Type 1} → statement M
 read-more-spec =
@@ -16,7 +16,6 @@ read-more-spec =
     (tie.spec
     Inv-loop
     μ-loop
-    (λ c κs. search needs)
     (λ c κs. search needs)
     (λ c. search needs)
     (λ c κs. search needs)

@@ -7,10 +7,10 @@ use Rattle.case_reader.proofs.offer.read_schema_offer.Statement.{statem
 use Rattle.case_reader.proofs.offer.read_schema_offer.Tie as tie
 
 abbrev Inv-loop : tie.InvT-loop
-Inv-loop input₀ place₀ offers₀ at id count i₀ input place offers i = length offers ≡ length offers₀
+Inv-loop is-named input₀ place₀ offers₀ at id count i₀ input place offers i = length offers ≡ length offers₀
 
 abbrev μ-loop : tie.MeasureT-loop
-μ-loop input₀ place₀ offers₀ at id count i₀ input place offers i = count - i
+μ-loop is-named input₀ place₀ offers₀ at id count i₀ input place offers i = count - i
 
 pub read-schema-offer-spec : {M : Type 1} → statement M
 read-schema-offer-spec =

@@ -5,10 +5,10 @@ use Rattle.case_reader.proofs.schema.read_schema.Statement.{statement}
 use Rattle.case_reader.proofs.schema.read_schema.Tie as tie
 
 abbrev Inv-loop : tie.InvT-loop
-Inv-loop input₀ place₀ schema₀ id count i₀ input place schema i = Unit {0}
+Inv-loop is-named input₀ place₀ schema₀ id count i₀ input place schema i = Unit {0}
 
 abbrev μ-loop : tie.MeasureT-loop
-μ-loop input₀ place₀ schema₀ id count i₀ input place schema i = count - i
+μ-loop is-named input₀ place₀ schema₀ id count i₀ input place schema i = count - i
 
 pub read-schema-spec : {M : Type 1} → statement M
 read-schema-spec =

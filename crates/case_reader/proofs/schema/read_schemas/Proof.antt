@@ -5,10 +5,10 @@ use Rattle.case_reader.proofs.schema.read_schemas.Statement.{statement}
 use Rattle.case_reader.proofs.schema.read_schemas.Tie as tie
 
 abbrev Inv-loop : tie.InvT-loop
-Inv-loop input₀ place₀ table₀ count i₀ input place table i = Unit {0}
+Inv-loop is-named input₀ place₀ table₀ count i₀ input place table i = Unit {0}
 
 abbrev μ-loop : tie.MeasureT-loop
-μ-loop input₀ place₀ table₀ count i₀ input place table i = count - i
+μ-loop is-named input₀ place₀ table₀ count i₀ input place table i = count - i
 
 pub read-schemas-spec : {M : Type 1} → statement M
 read-schemas-spec =

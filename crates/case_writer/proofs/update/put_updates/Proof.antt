@@ -5,10 +5,10 @@ use Rattle.case_writer.proofs.update.put_updates.Statement.{statement}
 use Rattle.case_writer.proofs.update.put_updates.Tie as tie
 
 abbrev Inv-loop : tie.InvT-loop
-Inv-loop output₀ end₀ list offers count n i₀ output end i = Unit {0}
+Inv-loop output₀ end₀ list offers is-named count n i₀ output end i = Unit {0}
 
 abbrev μ-loop : tie.MeasureT-loop
-μ-loop output₀ end₀ list offers count n i₀ output end i = n - i
+μ-loop output₀ end₀ list offers is-named count n i₀ output end i = n - i
 
 pub put-updates-spec : {M : Type 1} → statement M
 put-updates-spec =

@@ -25,9 +25,9 @@ same-fields-spec =
     (λ c. search needs)
     (λ c κs. search needs)
     (λ c. let l = c .before .before .before .before in
-    abreast-not (l .before .loop .inv) _ _ (l .loop-test .taken) (c .before .same-field .ensures) (c .if1 .taken))
+    abreast-not (l .before .loop .inv) _ _ (l .loop-test .taken) (c .before .same-schema-field .ensures) (c .if1 .taken))
     (λ c. search needs)
     (λ c. search needs)
     (λ c. let l = c .before .before .before .before in
-    abreast-on (l .before .loop .inv) _ _ (l .loop-test .taken) (c .before .same-field .ensures) (c .if1 .left))
+    abreast-on (l .before .loop .inv) _ _ (l .loop-test .taken) (c .before .same-schema-field .ensures) (c .if1 .left))
     (λ c. abreast-end (c .before .loop .inv) (c .loop-test .left)))

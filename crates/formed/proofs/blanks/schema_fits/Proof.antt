@@ -1,19 +1,38 @@
--- The slots from a place on are asked, and that the rest is 0 where the record is not used.
+-- The loop asks of each slot what the rule asks of it, used or not; where the schema is not used, its numbers are asked too.
+use Prim.Native.Nat.{ℕ, _-_}
+use mathlib.Core.Path.{refl, _∙_}
+use mathlib.Core.Bool.{_&&_, _||_, and-true}
 use borrow.Author.Needs.{needs}
-use Prim.Native.Nat.{ℕ}
-use Rattle.rules.specs.Blanks.{isZero, isZeroZ, restBlank, isBlankSchemaField, isTidySchema, isBlankSchema}
+use Rattle.rules.specs.Blanks.{isZero, isZeroZ, restBlank, tidySlots, isTidySchemaField, isBlankSchemaField, isTidySchema, isBlankSchema}
+use Rattle.formed.proofs.Scans.{slots}
+use Rattle.formed.proofs.Filled.{Slots, slots-start, slots-on, slots-end}
 use Rattle.formed.proofs.Unused.{from-place-two}
 use Rattle.formed.proofs.blanks.schema_fits.Statement.{statement}
 use Rattle.formed.proofs.blanks.schema_fits.Tie as tie
+
+abbrev Inv-loop : tie.InvT-loop
+Inv-loop used s n from ok₀ i₀ ok i = Slots isTidySchemaField isBlankSchemaField 32 from (s .items) i (used || (isZeroZ (s .«schema_id» .0) && isZero (s .count))) ok
+
+abbrev μ-loop : tie.MeasureT-loop
+μ-loop used s n from ok₀ i₀ ok i = 32 - i
 
 pub schema-fits-spec : {M : Type 1} → statement M
 unfolding isTidySchema isBlankSchema
 schema-fits-spec =
     tie.close
     (tie.spec
+    Inv-loop
+    μ-loop
     (λ c κs. search needs)
     (λ c κs. search needs)
+    (λ c. rw (c .same-schema .ensures) (slots-start (search (needs, slots))))
+    (λ c. search needs)
+    (λ c. search needs)
     (λ c κs. search needs)
-    (λ c. let u = c .before .before in let a = u .before .before .args in
-    rw (c .before .same-schema .ensures)
-    (from-place-two (a .used) (isZeroZ (a .s .«schema_id» .0)) (isZero (a .s .count)) (a .s .count) (λ (k : ℕ). restBlank 32 isBlankSchemaField (a .s .items) k) (u .unused-from .ensures) (c .fields-blank-from .ensures))))
+    (λ c. search needs)
+    (λ c. search needs)
+    (λ c. let l = c .before .before .before in slots-on (l .loop .inv) _ (c .before .before .loop-test .taken) (c .field-fits .ensures))
+    (λ c. let u = c .before .before .before in let a = u .before .before .args in
+    slots-end (c .before .loop .inv) (c .loop-test .left)
+    ∙ from-place-two (a .used) (isZeroZ (a .t2 .«schema_id» .0)) (isZero (a .t2 .count)) (a .t2 .count) (λ (k : ℕ). tidySlots 32 isTidySchemaField isBlankSchemaField (a .t2 .items) k) (u .unused-from .ensures) refl
+    ∙ rw (and-true (restBlank 32 isBlankSchemaField (a .t2 .items) 0))))

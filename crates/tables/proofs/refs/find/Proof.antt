@@ -4,6 +4,7 @@ use mathlib.Core.Path.{sym, _∙_}
 use borrow.Author.Needs.{needs}
 use Rattle.rules.specs.RefUpdates.{hasName}
 use Rattle.rules.specs.Layout.{readName}
+use Rattle.tables.proofs.Name.{same-names}
 use Rattle.tables.proofs.Search.{Sought, sought-start, sought-here, sought-on, sought-end}
 use Rattle.tables.proofs.Each.{refs, tidy-refs, ref-at, name-of}
 use Rattle.tables.proofs.refs.find.Statement.{statement}
@@ -24,12 +25,13 @@ find-spec =
     (λ c. sought-start (tidy-refs (c .pre .0)))
     (λ c. search needs)
     (λ c. search needs)
-    (λ c κs. let b = c .before .before in let p = b .before .before .pre in
-    (name-of (ref-at (p .0) (b .before .loop .i) _ (b .loop-test .taken)), p .1))
-    (λ c. let b = c .before .before .before .before in
-    sought-here (tidy-refs (b .before .before .pre .0)) _ (b .loop-test .taken) (b .before .loop .inv) (sym (c .before .same-name .ensures) ∙ c .if1 .taken))
+    (λ c κs. search needs)
+    (λ c. let b = c .before .before .before .before in let p = b .before .before .pre in
+    let e = c .before .same-name .ensures ∙ same-names (name-of (ref-at (p .0) (b .before .loop .i) _ (b .loop-test .taken))) (p .1) in
+    sought-here (tidy-refs (p .0)) _ (b .loop-test .taken) (b .before .loop .inv) (sym e ∙ c .if1 .taken))
     (λ c. search needs)
     (λ c. search needs)
-    (λ c. let b = c .before .before .before .before in
-    sought-on (tidy-refs (b .before .before .pre .0)) _ (b .loop-test .taken) (b .before .loop .inv) (sym (c .before .same-name .ensures) ∙ c .if1 .left))
+    (λ c. let b = c .before .before .before .before in let p = b .before .before .pre in
+    let e = c .before .same-name .ensures ∙ same-names (name-of (ref-at (p .0) (b .before .loop .i) _ (b .loop-test .taken))) (p .1) in
+    sought-on (tidy-refs (p .0)) _ (b .loop-test .taken) (b .before .loop .inv) (sym e ∙ c .if1 .left))
     (λ c. sought-end (tidy-refs (c .before .before .pre .0)) (c .loop-test .left) (c .before .loop .inv)))

@@ -5,6 +5,7 @@ use mathlib.Core.Bool.{not}
 use borrow.Author.Needs.{needs}
 use Rattle.rules.specs.RefUpdates.{hasName}
 use Rattle.rules.specs.Layout.{readName, laidRefs}
+use Rattle.tables.proofs.Name.{same-names}
 use Rattle.tables.proofs.Filter.{Filtered, filtered-start, filtered-more, filtered-less, filtered-end}
 use Rattle.tables.proofs.Each.{refs, tidy-refs, made-refs, none-refs, ref-at, name-of}
 use Rattle.tables.proofs.refs.without.Statement.{statement}
@@ -27,15 +28,16 @@ without-spec =
     (λ c. search needs)
     (λ c. search needs)
     (λ c. search needs)
-    (λ c κs. let b = c .before .before in let p = b .before .before .before .pre in
-    (name-of (ref-at (p .0) (b .before .loop .i) _ (b .loop-test .taken)), p .1))
+    (λ c κs. search needs)
     (λ c. search needs)
     (λ c. search needs)
     (λ c. search needs)
     (λ c. search needs)
-    (λ c. let b = c .before .before .before .before in
-    filtered-more made-refs (tidy-refs (b .before .before .before .pre .0)) _ (b .loop-test .taken) (b .before .loop .inv) (ap not (sym (c .before .same-name .ensures)) ∙ c .if1 .taken) refl refl)
+    (λ c. let b = c .before .before .before .before in let p = b .before .before .before .pre in
+    let e = c .before .same-name .ensures ∙ same-names (name-of (ref-at (p .0) (b .before .loop .i) _ (b .loop-test .taken))) (p .1) in
+    filtered-more made-refs (tidy-refs (p .0)) _ (b .loop-test .taken) (b .before .loop .inv) (ap not (sym e) ∙ c .if1 .taken) refl refl)
     (λ c. search needs)
-    (λ c. let b = c .before .before .before .before in
-    filtered-less made-refs (tidy-refs (b .before .before .before .pre .0)) _ (b .loop-test .taken) (b .before .loop .inv) (ap not (sym (c .before .same-name .ensures)) ∙ c .if1 .left))
+    (λ c. let b = c .before .before .before .before in let p = b .before .before .before .pre in
+    let e = c .before .same-name .ensures ∙ same-names (name-of (ref-at (p .0) (b .before .loop .i) _ (b .loop-test .taken))) (p .1) in
+    filtered-less made-refs (tidy-refs (p .0)) _ (b .loop-test .taken) (b .before .loop .inv) (ap not (sym e) ∙ c .if1 .left))
     (λ c. filtered-end made-refs (tidy-refs (c .before .before .before .pre .0)) (c .loop-test .left) (c .before .loop .inv)))

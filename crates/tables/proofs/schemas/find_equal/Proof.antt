@@ -27,7 +27,8 @@ find-equal-spec =
     (λ c. search needs)
     (λ c. search needs)
     (λ c κs. let b = c .before in let p = b .before .before .pre in
-    (within (tidy-schema (schema-at (p .0) (b .before .loop .i) _ (b .loop-test .taken))), within (tidy-schema (p .1))))
+    let x = schema-at (p .0) (b .before .loop .i) _ (b .loop-test .taken) in
+    ((x .back, within (tidy-schema x)), (p .1 .back, within (tidy-schema (p .1)))))
     (λ c. let b = c .before .before .before in
     sought-here (tidy-schemas (b .before .before .pre .0)) _ (b .loop-test .taken) (b .before .loop .inv) (sym (c .before .same-fields .ensures) ∙ c .if1 .taken))
     (λ c. search needs)

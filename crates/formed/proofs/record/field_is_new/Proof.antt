@@ -1,0 +1,32 @@
+-- The loop asks of each counted field from a place on that its id and its name are others.
+use Prim.Native.Nat.{_-_}
+use mathlib.Core.Bool.{true, not, _&&_}
+use borrow.Author.Needs.{needs}
+use Rattle.records.specs.declared.schema.SchemaField.{SchemaField}
+use Rattle.rules.specs.Words.{eqZ}
+use Rattle.equality.specs.Same.{sameName}
+use Rattle.formed.proofs.Scans.{slots}
+use Rattle.formed.proofs.Counted.{Taken, taken-start, taken-on, taken-end}
+use Rattle.formed.proofs.record.field_is_new.Statement.{statement}
+use Rattle.formed.proofs.record.field_is_new.Tie as tie
+
+abbrev Inv-loop : tie.InvT-loop
+Inv-loop x from s n ok₀ i₀ ok i = Taken (λ (f : SchemaField). not (eqZ (x .id .0) (f .id .0)) && not (sameName (x .name) (f .name))) (s .count) (s .items) from i true ok
+
+abbrev μ-loop : tie.MeasureT-loop
+μ-loop x from s n ok₀ i₀ ok i = n - i
+
+pub field-is-new-spec : {M : Type 1} → statement M
+field-is-new-spec =
+    tie.close
+    (tie.spec
+    Inv-loop
+    μ-loop
+    (λ c. taken-start 32 (search (needs, slots)) (c .pre))
+    (λ c. search needs)
+    (λ c. search needs)
+    (λ c κs. search needs)
+    (λ c. search needs)
+    (λ c. search needs)
+    (λ c. let l = c .before .before .before in taken-on (l .loop .inv) _ (c .before .before .loop-test .taken) (c .fields-differ .ensures))
+    (λ c. taken-end (c .before .loop .inv) (c .loop-test .left)))
