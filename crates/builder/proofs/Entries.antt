@@ -4,20 +4,21 @@ use mathlib.Core.Path.{_≡_, refl, sym, ap, _∙_}
 use mathlib.Core.Bool.{Bool, true, false, cond, _||_}
 use mathlib.Core.List.{List, [], _∷_}
 use lib.Dec.{eqb}
-use Rattle.records.specs.Blanks.{noFieldsPart, noSnapshotsPart, noRef, noSchemasPart, noSortOrdersPart, noStatisticsPart}
+use Rattle.records.specs.Blanks.{noFieldsPart, noSnapshotsPart, noRef, noSchemasPart, noSortOrdersPart, noStatisticsPart, noPartitionSpecsPart}
 use Rattle.records.specs.declared.part.FieldsPart.{FieldsPart}
 use Rattle.records.specs.declared.part.SnapshotsPart.{SnapshotsPart}
 use Rattle.records.specs.declared.part.SchemasPart.{SchemasPart}
 use Rattle.records.specs.declared.part.SortOrdersPart.{SortOrdersPart}
 use Rattle.records.specs.declared.part.StatisticsPart.{StatisticsPart}
+use Rattle.records.specs.declared.part.PartitionSpecsPart.{PartitionSpecsPart}
 use Rattle.records.specs.declared.reference.NamedRef.{NamedRef}
 use Rattle.records.specs.declared.update.TableUpdate.{TableUpdate}
 use Rattle.rules.specs.Words.{any}
 use Rattle.rules.specs.WellFormed.{updateFormed}
-use Rattle.rules.specs.Blanks.{isZero, isZeroZ, isBlankUuid, isTidyText, isBlankText, isTidySnapshot, isBlankSnapshot, isTidySnapshotIds, isBlankSnapshotIds, isTidyName, isBlankName, isTidyReference, isBlankReference, isBlankSchemaOffer, isTidySchemaIds, isBlankSchemaIds, isTidySortOrder, isBlankSortOrder, isTidyStatisticsFile, isBlankStatisticsFile}
-use Rattle.rules.specs.Kinds.{usedBy, fitsKinds, isTidyFieldsPart, isTidySnapshotsPart, isTidyRefsPart, isTidySchemasPart, isTidySortOrdersPart, isTidyStatisticsPart, isTidyUpdate, readKind, readUpdate, uuidKinds, versionKinds, locationKinds, snapshotKinds, snapshotIdsKinds, refNameKinds, referenceKinds, schemaKinds, schemaIdKinds, schemaIdsKinds, sortOrderKinds, sortOrderIdKinds, statisticsFileKinds, statisticsIdKinds}
+use Rattle.rules.specs.Blanks.{isZero, isZeroZ, isBlankUuid, isTidyText, isBlankText, isTidySnapshot, isBlankSnapshot, isTidySnapshotIds, isBlankSnapshotIds, isTidyName, isBlankName, isTidyReference, isBlankReference, isBlankSchemaOffer, isTidySchemaIds, isBlankSchemaIds, isTidySortOrder, isBlankSortOrder, isTidyStatisticsFile, isBlankStatisticsFile, isTidySpecOffer, isBlankSpecOffer, isTidySpecIds, isBlankSpecIds}
+use Rattle.rules.specs.Kinds.{usedBy, fitsKinds, isTidyFieldsPart, isTidySnapshotsPart, isTidyRefsPart, isTidySchemasPart, isTidySortOrdersPart, isTidyStatisticsPart, isTidyPartitionSpecsPart, isTidyUpdate, readKind, readUpdate, uuidKinds, versionKinds, locationKinds, snapshotKinds, snapshotIdsKinds, refNameKinds, referenceKinds, schemaKinds, schemaIdKinds, schemaIdsKinds, sortOrderKinds, sortOrderIdKinds, statisticsFileKinds, statisticsIdKinds, specKinds, specIdKinds, specIdsKinds}
 use Rattle.rules.proofs.Checks.{and-left, parts}
-use Rattle.rules.proofs.Slots.Relaid.{zero, zeroZ, blank-uuid, blank-text, blank-ref-name, blank-snapshot, blank-snapshot-ids, blank-reference, blank-schema-offer, blank-schema-ids, blank-sort-order, blank-statistics-file}
+use Rattle.rules.proofs.Slots.Relaid.{zero, zeroZ, blank-uuid, blank-text, blank-ref-name, blank-snapshot, blank-snapshot-ids, blank-reference, blank-schema-offer, blank-schema-ids, blank-sort-order, blank-statistics-file, blank-spec-offer, blank-spec-ids}
 use Rattle.builder.proofs.Parts.{tidy-parts}
 
 -- ---- by the kind
@@ -113,10 +114,23 @@ own-statistics k p e =
       removed = used-is statisticsIdKinds k (isZeroZ (p .removed .0)) (λ z. λ j. record { 0 = zeroZ (p .removed .0) z j }) (h .1 .0) i;
     }
 
+abbrev specsBy : ℕ → PartitionSpecsPart → PartitionSpecsPart
+specsBy k p = record { added = used specKinds k (p .added) (noPartitionSpecsPart .added); chosen = used specIdKinds k (p .chosen) (noPartitionSpecsPart .chosen); removed = used specIdsKinds k (p .removed) (noPartitionSpecsPart .removed) }
+
+own-specs : (k : ℕ) (p : PartitionSpecsPart) → isTidyPartitionSpecsPart k p ≡ true → p ≡ specsBy k p
+unfolding isTidyPartitionSpecsPart noPartitionSpecsPart
+own-specs k p e =
+    let h = parts (fitsKinds specKinds k (isBlankSpecOffer (p .added)) (isTidySpecOffer (p .added))) (usedBy specIdKinds k (isZeroZ (p .chosen .0)) ∷ fitsKinds specIdsKinds k (isBlankSpecIds (p .removed)) (isTidySpecIds (p .removed)) ∷ []) e in
+    λ i. record {
+      added = fits-is specKinds k (isBlankSpecOffer (p .added)) (isTidySpecOffer (p .added)) (blank-spec-offer (p .added)) (h .0) i;
+      chosen = used-is specIdKinds k (isZeroZ (p .chosen .0)) (λ z. λ j. record { 0 = zeroZ (p .chosen .0) z j }) (h .1 .0) i;
+      removed = fits-is specIdsKinds k (isBlankSpecIds (p .removed)) (isTidySpecIds (p .removed)) (blank-spec-ids (p .removed)) (h .1 .1 .0) i;
+    }
+
 -- ---- the update
 
 abbrev pub byKind : ℕ → TableUpdate → TableUpdate
-byKind k u = record { kind = k; fields = fieldsBy k (u .fields); snapshots = snapshotsBy k (u .snapshots); refs = refsBy k (u .refs); schemas = schemasBy k (u .schemas); «sort_orders» = ordersBy k (u .«sort_orders»); statistics = statisticsBy k (u .statistics) }
+byKind k u = record { kind = k; fields = fieldsBy k (u .fields); snapshots = snapshotsBy k (u .snapshots); refs = refsBy k (u .refs); schemas = schemasBy k (u .schemas); «sort_orders» = ordersBy k (u .«sort_orders»); statistics = statisticsBy k (u .statistics); «partition_specs» = specsBy k (u .«partition_specs») }
 
 own-kind : (u : TableUpdate) → isTidyUpdate u ≡ true → u ≡ byKind (u .kind) u
 own-kind u e =
@@ -129,6 +143,7 @@ own-kind u e =
       schemas = own-schemas (u .kind) (u .schemas) (h .schemas) i;
       «sort_orders» = own-orders (u .kind) (u .«sort_orders») (h .orders) i;
       statistics = own-statistics (u .kind) (u .statistics) (h .statistics) i;
+      «partition_specs» = own-specs (u .kind) (u .«partition_specs») (h .specs) i;
     }
 
 -- a tidy update of a kind

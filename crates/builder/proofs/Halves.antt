@@ -20,7 +20,7 @@ use Rattle.builder.proofs.Parts.{snapshot-tidy, ref-name-tidy}
 use Rattle.builder.proofs.Entries.{of-kind}
 
 abbrev withKind : ℕ → TableUpdate → TableUpdate
-withKind k u = record { kind = k; fields = u .fields; snapshots = u .snapshots; refs = u .refs; schemas = u .schemas; «sort_orders» = u .«sort_orders»; statistics = u .statistics }
+withKind k u = record { kind = k; fields = u .fields; snapshots = u .snapshots; refs = u .refs; schemas = u .schemas; «sort_orders» = u .«sort_orders»; statistics = u .statistics; «partition_specs» = u .«partition_specs» }
 
 module _ (u : TableUpdate) (e : isTidyUpdate u ≡ true) where
   -- what an addition logs is laid out from its snapshot

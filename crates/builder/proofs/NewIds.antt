@@ -1,8 +1,8 @@
--- The id that an added one gets: it fits, and where it is new none of the held ones has it.
+-- The id that an added one gets: it fits, and where it is new none of the held ones has it, and all are below it.
 use Prim.Native.Nat.{ℕ, zero, suc, _^_, _-_}
 use mathlib.Core.Path.{_≡_, refl, sym, ap, subst, _∙_}
 use mathlib.Core.Bool.{Bool, true, false, not, true≢false}
-use mathlib.Core.List.{List, [], _∷_, map}
+use mathlib.Core.List.{List, [], _∷_, _++_, map}
 use mathlib.Core.Option.{Option, none, some}
 use native.Mathlib.Omega.{arith}
 use borrow.Author.Tests.{eq-eqb, ne-eqb, ltb-true, ltb-false, lt-ltb, not-false}
@@ -14,7 +14,7 @@ use lib.Signed.{ltZ}
 use lib.Pow.{pow-pos}
 use mir.Syntax.{Width}
 use mir.Val.{SFits, hbits}
-use Rattle.rules.specs.Words.{eqZ, larger, any, first, highest}
+use Rattle.rules.specs.Words.{eqZ, larger, any, first, highest, put}
 use Rattle.rules.specs.Layout.{given}
 use Rattle.rules.proofs.Checks.{by-test}
 use Rattle.rules.proofs.Orders.{numbers-ordered, numbers-told}
@@ -111,3 +111,26 @@ next-not-held key m (x ∷ l) e =
 
 pub highest-not-held : {A : Type 0} (key : A → ℤ) (l : List A) → any (λ (x : A). eqZ (key x) (sucℤ (highest (map key l)))) l ≡ false
 highest-not-held key l = next-not-held key (highest (map key l)) l (numbers-ordered .irreflexive (highest (map key l)))
+
+-- ---- all are below it
+
+not-turned : (a b : ℤ) → ltZ a b ≡ true → ltZ b a ≡ false
+not-turned a b h = cases (ltZ b a) (λ t. absurd (true≢false (sym (numbers-ordered .transitive a b a h t) ∙ numbers-ordered .irreflexive a))) (λ f. f)
+
+-- what is above the larger of two is above both
+above-both : (a b z : ℤ) → ltZ (larger a b) z ≡ true → (ltZ a z ≡ true) × (ltZ b z ≡ true)
+above-both a b z h =
+    cases (ltZ a b)
+    (λ t. let k : ltZ b z ≡ true = rw t at h in (numbers-ordered .transitive a b z t k, k))
+    (λ f. let k : ltZ a z ≡ true = rw f at h in
+    (k, cases (ltZ b a) (λ t. numbers-ordered .transitive b a z t k) (λ g. ap (λ (y : ℤ). ltZ y z) (sym (numbers-ordered .connected a b f g)) ∙ k)))
+
+put-above : {A : Type 0} (key : A → ℤ) (a : A) (l : List A) → ltZ (highest (map key l)) (key a) ≡ true → put (λ (x y : A). ltZ (key x) (key y)) a l ≡ l ++ (a ∷ [])
+put-above key a [] h = refl
+put-above {A} key a (x ∷ l) h =
+    let k = above-both (key x) (highest (map key l)) (key a) h in
+    rw (not-turned (key x) (key a) (k .0), k .0) (ap (λ (y : List A). x ∷ y) (put-above key a l (k .1)))
+
+-- one under the next id goes to the end of the table
+pub put-next : {A : Type 0} (key : A → ℤ) (a : A) (l : List A) → key a ≡ sucℤ (highest (map key l)) → put (λ (x y : A). ltZ (key x) (key y)) a l ≡ l ++ (a ∷ [])
+put-next key a l e = put-above key a l (ap (ltZ (highest (map key l))) e ∙ below-next (highest (map key l)))

@@ -17,7 +17,7 @@ use Rattle.builder.specs.declared.builder.TableMetadataBuilder.{TableMet
 
 -- a new builder over the single fields of the previous metadata: nothing added, no last update of its own
 unfoldable pub fresh : SingleFields → TableMetadataBuilder
-fresh f = record { fields = f; «has_own» = false; own = record { 0 = pos 0 }; «has_schema» = false; «last_added_schema_id» = record { 0 = pos 0 }; «has_order» = false; «last_added_order_id» = record { 0 = pos 0 } }
+fresh f = record { fields = f; «has_own» = false; own = record { 0 = pos 0 }; «has_schema» = false; «last_added_schema_id» = record { 0 = pos 0 }; «has_order» = false; «last_added_order_id» = record { 0 = pos 0 }; «has_spec» = false; «last_added_spec_id» = record { 0 = pos 0 } }
 
 -- the builder of a state: its single fields, the run's own last update, the ids added last
 unfoldable pub laidBuilder : State → TableMetadataBuilder
@@ -30,6 +30,8 @@ laidBuilder st =
       «last_added_schema_id» = record { 0 = orElse (st .added .schema) (pos 0) };
       «has_order» = isSome (st .added .order);
       «last_added_order_id» = record { 0 = orElse (st .added .order) (pos 0) };
+      «has_spec» = isSome (st .added .spec);
+      «last_added_spec_id» = record { 0 = orElse (st .added .spec) (pos 0) };
     }
 
 -- the ids of the snapshots, in table order

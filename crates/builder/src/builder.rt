@@ -20,6 +20,7 @@ use primitives::names::same_bytes;
 use records::counters::RowId;
 use records::counters::SchemaId;
 use records::counters::SortOrderId;
+use records::counters::SpecId;
 use records::counters::Time;
 use records::metadata::SingleFields;
 use records::replies::ACCEPTED;
@@ -34,6 +35,8 @@ pub struct TableMetadataBuilder {
     pub last_added_schema_id: SchemaId,
     pub has_order: bool,
     pub last_added_order_id: SortOrderId,
+    pub has_spec: bool,
+    pub last_added_spec_id: SpecId,
 }
 
 // The number of the first failed check, whether the update took effect, and the state after it.
@@ -86,6 +89,8 @@ impl TableMetadataBuilder {
             last_added_schema_id: SchemaId(0),
             has_order: false,
             last_added_order_id: SortOrderId(0),
+            has_spec: false,
+            last_added_spec_id: SpecId(0),
         }
     }
 

@@ -1,7 +1,8 @@
 // A card: the single numbers of a record, of either sign and wide, its text and its list. What a record has not is blank.
+use records::capacities::PARTITION_FIELDS;
 use records::capacities::SCHEMA_FIELDS;
-use records::capacities::SORT_FIELDS;
 use records::capacities::TEXT;
+use records::partition::PartitionField;
 use records::schema::SchemaField;
 use slot_bounds::with_slots;
 
@@ -16,7 +17,8 @@ pub struct Text {
     pub len: usize,
 }
 
-// What a list has for elements: nothing, where the record has no list; ids; the fields of a schema; those of a sort order, three numbers each.
+// What a list has for elements: nothing, where the record has no list; ids; the fields of a schema; those of a sort order, three numbers each; those of
+// a partition spec.
 pub const NOTHING: u8 = 0;
 
 pub const IDS: u8 = 1;
@@ -25,11 +27,14 @@ pub const FIELDS: u8 = 2;
 
 pub const SORTED_FIELDS: u8 = 3;
 
-// The fields of a schema, or the numbers of other elements, one after the other.
+pub const PARTITIONS: u8 = 4;
+
+// The fields of a schema or of a partition spec, or the numbers of other elements, one after the other.
 pub struct List {
     pub kind: u8,
     pub numbers: [i64; SCHEMA_FIELDS],
     pub fields: [SchemaField; SCHEMA_FIELDS],
+    pub partitions: [PartitionField; PARTITION_FIELDS],
     pub slots: usize,
     pub count: usize,
 }
@@ -55,11 +60,13 @@ impl Text {
 
 impl List {
     pub fn blank() -> List {
-        let none = SchemaField::blank();
+        let field = SchemaField::blank();
+        let partition = PartitionField::blank();
         List {
             kind: NOTHING,
             numbers: [0; SCHEMA_FIELDS],
-            fields: [none; SCHEMA_FIELDS],
+            fields: [field; SCHEMA_FIELDS],
+            partitions: [partition; PARTITION_FIELDS],
             slots: 0,
             count: 0,
         }
@@ -75,13 +82,21 @@ impl List {
     }
 
     pub fn of_fields(fields: [SchemaField; SCHEMA_FIELDS], count: usize) -> List {
-        List {
-            kind: FIELDS,
-            numbers: [0; SCHEMA_FIELDS],
-            fields,
-            slots: SCHEMA_FIELDS,
-            count,
-        }
+        let mut list = List::blank();
+        list.kind = FIELDS;
+        list.fields = fields;
+        list.slots = SCHEMA_FIELDS;
+        list.count = count;
+        list
+    }
+
+    pub fn of_partitions(partitions: [PartitionField; PARTITION_FIELDS], count: usize) -> List {
+        let mut list = List::blank();
+        list.kind = PARTITIONS;
+        list.partitions = partitions;
+        list.slots = PARTITION_FIELDS;
+        list.count = count;
+        list
     }
 }
 
@@ -138,15 +153,6 @@ pub fn text_of(slots: &[u8], len: usize) -> Text {
     }
 }
 
-// How many numbers of a list are filled.
-pub fn filled(list: List) -> usize {
-    let n = with_slots(list.count, list.slots);
-    if list.kind == SORTED_FIELDS {
-        return 3 * with_slots(n, SORT_FIELDS);
-    }
-    n
-}
-
 // A number by its place; past the last it is 0.
 pub fn signed_at(card: Card, at: usize) -> i64 {
     let numbers = card.signed;
@@ -173,15 +179,10 @@ pub fn counted(count: usize, slots: usize) -> Card {
     )
 }
 
-// Of a field, its id.
 pub fn number_at(list: List, at: usize) -> i64 {
     let numbers = list.numbers;
-    if at >= SCHEMA_FIELDS {
-        return 0;
+    if at < SCHEMA_FIELDS {
+        return numbers[at];
     }
-    if list.kind == FIELDS {
-        let field = list.fields[at];
-        return wide(field.id.0);
-    }
-    numbers[at]
+    0
 }

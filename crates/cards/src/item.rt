@@ -4,15 +4,18 @@ use crate::card::FIELDS;
 use crate::card::IDS;
 use crate::card::List;
 use crate::card::NOTHING;
+use crate::card::SORTED_FIELDS;
 use crate::card::counted;
 use crate::card::number_at;
 use crate::field::field;
+use crate::partition::partition_field;
+use records::capacities::PARTITION_FIELDS;
 use records::capacities::SCHEMA_FIELDS;
 use records::capacities::SORT_FIELDS;
 use slot_bounds::with_slots;
 
 // The kind of an item is that of its list, where it is an element of it.
-const LEFT_OUT: u8 = 4;
+const LEFT_OUT: u8 = 5;
 
 pub fn items(list: List) -> usize {
     let count = list.count;
@@ -42,13 +45,20 @@ fn sorted_field(list: List, i: usize) -> Card {
 }
 
 // A field of a schema. Past the slots it is the last.
-pub fn field_at(list: List, i: usize) -> Card {
+fn field_at(list: List, i: usize) -> Card {
     let at = with_slots(i, SCHEMA_FIELDS - 1);
     let f = list.fields[at];
     field(f, i > 0)
 }
 
-fn element(list: List, i: usize) -> Card {
+// A field of a partition spec. Past the slots it is the last.
+fn partition_at(list: List, i: usize) -> Card {
+    let at = with_slots(i, PARTITION_FIELDS - 1);
+    let f = list.partitions[at];
+    partition_field(f, i > 0)
+}
+
+pub fn element(list: List, i: usize) -> Card {
     let kind = list.kind;
     match kind {
         IDS => Card::of_numbers(
@@ -56,7 +66,8 @@ fn element(list: List, i: usize) -> Card {
             [0, 0],
         ),
         FIELDS => field_at(list, i),
-        _ => sorted_field(list, i),
+        SORTED_FIELDS => sorted_field(list, i),
+        _ => partition_at(list, i),
     }
 }
 

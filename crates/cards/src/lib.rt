@@ -5,6 +5,7 @@ pub mod card;
 pub mod field;
 pub mod item;
 pub mod offer;
+pub mod partition;
 pub mod record;
 pub mod table;
 pub mod update;

@@ -5,8 +5,13 @@ use crate::card::List;
 use crate::card::wide;
 use records::capacities::FIELD_BYTES;
 use records::capacities::NAME;
+use records::capacities::PARTITION_BYTES;
+use records::capacities::PARTITION_FIELDS;
 use records::capacities::SCHEMA_FIELDS;
+use records::counters::Buckets;
 use records::counters::FieldId;
+use records::partition::PartitionField;
+use records::partition::SpecOffer;
 use records::schema::SchemaField;
 use records::schema::SchemaOffer;
 use records::text::Name;
@@ -47,24 +52,25 @@ fn signed(number: u64) -> i32
     number as i32
 }
 
+// The length of a name, the name.
 fn name_at(offers: &[u8], at: usize) -> Name {
     let mut bytes = [0u8; NAME];
     let mut i = 0;
     while i < NAME {
-        bytes[i] = byte_at(offers, at, 6 + i);
+        bytes[i] = byte_at(offers, at, 1 + i);
         i += 1;
     }
     Name {
         bytes,
-        len: number_of(byte_at(offers, at, 5)) as usize,
+        len: number_of(byte_at(offers, at, 0)) as usize,
     }
 }
 
-// Its id, its type, the length of its name, the name.
+// Its id, its type, its name.
 fn field_at(offers: &[u8], at: usize) -> SchemaField {
     let id = signed(number_at(offers, at));
     let field_type = byte_at(offers, at, 4);
-    let name = name_at(offers, at);
+    let name = name_at(offers, wrapping_add_usize(at, 5));
     SchemaField {
         id: FieldId(id),
         field_type,
@@ -88,4 +94,39 @@ fn fields(offer: SchemaOffer, offers: &[u8]) -> [SchemaField; SCHEMA_FIELDS] {
 pub fn schema_offer(offer: SchemaOffer, offers: &[u8]) -> Card {
     let list = List::of_fields(fields(offer, offers), offer.count);
     Card::of_number(wide(offer.schema_id.0)).with_list(list)
+}
+
+// Its source's id, its transform, the number of its buckets, its name. An id of 0 is left out.
+fn partition_at(offers: &[u8], at: usize, id: FieldId) -> PartitionField {
+    let source_id = signed(number_at(offers, at));
+    let transform = byte_at(offers, at, 4);
+    let buckets = signed(number_at(offers, wrapping_add_usize(at, 5)));
+    let name = name_at(offers, wrapping_add_usize(at, 9));
+    PartitionField {
+        source_id: FieldId(source_id),
+        field_id: id,
+        buckets: Buckets(buckets),
+        transform,
+        has_id: id.0 != 0,
+        name,
+    }
+}
+
+fn partitions(offer: SpecOffer, offers: &[u8]) -> [PartitionField; PARTITION_FIELDS] {
+    let none = PartitionField::blank();
+    let mut fields = [none; PARTITION_FIELDS];
+    let mut i = 0;
+    while i < PARTITION_FIELDS {
+        let at = wrapping_add_usize(offer.at, i * PARTITION_BYTES);
+        let id = offer.ids[i];
+        fields[i] = partition_at(offers, at, id);
+        i += 1;
+    }
+    fields
+}
+
+// id; fields
+pub fn spec_offer(offer: SpecOffer, offers: &[u8]) -> Card {
+    let list = List::of_partitions(partitions(offer, offers), offer.count);
+    Card::of_number(wide(offer.spec_id.0)).with_list(list)
 }

@@ -11,6 +11,8 @@ use records::capacities::SCHEMA_FIELDS;
 use records::capacities::SORT_FIELDS;
 use records::metadata::MetadataLogEntry;
 use records::metadata::SingleFields;
+use records::partition::PartitionSpec;
+use records::partition::SpecIds;
 use records::reference::NamedRef;
 use records::reference::SnapshotReference;
 use records::schema::Schema;
@@ -140,6 +142,19 @@ pub fn schema_ids(ids: SchemaIds) -> List {
     List::of_numbers(IDS, numbers, REMOVALS, count)
 }
 
+pub fn spec_ids(ids: SpecIds) -> List {
+    let mut numbers = [0i64; SCHEMA_FIELDS];
+    let count = ids.count;
+    let n = with_slots(count, REMOVALS);
+    let mut i = 0;
+    while i < n {
+        let id = ids.items[i];
+        numbers[i] = wide(id.0);
+        i += 1;
+    }
+    List::of_numbers(IDS, numbers, REMOVALS, count)
+}
+
 // id; fields
 pub fn schema(schema: Schema) -> Card {
     let fields = schema.items;
@@ -166,6 +181,12 @@ fn sort_fields(order: SortOrder) -> List {
 // id; fields
 pub fn sort_order(order: SortOrder) -> Card {
     Card::of_number(order.order_id.0).with_list(sort_fields(order))
+}
+
+// id; fields
+pub fn partition_spec(spec: PartitionSpec) -> Card {
+    let fields = spec.items;
+    Card::of_number(wide(spec.spec_id.0)).with_list(List::of_partitions(fields, spec.count))
 }
 
 // version; uuid

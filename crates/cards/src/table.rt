@@ -1,13 +1,16 @@
 // The tables of metadata by their numbers, and the card of an element. Past the slots it is that of the last.
 use crate::card::Card;
+use crate::card::wide;
 use crate::record::file;
 use crate::record::log_entry;
 use crate::record::named_ref;
+use crate::record::partition_spec;
 use crate::record::schema;
 use crate::record::snapshot;
 use crate::record::sort_order;
 use crate::record::statistics_file;
 use records::capacities::METADATA_LOG;
+use records::capacities::PARTITION_SPECS;
 use records::capacities::REFS;
 use records::capacities::SCHEMAS;
 use records::capacities::SNAPSHOT_LOG;
@@ -15,7 +18,9 @@ use records::capacities::SNAPSHOTS;
 use records::capacities::SORT_ORDERS;
 use records::capacities::STATISTICS;
 use records::metadata::MetadataLog;
+use records::metadata::SingleFields;
 use records::metadata::TableMetadata;
+use records::partition::PartitionSpecs;
 use records::reference::Refs;
 use records::schema::Schemas;
 use records::snapshot::SnapshotLog;
@@ -40,10 +45,12 @@ pub const OF_STATISTICS: usize = 6;
 
 pub const OF_PARTITION_STATISTICS: usize = 7;
 
-pub const TABLES: usize = 8;
+pub const OF_PARTITION_SPECS: usize = 8;
+
+pub const TABLES: usize = 9;
 
 // The schemas once more, for whoever writes their fields with names and types.
-pub const OF_NAMED_SCHEMAS: usize = 8;
+pub const OF_NAMED_SCHEMAS: usize = 9;
 
 fn snapshot_at(table: Snapshots, i: usize) -> Card {
     let at = with_slots(i, SNAPSHOTS - 1);
@@ -87,6 +94,12 @@ fn statistics_at(table: StatisticsFiles, i: usize) -> Card {
     statistics_file(f)
 }
 
+fn spec_at(table: PartitionSpecs, i: usize) -> Card {
+    let at = with_slots(i, PARTITION_SPECS - 1);
+    let spec = table.items[at];
+    partition_spec(spec)
+}
+
 pub fn card_at(metadata: TableMetadata, table: usize, i: usize) -> Card {
     match table {
         OF_SNAPSHOTS => snapshot_at(metadata.snapshots, i),
@@ -96,7 +109,8 @@ pub fn card_at(metadata: TableMetadata, table: usize, i: usize) -> Card {
         OF_SCHEMAS | OF_NAMED_SCHEMAS => schema_at(metadata.schemas, i),
         OF_SORT_ORDERS => sort_order_at(metadata.sort_orders, i),
         OF_STATISTICS => statistics_at(metadata.statistics, i),
-        _ => statistics_at(metadata.partition_statistics, i),
+        OF_PARTITION_STATISTICS => statistics_at(metadata.partition_statistics, i),
+        _ => spec_at(metadata.partition_specs, i),
     }
 }
 
@@ -109,7 +123,8 @@ pub fn count_of(metadata: TableMetadata, table: usize) -> usize {
         OF_SCHEMAS | OF_NAMED_SCHEMAS => metadata.schemas.count,
         OF_SORT_ORDERS => metadata.sort_orders.count,
         OF_STATISTICS => metadata.statistics.count,
-        _ => metadata.partition_statistics.count,
+        OF_PARTITION_STATISTICS => metadata.partition_statistics.count,
+        _ => metadata.partition_specs.count,
     }
 }
 
@@ -121,7 +136,29 @@ pub fn slots_of(table: usize) -> usize {
         OF_FILES => METADATA_LOG,
         OF_SCHEMAS | OF_NAMED_SCHEMAS => SCHEMAS,
         OF_SORT_ORDERS => SORT_ORDERS,
+        OF_PARTITION_SPECS => PARTITION_SPECS,
         _ => STATISTICS,
+    }
+}
+
+// What metadata has beside a table: the current schema; the default sort order; the default spec and the last partition id.
+pub fn chosen_of(fields: SingleFields, table: usize) -> Card {
+    match table {
+        OF_SCHEMAS => Card::of_number(wide(fields.current_schema_id.0)),
+        OF_SORT_ORDERS => Card::of_number(fields.default_sort_order_id.0),
+        _ => Card::of_numbers(
+            [
+                wide(fields.default_spec_id.0),
+                wide(fields.last_partition_id.0),
+                0,
+                0,
+                0,
+                0,
+                0,
+                0,
+            ],
+            [0, 0],
+        ),
     }
 }
 

@@ -3,6 +3,7 @@ use crate::card::Card;
 use crate::card::text_of;
 use crate::card::wide;
 use crate::offer::schema_offer;
+use crate::offer::spec_offer;
 use crate::record::chosen;
 use crate::record::location;
 use crate::record::name_text;
@@ -11,13 +12,16 @@ use crate::record::schema_ids;
 use crate::record::snapshot;
 use crate::record::snapshot_ids;
 use crate::record::sort_order;
+use crate::record::spec_ids;
 use crate::record::statistics_file;
 use records::capacities::UPDATES;
 use records::part::FieldsPart;
+use records::update::ADD_PARTITION_SPEC;
 use records::update::ADD_SCHEMA;
 use records::update::ADD_SNAPSHOT;
 use records::update::ADD_SORT_ORDER;
 use records::update::ASSIGN_UUID;
+use records::update::REMOVE_PARTITION_SPECS;
 use records::update::REMOVE_PARTITION_STATISTICS;
 use records::update::REMOVE_REF;
 use records::update::REMOVE_SCHEMAS;
@@ -25,6 +29,7 @@ use records::update::REMOVE_SNAPSHOTS;
 use records::update::REMOVE_STATISTICS;
 use records::update::SET_BRANCH_SNAPSHOT;
 use records::update::SET_CURRENT_SCHEMA;
+use records::update::SET_DEFAULT_PARTITION_SPEC;
 use records::update::SET_DEFAULT_SORT_ORDER;
 use records::update::SET_LOCATION;
 use records::update::SET_PARTITION_STATISTICS;
@@ -58,7 +63,7 @@ fn early(u: TableUpdate) -> Card {
     }
 }
 
-// Kinds 7 to 17.
+// Kinds 7 to 20.
 fn late(u: TableUpdate, offers: &[u8]) -> Card {
     let kind = u.kind;
     match kind {
@@ -71,6 +76,9 @@ fn late(u: TableUpdate, offers: &[u8]) -> Card {
         SET_DEFAULT_SORT_ORDER => chosen(u.sort_orders.chosen.0),
         SET_STATISTICS | SET_PARTITION_STATISTICS => statistics_file(u.statistics.file),
         REMOVE_STATISTICS | REMOVE_PARTITION_STATISTICS => Card::of_number(u.statistics.removed.0),
+        ADD_PARTITION_SPEC => spec_offer(u.partition_specs.added, offers),
+        SET_DEFAULT_PARTITION_SPEC => chosen(wide(u.partition_specs.chosen.0)),
+        REMOVE_PARTITION_SPECS => Card::of_number(0).with_list(spec_ids(u.partition_specs.removed)),
         _ => Card::of_number(kind as i64),
     }
 }

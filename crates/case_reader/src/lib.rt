@@ -8,6 +8,7 @@ pub mod limit_text;
 pub mod metadata;
 pub mod more;
 pub mod offer;
+pub mod partition;
 pub mod reference;
 pub mod run;
 pub mod schema;

@@ -1,4 +1,5 @@
 // Metadata and its log.
+use crate::partition::unpartitioned;
 use crate::reference::read_refs;
 use crate::schema::read_schemas;
 use crate::snapshot::read_snapshot_log;
@@ -7,6 +8,7 @@ use crate::sort_order::read_sort_orders;
 use crate::text::read_file_name;
 use crate::text::read_location;
 use crate::text::read_uuid;
+use cards::partition::UNPARTITIONED_LAST_ASSIGNED_ID;
 use records::capacities::METADATA_LOG;
 use records::counters::FieldId;
 use records::counters::RowId;
@@ -14,6 +16,7 @@ use records::counters::SchemaId;
 use records::counters::SequenceNumber;
 use records::counters::SnapshotId;
 use records::counters::SortOrderId;
+use records::counters::SpecId;
 use records::counters::Time;
 use records::metadata::MetadataLog;
 use records::metadata::MetadataLogEntry;
@@ -56,7 +59,7 @@ fn read_metadata_log(input: &mut Input, place: &mut Place) -> MetadataLog {
 }
 
 // The single fields between the version and the tables. The ids of the current schema and the default order come after their tables, and
-// are 0 here.
+// are 0 here. What goes with the partition specs stands elsewhere, and is the usual here.
 fn read_fields(format_version: u8, input: &mut Input, place: &mut Place) -> SingleFields {
     let table_uuid = read_uuid(input, place);
     let location = read_location(input, place);
@@ -78,10 +81,13 @@ fn read_fields(format_version: u8, input: &mut Input, place: &mut Place) -> Sing
         current_snapshot_id: SnapshotId(current_snapshot_id),
         current_schema_id: SchemaId(0),
         default_sort_order_id: SortOrderId(0),
+        default_spec_id: SpecId(0),
+        last_partition_id: FieldId(UNPARTITIONED_LAST_ASSIGNED_ID),
     }
 }
 
-// Metadata of this format version, which is read already. The tables of statistics files stand elsewhere, and are empty here.
+// Metadata of this format version, which is read already. The tables of statistics files and of partition specs stand elsewhere: here the first
+// are empty, and the other is the usual one.
 pub fn read_metadata_of(version: u8, input: &mut Input, place: &mut Place) -> TableMetadata {
     let mut fields = read_fields(version, input, place);
     let snapshots = read_snapshots(input, place);
@@ -94,6 +100,7 @@ pub fn read_metadata_of(version: u8, input: &mut Input, place: &mut Place) -> Ta
     let default_sort_order_id = SortOrderId(read_i64(input, place));
     let statistics = StatisticsFiles::blank();
     let partition_statistics = StatisticsFiles::blank();
+    let partition_specs = unpartitioned();
     fields.current_schema_id = current_schema_id;
     fields.default_sort_order_id = default_sort_order_id;
     TableMetadata {
@@ -106,6 +113,7 @@ pub fn read_metadata_of(version: u8, input: &mut Input, place: &mut Place) -> Ta
         sort_orders,
         statistics,
         partition_statistics,
+        partition_specs,
     }
 }
 

@@ -1,13 +1,22 @@
-// What an update offers, as bytes that are lent to a run: the fields of a schema stand one after the other, from a place on that is the update's own.
+// What an update offers, as bytes that are lent to a run: the fields of a schema or of a partition spec stand one after the other, from a place on that
+// is the update's own.
+use crate::partition::read_partition_field;
 use crate::schema::read_field;
 use cards::card::wide;
 use records::capacities::FIELD_BYTES;
 use records::capacities::NAME;
+use records::capacities::PARTITION_BYTES;
+use records::capacities::PARTITION_FIELDS;
 use records::capacities::SCHEMA_FIELDS;
 use records::capacities::UPDATES;
+use records::counters::FieldId;
 use records::counters::SchemaId;
+use records::counters::SpecId;
+use records::partition::PartitionField;
+use records::partition::SpecOffer;
 use records::schema::SchemaField;
 use records::schema::SchemaOffer;
+use records::text::Name;
 use slot_bounds::store_byte;
 use slot_bounds::with_slots;
 use std::num::wrapping_add_usize;
@@ -24,40 +33,64 @@ pub fn place_of(update: usize) -> usize {
     with_slots(update, UPDATES) * (SCHEMA_FIELDS * FIELD_BYTES)
 }
 
-// The number of an id, where one below 0 is what it lacks to 2^32: no field has such an id.
-fn number_of(id: i32) -> u64 {
-    let magnitude = absolute(wide(id));
-    if id < 0 {
+// A number below 0 is told by what it lacks to 2^32: no field has such an id, and no bucket such a number.
+fn number_of(signed: i32) -> u64 {
+    let magnitude = absolute(wide(signed));
+    if signed < 0 {
         return wrapping_sub_u64(4294967296, magnitude);
     }
     magnitude
 }
 
-// One of the bytes in which a field is offered: four of its id, the lowest first, one of its type, one of its name's length, the name. A length that has no
-// byte of its own stays above that of any name.
-fn byte_of(field: SchemaField, at: usize) -> u8 {
-    let number = number_of(field.id.0);
-    let name = field.name;
-    match at {
-        0 => (number % 256) as u8,
-        1 => (number / 256 % 256) as u8,
-        2 => (number / 65536 % 256) as u8,
-        3 => (number / 16777216 % 256) as u8,
-        4 => field.field_type,
-        5 => with_slots(name.len, 255) as u8,
-        _ => name.bytes[with_slots(at - 6, NAME - 1)],
+// Four bytes, the lowest first.
+fn put_number(offers: &mut [u8], at: usize, signed: i32) {
+    let number = number_of(signed);
+    store_byte(offers, at, (number % 256) as u8);
+    store_byte(
+        offers,
+        wrapping_add_usize(at, 1),
+        (number / 256 % 256) as u8,
+    );
+    store_byte(
+        offers,
+        wrapping_add_usize(at, 2),
+        (number / 65536 % 256) as u8,
+    );
+    store_byte(
+        offers,
+        wrapping_add_usize(at, 3),
+        (number / 16777216 % 256) as u8,
+    );
+}
+
+// One byte of its length, the name. A length that has no byte of its own stays above that of any name.
+fn put_name(offers: &mut [u8], at: usize, name: Name) {
+    store_byte(offers, at, with_slots(name.len, 255) as u8);
+    let mut i = 0;
+    while i < NAME {
+        store_byte(offers, wrapping_add_usize(at, 1 + i), name.bytes[i]);
+        i += 1;
     }
 }
 
-// A field past the last slot is read and not kept.
+// Its id, its type, its name. A field past the last slot is read and not kept.
 fn put_field(offers: &mut [u8], from: usize, i: usize, field: SchemaField) {
     if i < SCHEMA_FIELDS {
-        let mut at = 0;
-        while at < FIELD_BYTES {
-            let place = wrapping_add_usize(from, i * FIELD_BYTES + at);
-            store_byte(offers, place, byte_of(field, at));
-            at += 1;
-        }
+        let at = wrapping_add_usize(from, i * FIELD_BYTES);
+        put_number(offers, at, field.id.0);
+        store_byte(offers, wrapping_add_usize(at, 4), field.field_type);
+        put_name(offers, wrapping_add_usize(at, 5), field.name);
+    }
+}
+
+// Its source's id, its transform, the number of its buckets, its name; its own id stands in the update. A field past the last slot is read and not kept.
+fn put_partition_field(offers: &mut [u8], from: usize, i: usize, field: PartitionField) {
+    if i < PARTITION_FIELDS {
+        let at = wrapping_add_usize(from, i * PARTITION_BYTES);
+        put_number(offers, at, field.source_id.0);
+        store_byte(offers, wrapping_add_usize(at, 4), field.transform);
+        put_number(offers, wrapping_add_usize(at, 5), field.buckets.0);
+        put_name(offers, wrapping_add_usize(at, 9), field.name);
     }
 }
 
@@ -81,4 +114,39 @@ pub fn read_schema_offer(
         at,
         count,
     }
+}
+
+// The id of a field in its update, where 0 says that it leaves it out. What an update can not say, an id of 0 behind a flag or another one without a flag,
+// is read as -1: no field has that id, so the update is not well formed, as the field is not.
+fn id_of(field: PartitionField) -> FieldId {
+    let id = field.field_id;
+    if field.has_id == (id.0 != 0) {
+        return id;
+    }
+    FieldId(-1)
+}
+
+pub fn read_spec_offer(
+    input: &mut Input,
+    place: &mut Place,
+    offers: &mut [u8],
+    at: usize,
+) -> SpecOffer {
+    let mut offer = SpecOffer::blank();
+    let id = SpecId(read_i32(input, place));
+    let count = read_count(input, place);
+    let mut i = 0;
+    while i < count && is_good(place) {
+        let field = read_partition_field(input, place);
+        put_partition_field(offers, at, i, field);
+        let slot = i;
+        i += 1;
+        if slot < PARTITION_FIELDS {
+            offer.ids[slot] = id_of(field);
+        }
+    }
+    offer.spec_id = id;
+    offer.at = at;
+    offer.count = count;
+    offer
 }

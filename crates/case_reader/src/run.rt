@@ -5,8 +5,14 @@ use crate::limit_text::read_limit_text;
 use crate::metadata::read_metadata;
 use crate::metadata::read_metadata_of;
 use crate::more::Given;
-use crate::more::More;
-use crate::more::read_more;
+use crate::more::PARTITION_SPECS;
+use crate::more::PARTITION_STATISTICS;
+use crate::more::SCHEMAS;
+use crate::more::STATISTICS;
+use crate::more::TOLERANCE;
+use crate::more::read_tag;
+use crate::partition::read_spec_fields;
+use crate::partition::read_specs;
 use crate::schema::read_schemas;
 use crate::statistics::read_statistics;
 use crate::text::read_file_name;
@@ -14,16 +20,18 @@ use crate::update::read_updates;
 use records::counters::Age;
 use records::counters::Time;
 use records::metadata::TableMetadata;
+use records::run::DEFAULT_TOLERANCE_MS;
 use records::run::RunTerms;
-use records::schema::Schemas;
 use records::text::Text;
 use records::update::UpdateList;
+use tokens::field::read_count;
 use tokens::field::read_flag;
 use tokens::field::read_i64;
 use tokens::field::read_u8;
 use tokens::input::Input;
 use tokens::input::Place;
 use tokens::input::is_first;
+use tokens::input::is_good;
 use tokens::input::spoil;
 use tokens::wanted;
 
@@ -63,7 +71,7 @@ pub fn read_first_of_run(input: &mut Input, place: &mut Place) -> u64 {
     0
 }
 
-// The clock, a flag, and the file's name if it is set. The tolerance comes after the updates, and is 0 here.
+// The clock, a flag, and the file's name if it is set. The tolerance comes after the updates, and is the usual one here.
 fn read_terms(input: &mut Input, place: &mut Place) -> RunTerms {
     let clock_ms = Time(read_i64(input, place));
     let has_file = read_flag(input, place);
@@ -73,18 +81,18 @@ fn read_terms(input: &mut Input, place: &mut Place) -> RunTerms {
     }
     RunTerms {
         clock_ms,
-        tolerance_ms: Age(0),
+        tolerance_ms: Age(DEFAULT_TOLERANCE_MS),
         has_file,
         file,
     }
 }
 
-fn read_more_of(first: u64, schemas: Schemas, input: &mut Input, place: &mut Place) -> More {
-    let none = More::none(schemas);
+// How many tags a run has after its updates.
+fn read_count_of_tags(first: u64, input: &mut Input, place: &mut Place) -> usize {
     if first == RUN_GIVEN_MORE {
-        return read_more(none, input, place);
+        return read_count(input, place);
     }
-    none
+    0
 }
 
 fn read_version(first: u64, input: &mut Input, place: &mut Place) -> u8 {
@@ -95,24 +103,39 @@ fn read_version(first: u64, input: &mut Input, place: &mut Place) -> u8 {
     }
 }
 
-// The run that starts with this number, which is read already.
-// What its updates offer is put among the offers.
+// The run that starts with this number, which is read already. What its updates offer is put among the offers. What is given after them stands in
+// place of what the metadata has; an unknown tag has no value. The tags are gone through here, where the metadata stands, so that less stack is needed.
 pub fn read_run(first: u64, input: &mut Input, place: &mut Place, offers: &mut [u8]) -> Run {
     let version = read_version(first, input, place);
     let mut metadata = read_metadata_of(version, input, place);
     let mut terms = read_terms(input, place);
     let limit = read_limit_text(input, place);
     let updates = read_updates(input, place, offers);
-    let more = read_more_of(first, metadata.schemas, input, place);
-    let tolerance_ms = more.tolerance_ms;
-    let statistics = more.statistics;
-    let partition_statistics = more.partition_statistics;
-    let schemas = more.schemas;
-    let given = more.given;
-    terms.tolerance_ms = tolerance_ms;
-    metadata.statistics = statistics;
-    metadata.partition_statistics = partition_statistics;
-    metadata.schemas = schemas;
+    let count = read_count_of_tags(first, input, place);
+    let mut given = Given::none();
+    let mut last: u64 = 0;
+    let mut i = 0;
+    while i < count && is_good(place) {
+        last = read_tag(last, input, place);
+        match last {
+            TOLERANCE => {
+                let tolerance_ms = Age(read_i64(input, place));
+                terms.tolerance_ms = tolerance_ms;
+            }
+            STATISTICS => metadata.statistics = read_statistics(input, place),
+            PARTITION_STATISTICS => {
+                metadata.partition_statistics = read_statistics(input, place);
+            }
+            SCHEMAS => metadata.schemas = read_schemas(true, input, place),
+            PARTITION_SPECS => {
+                metadata.partition_specs = read_specs(input, place);
+                metadata.fields = read_spec_fields(metadata.fields, input, place);
+            }
+            _ => {}
+        }
+        given = given.with(last);
+        i += 1;
+    }
     Run {
         metadata,
         terms,
@@ -133,6 +156,10 @@ pub fn read_ending(given: Given, input: &mut Input, place: &mut Place) -> TableM
     }
     if given.schemas {
         ending.schemas = read_schemas(true, input, place);
+    }
+    if given.partition_specs {
+        ending.partition_specs = read_specs(input, place);
+        ending.fields = read_spec_fields(ending.fields, input, place);
     }
     ending
 }

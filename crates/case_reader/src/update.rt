@@ -1,6 +1,8 @@
 // Updates: a kind, then what that kind uses. Nothing follows an unknown kind.
 use crate::offer::place_of;
 use crate::offer::read_schema_offer;
+use crate::offer::read_spec_offer;
+use crate::partition::read_spec_ids;
 use crate::reference::read_reference;
 use crate::schema::read_schema_ids;
 use crate::snapshot::read_snapshot;
@@ -15,10 +17,13 @@ use records::capacities::UPDATES;
 use records::counters::SchemaId;
 use records::counters::SnapshotId;
 use records::counters::SortOrderId;
+use records::counters::SpecId;
+use records::update::ADD_PARTITION_SPEC;
 use records::update::ADD_SCHEMA;
 use records::update::ADD_SNAPSHOT;
 use records::update::ADD_SORT_ORDER;
 use records::update::ASSIGN_UUID;
+use records::update::REMOVE_PARTITION_SPECS;
 use records::update::REMOVE_PARTITION_STATISTICS;
 use records::update::REMOVE_REF;
 use records::update::REMOVE_SCHEMAS;
@@ -26,6 +31,7 @@ use records::update::REMOVE_SNAPSHOTS;
 use records::update::REMOVE_STATISTICS;
 use records::update::SET_BRANCH_SNAPSHOT;
 use records::update::SET_CURRENT_SCHEMA;
+use records::update::SET_DEFAULT_PARTITION_SPEC;
 use records::update::SET_DEFAULT_SORT_ORDER;
 use records::update::SET_LOCATION;
 use records::update::SET_PARTITION_STATISTICS;
@@ -101,11 +107,12 @@ fn read_late_kind(kind: u8, input: &mut Input, place: &mut Place) -> TableUpdate
     u
 }
 
-// Kinds 14 to 17.
-fn read_statistics_kind(kind: u8, input: &mut Input, place: &mut Place) -> TableUpdate {
+// Kinds 14 to 20, but for 18.
+fn read_last_kind(kind: u8, input: &mut Input, place: &mut Place) -> TableUpdate {
     let mut u = TableUpdate::blank();
     u.kind = kind;
     let mut statistics = u.statistics;
+    let mut specs = u.partition_specs;
     match kind {
         SET_STATISTICS | SET_PARTITION_STATISTICS => {
             statistics.file = read_statistics_file(input, place);
@@ -114,14 +121,20 @@ fn read_statistics_kind(kind: u8, input: &mut Input, place: &mut Place) -> Table
             let id = SnapshotId(read_i64(input, place));
             statistics.removed = id;
         }
+        SET_DEFAULT_PARTITION_SPEC => {
+            let id = SpecId(read_i32(input, place));
+            specs.chosen = id;
+        }
+        REMOVE_PARTITION_SPECS => specs.removed = read_spec_ids(input, place),
         _ => {}
     }
     u.statistics = statistics;
+    u.partition_specs = specs;
     u
 }
 
 // Kinds 9 and 21, which are one update. What it offers is put among the offers, from a place of its own on.
-fn read_offering(
+fn read_added_schema(
     is_named: bool,
     input: &mut Input,
     place: &mut Place,
@@ -136,11 +149,29 @@ fn read_offering(
     u
 }
 
+// Kind 18, likewise.
+fn read_added_spec(
+    input: &mut Input,
+    place: &mut Place,
+    offers: &mut [u8],
+    at: usize,
+) -> TableUpdate {
+    let mut u = TableUpdate::blank();
+    u.kind = ADD_PARTITION_SPEC;
+    let mut specs = u.partition_specs;
+    specs.added = read_spec_offer(input, place, offers, at);
+    u.partition_specs = specs;
+    u
+}
+
 fn read_update(input: &mut Input, place: &mut Place, offers: &mut [u8], at: usize) -> TableUpdate {
     let kind = read_u8(input, place);
     let is_named = kind == ADD_NAMED_SCHEMA;
     if is_named || kind == ADD_SCHEMA {
-        return read_offering(is_named, input, place, offers, at);
+        return read_added_schema(is_named, input, place, offers, at);
+    }
+    if kind == ADD_PARTITION_SPEC {
+        return read_added_spec(input, place, offers, at);
     }
     if kind < SET_REF {
         return read_early_kind(kind, input, place);
@@ -148,7 +179,7 @@ fn read_update(input: &mut Input, place: &mut Place, offers: &mut [u8], at: usiz
     if kind < SET_STATISTICS {
         return read_late_kind(kind, input, place);
     }
-    read_statistics_kind(kind, input, place)
+    read_last_kind(kind, input, place)
 }
 
 pub fn read_updates(input: &mut Input, place: &mut Place, offers: &mut [u8]) -> UpdateList {

@@ -1,4 +1,4 @@
-// Metadata: its single fields and its tables. The tables of statistics files are not among them.
+// Metadata: its single fields and its tables. The tables of statistics files and that of partition specs are not among them.
 use crate::layout::put_card;
 use crate::table::put_tables;
 use cards::record::identity;

@@ -1,5 +1,5 @@
 // Updates: a kind, then what that kind uses. Nothing follows an unknown kind.
-use crate::layout::put_card;
+use crate::layout::put_record;
 use cards::card::Card;
 use cards::update::ADD_NAMED_SCHEMA;
 use cards::update::update;
@@ -19,7 +19,7 @@ fn written_kind(kind: u8, is_named: bool) -> u8 {
     kind
 }
 
-// A line for each kind, in the order of their numbers; those of 0, 18, 19 and 20 and those past the last are empty.
+// A line for each kind, in the order of their numbers; that of 0 and those past the last are empty.
 fn put_update(output: &mut Output, end: &mut usize, is_named: bool, card: Card) {
     let layouts = b"\n\
         $\n\
@@ -27,22 +27,25 @@ fn put_update(output: &mut Output, end: &mut usize, is_named: bool, card: Card) 
         L$\n\
         abcdefAB\n\
         L$abcdefAB\n\
-        N*\n\
+        N\n\
         L$abcdefgh\n\
         L$\n\
-        aN*\n\
+        aN\n\
         a\n\
-        N*\n\
-        aN*\n\
+        N\n\
+        aN\n\
+        a\n\
+        aL$b\n\
         a\n\
         aL$b\n\
         a\n\
-        aL$b\n\
-        a\n\n\n\n\
-        aN&\n";
+        aN\n\
+        a\n\
+        N\n\
+        aN\n";
     let kind = written_kind(card.kind, is_named);
     put_u8(output, end, kind);
-    put_card(output, end, layouts, kind as usize, card);
+    put_record(output, end, layouts, kind as usize, is_named, card);
 }
 
 pub fn put_updates(

@@ -8,11 +8,12 @@ use lib.IntN.{ℤ}
 use Rattle.records.specs.declared.metadata.SingleFields.{SingleFields}
 use Rattle.records.specs.declared.snapshot.SnapshotLog.{SnapshotLog}
 use Rattle.rules.specs.Words.{eqZ, ifSome, someWith, any, keep, collect, first, isIn, isEmpty, afterLast}
-use Rattle.rules.specs.Register.{LogEntry, Schema, SortField, SortOrder, Metadata, Update}
-use Rattle.rules.specs.WellFormed.{hasSchema, hasOrder, fieldIds}
+use Rattle.rules.specs.Register.{LogEntry, SchemaField, Schema, SortField, SortOrder, PartitionSpec, Metadata, Update}
+use Rattle.rules.specs.WellFormed.{hasSchema, hasOrder, hasSpec, fieldIds}
 use Rattle.rules.specs.ChangeLog.{addition, logsAddition, logsMain, logsRemoval}
 use Rattle.rules.specs.Layout.{readFields, readSnapshotLog, laidSnapshotLog}
-use Rattle.rules.specs.Close.{intermediates, isRebuilt, isMissing, isIntermediate, rebuilt, history, endsAt, endsElsewhere, isDefaultUnfit}
+use Rattle.rules.specs.Close.{intermediates, isRebuilt, isMissing, isIntermediate, rebuilt, history, endsAt, endsElsewhere, isDefaultClashing, isDefaultMisfit, isDefaultUnfit}
+use Rattle.rules.specs.SpecUpdates.{isClashing, isMisfit, isHeldMisfit}
 use Rattle.rules.proofs.Replay.Lists.{any-collect}
 use Rattle.rules.proofs.Slots.Reread.{reread-snapshot-log}
 use Rattle.close.specs.Facts.{additions, intermediatesOf, isGone, isStaying, Told}
@@ -94,3 +95,16 @@ unfit-is p s o e k = sym (λ i. someWith (λ (o : SortOrder). any (λ (f : SortF
   where
     ids : Option Schema → List ℤ
     ids o = elim o [ none ↦ [] | some s ↦ fieldIds s ]
+
+-- the schema and the spec that are found
+module _ (p : Metadata) (s : Schema) (x : PartitionSpec) (e : first (hasSchema (p .fields .currentSchema)) (p .schemas) ≡ some s) (k : first (hasSpec (p .fields .defaultSpec)) (p .specs) ≡ some x) where
+  abbrev columns : Option Schema → List SchemaField
+  columns o = elim o [ none ↦ [] | some s ↦ s .fields ]
+
+  pub clashing-is : isClashing (s .fields) x ≡ isDefaultClashing p
+  unfolding isDefaultClashing
+  clashing-is = sym (λ i. someWith (isClashing (columns (e i))) (k i))
+
+  pub misfit-is : isMisfit (s .fields) x ≡ isDefaultMisfit p
+  unfolding isDefaultMisfit isHeldMisfit
+  misfit-is = sym (λ i. someWith (isMisfit (columns (e i))) (k i))

@@ -4,5 +4,6 @@ mod Ids
 pub mod Scans
 mod Parts
 mod Logs
+mod Moved
 pub mod Join
 pub mod Facts

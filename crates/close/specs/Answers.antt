@@ -9,10 +9,11 @@ use Rattle.records.specs.declared.metadata.SingleFields.{SingleFields}
 use Rattle.records.specs.declared.reference.Refs.{Refs}
 use Rattle.records.specs.declared.schema.Schema.{Schema}
 use Rattle.records.specs.declared.«sort_order».SortOrders.{SortOrders}
+use Rattle.records.specs.declared.partition.PartitionSpecs.{PartitionSpecs}
 use Rattle.records.specs.declared.run.RunTerms.{RunTerms}
 use Rattle.rules.specs.Words.{ifSome}
 use Rattle.rules.specs.Register.{LogEntry, FileEntry, Metadata, Update}
-use Rattle.rules.specs.Layout.{readFields, readRefs, readSortOrders, laidSnapshotLog, readText}
+use Rattle.rules.specs.Layout.{readFields, readRefs, readSortOrders, readPartitionSpecs, laidSnapshotLog, readText}
 use Rattle.rules.specs.Close.{isRebuilt, history, endsAt}
 use Rattle.builder.specs.Pieces.{IsCurrent}
 use Rattle.close.specs.declared.history.History.{History}
@@ -27,11 +28,12 @@ abbrev pub endsOff : Bool → List LogEntry → Option ℤ → Bool
 endsOff rebuilt log current = rebuilt && not (ifSome (λ id. endsAt id log) current)
 
 -- metadata as the close is handed it
-pub record Handed (p : Metadata) (f : SingleFields) (refs : Refs) (schema : Schema) (orders : SortOrders) : Type 0 where
+pub record Handed (p : Metadata) (f : SingleFields) (refs : Refs) (schema : Schema) (orders : SortOrders) (specs : PartitionSpecs) : Type 0 where
   pub single : readFields f ≡ p .fields
   pub named : readRefs refs ≡ p .refs
   pub current : IsCurrent p schema
   pub sorts : readSortOrders orders ≡ p .orders
+  pub partitions : readPartitionSpecs specs ≡ p .specs
 
 -- the entry that joins the metadata log, if one does
 abbrev pub joining : RunTerms → Time → List FileEntry

@@ -58,6 +58,27 @@ pub fn part(log: MetadataLog, from: usize, until: usize) -> MetadataLog
     r
 }
 
+// The entries from a place on, moved to the front of the same log: a second log would be blanked first, and copied.
+fn moved(mut log: MetadataLog, gone: usize) -> MetadataLog
+    requires { ⌜ LaidMetadataLog log ⌝ }
+    requires { ⌜ gone ≤ log .count ⌝ }
+    ensures { λ r. ⌜ r ≡ laidMetadataLog (drop gone (readMetadataLog log)) ⌝ }
+{
+    let n = log.count;
+    let left = n - gone;
+    let mut i = 0;
+    while i < n {
+        let mut e = MetadataLogEntry::blank();
+        if i < left {
+            e = log.items[i + gone];
+        }
+        log.items[i] = e;
+        i += 1;
+    }
+    log.count = left;
+    log
+}
+
 // The entries that are left once the oldest are gone, and the current file's with the old last update, if one is given.
 pub fn staying(mut log: MetadataLog, gone: usize, terms: RunTerms, old: Time) -> MetadataLog
     requires { ⌜ LaidMetadataLog log ⌝ }
@@ -65,11 +86,10 @@ pub fn staying(mut log: MetadataLog, gone: usize, terms: RunTerms, old: Time) ->
     requires { ⌜ (terms .«has_file» ≡ true → (log .count - gone < 128) × (terms .file .len ≤ 96)) ⌝ }
     ensures { λ r. ⌜ r ≡ laidMetadataLog (drop gone (readMetadataLog log) ++ joining terms old) ⌝ }
 {
-    let n = log.count;
     let joins = terms.has_file;
     let file = terms.file;
     if gone > 0 {
-        log = part(log, gone, n);
+        log = moved(log, gone);
     }
     if !joins {
         return log;

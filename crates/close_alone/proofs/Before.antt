@@ -40,7 +40,7 @@ module _ (m : TableMetadata) (terms : RunTerms) (text : List ℕ) where
   asked = record { metadata = m; updates = noUpdates; terms = terms; lent = record { text = text; offers = [] } }
 
   abbrev pub builder : TableMetadataBuilder
-  builder = record { fields = m .fields; «has_own» = false; own = record { 0 = pos 0 }; «has_schema» = false; «last_added_schema_id» = record { 0 = pos 0 }; «has_order» = false; «last_added_order_id» = record { 0 = pos 0 } }
+  builder = record { fields = m .fields; «has_own» = false; own = record { 0 = pos 0 }; «has_schema» = false; «last_added_schema_id» = record { 0 = pos 0 }; «has_order» = false; «last_added_order_id» = record { 0 = pos 0 }; «has_spec» = false; «last_added_spec_id» = record { 0 = pos 0 } }
 
   abbrev pub ids : List ℤ
   ids = pad 64 (pos 0) (idsOf (readSnapshots (m .snapshots)))
@@ -51,7 +51,7 @@ module _ (m : TableMetadata) (terms : RunTerms) (text : List ℕ) where
   abbrev pub pieces : Pieces
   pieces =
       record {
-        held = record { builder = builder; snapshots = m .snapshots; ids = ids; refs = m .refs; log = m .«snapshot_log»; last = last; ownTables = record { schemas = record { table = m .schemas; keys = heldSchemas (readSchemas (m .schemas)) .keys }; orders = m .«sort_orders»; statistics = m .statistics; partitionStatistics = m .«partition_statistics» } };
+        held = record { builder = builder; snapshots = m .snapshots; ids = ids; refs = m .refs; log = m .«snapshot_log»; last = last; ownTables = record { schemas = record { table = m .schemas; keys = heldSchemas (readSchemas (m .schemas)) .keys }; orders = m .«sort_orders»; statistics = m .statistics; partitionStatistics = m .«partition_statistics»; specs = m .«partition_specs» } };
         changes = record { entries = pad 64 noUpdate (map laidUpdate removal); count = 1; added = pad 64 (pos 0) []; adds = 0; mainTargets = pad 64 (pos 0) []; mains = 0; removal = true };
       }
 

@@ -56,6 +56,7 @@ fn ended(
     let sort_orders = m.sort_orders;
     let statistics = m.statistics;
     let partition_statistics = m.partition_statistics;
+    let partition_specs = m.partition_specs;
     TableMetadata {
         fields,
         snapshots,
@@ -66,6 +67,7 @@ fn ended(
         sort_orders,
         statistics,
         partition_statistics,
+        partition_specs,
     }
 }
 
@@ -84,7 +86,15 @@ fn close_once(m: TableMetadata, ids: &[i64], none: &[i64], terms: RunTerms, text
     let gone = surplus(stored, terms.has_file, most);
     let overfull = is_overfull(stored, terms.has_file, gone);
     let schema = tables::schemas::get(m.schemas, first.current_schema_id);
-    let number = close_number(history, first, m.refs, schema, m.sort_orders, overfull);
+    let number = close_number(
+        history,
+        first,
+        m.refs,
+        schema,
+        m.sort_orders,
+        m.partition_specs,
+        overfull,
+    );
     if number != ACCEPTED {
         return unchanged(number, m);
     }

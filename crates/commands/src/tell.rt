@@ -1,5 +1,6 @@
 // What is written of a run that was wanted.
 use cards::table::OF_NAMED_SCHEMAS;
+use cards::table::OF_PARTITION_SPECS;
 use cards::table::OF_PARTITION_STATISTICS;
 use cards::table::OF_STATISTICS;
 use case_reader::more::Given;
@@ -26,6 +27,9 @@ pub fn put_answer_of(
     }
     if given.schemas {
         put_table(output, end, answer.metadata, OF_NAMED_SCHEMAS);
+    }
+    if given.partition_specs {
+        put_table(output, end, answer.metadata, OF_PARTITION_SPECS);
     }
     put_line_end(output, *end);
 }

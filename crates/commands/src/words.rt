@@ -66,6 +66,12 @@ pub fn read_tour(at: usize, line: &mut [u8]) -> usize
         cases named-schemas.case|\
         \nDoes a log that adds one lead there? Where a field has another name?|\
         replay named-log.case|\
+        \nA register that is partitioned by session year, in words|\
+        run partitions.case|\
+        \nThe same in numbers|\
+        cases partitions.case|\
+        \nDoes the log of the second run lead there? To a spec whose field has another name, to one spec more, to another default, to another last partition id?|\
+        replay partitions-log.case|\
         \nAll examples|\
         examples|\
         \nThe dates of some times|\

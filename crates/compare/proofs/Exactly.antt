@@ -10,7 +10,7 @@ use lib.ListN.{take}
 use Rattle.rules.specs.Words.{eqZ}
 use Rattle.rules.proofs.Orders.{Tells, numbers-told, names-told}
 use Rattle.rules.proofs.Checks.{parts as tests, both}
-use Rattle.equality.proofs.Told.{counts-told, flags-told, texts-told, snapshots-told, refs-told, log-entries-told, file-entries-told, schemas-told, sort-orders-told, statistics-files-told}
+use Rattle.equality.proofs.Told.{counts-told, flags-told, texts-told, snapshots-told, refs-told, log-entries-told, file-entries-told, schemas-told, sort-orders-told, statistics-files-told, partition-specs-told}
 use Rattle.records.specs.declared.metadata.TableMetadata.{TableMetadata}
 use Rattle.compare.specs.declared.difference.Difference.{Difference}
 use Rattle.compare.specs.First.{Part, place, inPart, first}
@@ -96,6 +96,9 @@ parts-told a b =
     and numbers-told
     and statistics-files-told
     and statistics-files-told
+    and partition-specs-told
+    and numbers-told
+    and numbers-told
     and tt
 
 only : {A : Type 0} {x y : A} → (x ∷ []) ≡ (y ∷ []) → x ≡ y
@@ -106,6 +109,7 @@ all-parts : (a b : TableMetadata) → AllEqual (parts a b) → a ≡ b
 unfolding parts
 all-parts a b e =
     let t = e .1 .1 .1 .1 .1 .1 .1 .1 in
+    let u = t .1 .1 .1 .1 .1 .1 .1 .1 .1 .1 in
     λ i. record {
       fields = record {
         «format_version» = only (e .0 .0) i;
@@ -119,6 +123,8 @@ all-parts a b e =
         «current_snapshot_id» = record { 0 = only (e .1 .1 .1 .1 .1 .1 .1 .0 .0) i .1 };
         «current_schema_id» = record { 0 = only (t .1 .1 .1 .1 .1 .0 .0) i };
         «default_sort_order_id» = record { 0 = only (t .1 .1 .1 .1 .1 .1 .1 .0 .0) i };
+        «default_spec_id» = record { 0 = only (u .1 .0 .0) i };
+        «last_partition_id» = record { 0 = only (u .1 .1 .0 .0) i };
       };
       snapshots = record { items = t .0 .0 i; count = t .0 .1 i };
       refs = record { items = t .1 .0 .0 i; count = t .1 .0 .1 i };
@@ -128,6 +134,7 @@ all-parts a b e =
       «sort_orders» = record { items = t .1 .1 .1 .1 .1 .1 .0 .0 i; count = t .1 .1 .1 .1 .1 .1 .0 .1 i };
       statistics = record { items = t .1 .1 .1 .1 .1 .1 .1 .1 .0 .0 i; count = t .1 .1 .1 .1 .1 .1 .1 .1 .0 .1 i };
       «partition_statistics» = record { items = t .1 .1 .1 .1 .1 .1 .1 .1 .1 .0 .0 i; count = t .1 .1 .1 .1 .1 .1 .1 .1 .1 .0 .1 i };
+      «partition_specs» = record { items = u .0 .0 i; count = u .0 .1 i };
     }
 
 unchanged : {A : Type 0} {xs : List A} {n : ℕ} → (xs ≡ xs) × (n ≡ n)
@@ -138,6 +145,7 @@ unfolding parts
 itself a =
     unchanged and unchanged and unchanged and unchanged and unchanged and unchanged and unchanged and unchanged
     and unchanged and unchanged and unchanged and unchanged and unchanged and unchanged and unchanged and unchanged and unchanged and unchanged
+    and unchanged and unchanged and unchanged
     and tt
 
 -- ---- the theorems

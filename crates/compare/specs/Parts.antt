@@ -6,7 +6,7 @@ use lib.IntN.{ℤ}
 use Rattle.rules.specs.Words.{eqZ, sameBytes}
 use Rattle.records.specs.declared.metadata.SingleFields.{SingleFields}
 use Rattle.records.specs.declared.metadata.TableMetadata.{TableMetadata}
-use Rattle.equality.specs.Same.{sameText, sameSnapshot, sameRef, sameLogEntry, sameFileEntry, sameSchema, sameSortOrder, sameStatisticsFile}
+use Rattle.equality.specs.Same.{sameText, sameSnapshot, sameRef, sameLogEntry, sameFileEntry, sameSchema, sameSortOrder, sameStatisticsFile, samePartitionSpec}
 use Rattle.compare.specs.declared.difference.Difference.{Difference}
 use Rattle.compare.specs.First.{Part, field, table, first}
 
@@ -40,6 +40,9 @@ tableParts a b =
     ∷ field eqZ (a .fields .«default_sort_order_id» .0) (b .fields .«default_sort_order_id» .0)
     ∷ table sameStatisticsFile (a .statistics .items) (b .statistics .items) (a .statistics .count) (b .statistics .count)
     ∷ table sameStatisticsFile (a .«partition_statistics» .items) (b .«partition_statistics» .items) (a .«partition_statistics» .count) (b .«partition_statistics» .count)
+    ∷ table samePartitionSpec (a .«partition_specs» .items) (b .«partition_specs» .items) (a .«partition_specs» .count) (b .«partition_specs» .count)
+    ∷ field eqZ (a .fields .«default_spec_id» .0) (b .fields .«default_spec_id» .0)
+    ∷ field eqZ (a .fields .«last_partition_id» .0) (b .fields .«last_partition_id» .0)
     ∷ []
 
 unfoldable pub parts : TableMetadata → TableMetadata → List Part

@@ -7,14 +7,17 @@ use crate::difference::Difference;
 use crate::difference::unless;
 use crate::fields::compare_fields;
 use crate::table::compare_metadata_log;
+use crate::table::compare_partition_specs;
 use crate::table::compare_refs;
 use crate::table::compare_schemas;
 use crate::table::compare_snapshot_log;
 use crate::table::compare_snapshots;
 use crate::table::compare_sort_orders;
 use crate::table::compare_statistics;
+use equality::ids::same_field;
 use equality::ids::same_order;
 use equality::ids::same_schema;
+use equality::ids::same_spec;
 use records::metadata::TableMetadata;
 
 pub mod difference;
@@ -28,14 +31,19 @@ pub fn first_difference(a: TableMetadata, b: TableMetadata) -> Difference
 {
     let f = a.fields;
     let g = b.fields;
+    let last_partition = same_field(f.last_partition_id, g.last_partition_id);
+    let spec = same_spec(f.default_spec_id, g.default_spec_id);
     let order = same_order(f.default_sort_order_id, g.default_sort_order_id);
     let schema = same_schema(f.current_schema_id, g.current_schema_id);
     let none = Difference { part: 0, place: 0 };
+    let from_last_partition = unless(last_partition, part::LAST_PARTITION_ID, 0, none);
+    let from_spec = unless(spec, part::DEFAULT_SPEC, 0, from_last_partition);
+    let from_specs = compare_partition_specs(a.partition_specs, b.partition_specs, from_spec);
     let from_partition = compare_statistics(
         a.partition_statistics,
         b.partition_statistics,
         part::PARTITION_STATISTICS,
-        none,
+        from_specs,
     );
     let from_statistics = compare_statistics(
         a.statistics,

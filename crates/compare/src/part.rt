@@ -34,3 +34,9 @@ pub const DEFAULT_SORT_ORDER: u8 = 16;
 pub const STATISTICS: u8 = 17;
 
 pub const PARTITION_STATISTICS: u8 = 18;
+
+pub const PARTITION_SPECS: u8 = 19;
+
+pub const DEFAULT_SPEC: u8 = 20;
+
+pub const LAST_PARTITION_ID: u8 = 21;

@@ -1,12 +1,13 @@
 // Tables compared, slot by slot and then by their counts.
 ghost use mathlib.Core.Path.{_≡_};
-ghost use Rattle.equality.specs.Same.{sameSnapshot, sameRef, sameLogEntry, sameFileEntry, sameSchema, sameSortOrder, sameStatisticsFile};
+ghost use Rattle.equality.specs.Same.{sameSnapshot, sameRef, sameLogEntry, sameFileEntry, sameSchema, sameSortOrder, sameStatisticsFile, samePartitionSpec};
 ghost use Rattle.compare.specs.First.{unlike, inPart};
 use crate::difference::Difference;
 use crate::difference::unless;
 use crate::part;
 use equality::whole::same_file_entry;
 use equality::whole::same_log_entry;
+use equality::whole::same_partition_spec;
 use equality::whole::same_ref;
 use equality::whole::same_schema;
 use equality::whole::same_snapshot;
@@ -14,6 +15,7 @@ use equality::whole::same_sort_order;
 use equality::whole::same_statistics_file;
 use records::capacities;
 use records::metadata::MetadataLog;
+use records::partition::PartitionSpecs;
 use records::reference::Refs;
 use records::schema::Schemas;
 use records::snapshot::SnapshotLog;
@@ -162,4 +164,33 @@ pub fn compare_statistics(
         i += 1;
     }
     unless(m == n, part, capacities::STATISTICS, later)
+}
+
+pub fn compare_partition_specs(
+    a: PartitionSpecs,
+    b: PartitionSpecs,
+    later: Difference,
+) -> Difference
+    ensures { λ r. ⌜ r ≡ inPart 19 (unlike samePartitionSpec 0 (a .items) (b .items) (a .count) (b .count)) later ⌝ }
+{
+    let m = a.count;
+    let n = b.count;
+    let mut i = 0;
+    while i < capacities::PARTITION_SPECS {
+        let x = a.items[i];
+        let y = b.items[i];
+        if !same_partition_spec(x, y) {
+            return Difference {
+                part: part::PARTITION_SPECS,
+                place: i,
+            };
+        }
+        i += 1;
+    }
+    unless(
+        m == n,
+        part::PARTITION_SPECS,
+        capacities::PARTITION_SPECS,
+        later,
+    )
 }

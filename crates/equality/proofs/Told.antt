@@ -6,12 +6,14 @@ use borrow.Author.Tests.{eqb-true, eq-eqb}
 use borrow.Table.Steps.{cases}
 use lib.Dec.{eqb}
 use Rattle.records.specs.declared.text.Name.{Name}
+use Rattle.records.specs.declared.partition.PartitionField.{PartitionField}
 use Rattle.rules.specs.Words.{eqZ, sameBytes, sameList}
 use Rattle.rules.specs.SchemaUpdates as plain
-use Rattle.rules.specs.Layout.{readName, laidName}
+use Rattle.rules.specs.Partitions.{samePartition}
+use Rattle.rules.specs.Layout.{readName, laidName, readPartitionField, laidPartitionField}
 use Rattle.rules.proofs.Orders.{Tells, numbers-told, names-told}
 use Rattle.rules.proofs.Checks.{parts, both, and-left, and-right}
-use Rattle.equality.specs.Same.{sameName, sameText, sameSnapshot, sameLogEntry, sameReference, sameRef, sameFileEntry, sameSchemaField, sameSchema, sameSortField, sameSortOrder, sameStatisticsFile}
+use Rattle.equality.specs.Same.{sameName, sameText, sameSnapshot, sameLogEntry, sameReference, sameRef, sameFileEntry, sameSchemaField, sameSchema, sameSortField, sameSortOrder, samePartitionField, samePartitionSpec, alikePartition, sameStatisticsFile}
 
 -- ---- numbers and flags
 
@@ -237,6 +239,42 @@ sort-orders-told =
           };
       itself = λ a. simp (numbers-told .itself, counts-told .itself, lists-told sort-fields-told .itself);
     }
+
+pub partition-fields-told : Tells samePartitionField
+unfolding samePartitionField
+partition-fields-told =
+    record {
+      equal = λ a b e.
+          let k = parts (eqZ (a .«source_id» .0) (b .«source_id» .0)) (eqZ (a .«field_id» .0) (b .«field_id» .0) ∷ eqZ (a .buckets .0) (b .buckets .0) ∷ eqb (a .transform) (b .transform) ∷ Bool·beq (a .«has_id») (b .«has_id») ∷ sameName (a .name) (b .name) ∷ []) e in
+          λ i. record {
+            «source_id» = record { 0 = numbers-told .equal (a .«source_id» .0) (b .«source_id» .0) (k .0) i };
+            «field_id» = record { 0 = numbers-told .equal (a .«field_id» .0) (b .«field_id» .0) (k .1 .0) i };
+            buckets = record { 0 = numbers-told .equal (a .buckets .0) (b .buckets .0) (k .1 .1 .0) i };
+            transform = counts-told .equal (a .transform) (b .transform) (k .1 .1 .1 .0) i;
+            «has_id» = flags-told .equal (a .«has_id») (b .«has_id») (k .1 .1 .1 .1 .0) i;
+            name = ref-names-told .equal (a .name) (b .name) (k .1 .1 .1 .1 .1 .0) i;
+          };
+      itself = λ a. simp (numbers-told .itself, counts-told .itself, flags-told .itself, ref-names-told .itself);
+    }
+
+pub partition-specs-told : Tells samePartitionSpec
+unfolding samePartitionSpec
+partition-specs-told =
+    record {
+      equal = λ a b e.
+          let k = parts (eqZ (a .«spec_id» .0) (b .«spec_id» .0)) (eqb (a .count) (b .count) ∷ sameList samePartitionField (a .items) (b .items) ∷ []) e in
+          λ i. record {
+            «spec_id» = record { 0 = numbers-told .equal (a .«spec_id» .0) (b .«spec_id» .0) (k .0) i };
+            count = counts-told .equal (a .count) (b .count) (k .1 .0) i;
+            items = lists-told partition-fields-told .equal (a .items) (b .items) (k .1 .1 .0) i;
+          };
+      itself = λ a. simp (numbers-told .itself, counts-told .itself, lists-told partition-fields-told .itself);
+    }
+
+-- of fields that are laid out, the names are what is read of them
+pub partitions-alike : (a b : PartitionField) → laidPartitionField (readPartitionField a) ≡ a → laidPartitionField (readPartitionField b) ≡ b → alikePartition a b ≡ samePartition (readPartitionField a) (readPartitionField b)
+unfolding alikePartition laidPartitionField
+partitions-alike a b p q = rw (names-alike (a .name) (b .name) (ap (λ (f : PartitionField). f .name) p) (ap (λ (f : PartitionField). f .name) q))
 
 pub statistics-files-told : Tells sameStatisticsFile
 unfolding sameStatisticsFile

@@ -12,6 +12,8 @@ use Rattle.records.specs.declared.schema.SchemaField.{SchemaField}
 use Rattle.records.specs.declared.schema.Schema.{Schema}
 use Rattle.records.specs.declared.«sort_order».SortField.{SortField}
 use Rattle.records.specs.declared.«sort_order».SortOrder.{SortOrder}
+use Rattle.records.specs.declared.partition.PartitionField.{PartitionField}
+use Rattle.records.specs.declared.partition.PartitionSpec.{PartitionSpec}
 use Rattle.records.specs.declared.statistics.StatisticsFile.{StatisticsFile}
 use Rattle.records.specs.declared.metadata.MetadataLogEntry.{MetadataLogEntry}
 
@@ -76,6 +78,27 @@ sameSortField a b =
 
 unfoldable pub sameSortOrder : SortOrder → SortOrder → Bool
 sameSortOrder a b = eqZ (a .«order_id» .0) (b .«order_id» .0) && eqb (a .count) (b .count) && sameList sameSortField (a .items) (b .items)
+
+-- ---- partition specs
+
+unfoldable pub samePartitionField : PartitionField → PartitionField → Bool
+samePartitionField a b =
+    eqZ (a .«source_id» .0) (b .«source_id» .0)
+    && eqZ (a .«field_id» .0) (b .«field_id» .0)
+    && eqZ (a .buckets .0) (b .buckets .0)
+    && eqb (a .transform) (b .transform)
+    && Bool·beq (a .«has_id») (b .«has_id»)
+    && sameName (a .name) (b .name)
+
+unfoldable pub samePartitionSpec : PartitionSpec → PartitionSpec → Bool
+samePartitionSpec a b = eqZ (a .«spec_id» .0) (b .«spec_id» .0) && eqb (a .count) (b .count) && sameList samePartitionField (a .items) (b .items)
+
+-- the same but for the id: what the rules compare of two fields (`samePartition`), here as they are laid out
+unfoldable pub alikePartition : PartitionField → PartitionField → Bool
+alikePartition a b =
+    eqZ (a .«source_id» .0) (b .«source_id» .0)
+    && (eqb (a .transform) (b .transform) && eqZ (a .buckets .0) (b .buckets .0))
+    && sameName (a .name) (b .name)
 
 -- ---- statistics files
 

@@ -2,15 +2,17 @@
 ghost use mathlib.Core.Path.{_≡_};
 ghost use Prim.Native.Nat.{_≤_};
 ghost use Rattle.rules.specs.Words.{sameList};
-ghost use Rattle.rules.specs.Capacities.{schemaFieldRoom, sortFieldRoom};
+ghost use Rattle.rules.specs.Capacities.{schemaFieldRoom, sortFieldRoom, partitionFieldRoom};
 ghost use Rattle.rules.specs.RefUpdates.{sameReference};
 ghost use Rattle.rules.specs.SchemaUpdates.{sameSchemaField};
 ghost use Rattle.rules.specs.OrderUpdates.{sameSortField};
-ghost use Rattle.rules.specs.Layout.{readReference, readSchema, laidSchema, readSortOrder};
+ghost use Rattle.rules.specs.Partitions.{samePartition};
+ghost use Rattle.rules.specs.Layout.{readReference, readSchema, laidSchema, readSortOrder, readPartitionSpec, laidPartitionSpec};
 use crate::ids::same_snapshot;
 use crate::number::same_age;
 use crate::number::same_min;
 use crate::slots;
+use records::partition::PartitionSpec;
 use records::reference::SnapshotReference;
 use records::schema::Schema;
 use records::sort_order::SortOrder;
@@ -53,4 +55,18 @@ pub fn same_sort_fields(a: SortOrder, b: SortOrder) -> bool
         return false;
     }
     slots::same_sort_fields(a, b, n)
+}
+
+// As many fields, the same one by one but for their ids.
+pub fn same_partition_fields(a: PartitionSpec, b: PartitionSpec) -> bool
+    requires { ⌜ (laidPartitionSpec (readPartitionSpec a) ≡ a) × (a .count ≤ partitionFieldRoom) ⌝ }
+    requires { ⌜ (laidPartitionSpec (readPartitionSpec b) ≡ b) × (b .count ≤ partitionFieldRoom) ⌝ }
+    ensures { λ r. ⌜ r ≡ sameList samePartition (readPartitionSpec a .fields) (readPartitionSpec b .fields) ⌝ }
+{
+    let n = a.count;
+    let m = b.count;
+    if n != m {
+        return false;
+    }
+    slots::alike_partitions(a, b, n)
 }

@@ -1,6 +1,6 @@
 // Records compared whole, field by field: also what stands behind a flag that is not set, and in slots past a count.
 ghost use mathlib.Core.Path.{_≡_};
-ghost use Rattle.equality.specs.Same.{sameSnapshot, sameLogEntry, sameReference, sameRef, sameFileEntry, sameSchema, sameSortOrder, sameStatisticsFile};
+ghost use Rattle.equality.specs.Same.{sameSnapshot, sameLogEntry, sameReference, sameRef, sameFileEntry, sameSchema, sameSortOrder, samePartitionSpec, sameStatisticsFile};
 use crate::ids;
 use crate::number::same_age;
 use crate::number::same_file_size;
@@ -8,12 +8,15 @@ use crate::number::same_min;
 use crate::number::same_sequence;
 use crate::number::same_time;
 use crate::slots::same_fields;
+use crate::slots::same_partition_fields;
 use crate::slots::same_sort_fields;
 use crate::text::same_name;
 use crate::text::same_text;
+use records::capacities::PARTITION_FIELDS;
 use records::capacities::SCHEMA_FIELDS;
 use records::capacities::SORT_FIELDS;
 use records::metadata::MetadataLogEntry;
+use records::partition::PartitionSpec;
 use records::reference::NamedRef;
 use records::reference::SnapshotReference;
 use records::schema::Schema;
@@ -82,6 +85,14 @@ pub fn same_sort_order(a: SortOrder, b: SortOrder) -> bool
     ids::same_order(a.order_id, b.order_id)
         & (a.count == b.count)
         & same_sort_fields(a, b, SORT_FIELDS)
+}
+
+pub fn same_partition_spec(a: PartitionSpec, b: PartitionSpec) -> bool
+    ensures { λ r. ⌜ r ≡ samePartitionSpec a b ⌝ }
+{
+    ids::same_spec(a.spec_id, b.spec_id)
+        & (a.count == b.count)
+        & same_partition_fields(a, b, PARTITION_FIELDS)
 }
 
 pub fn same_statistics_file(a: StatisticsFile, b: StatisticsFile) -> bool

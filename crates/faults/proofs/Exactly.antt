@@ -10,8 +10,8 @@ use Rattle.records.specs.declared.update.UpdateList.{UpdateList}
 use Rattle.records.specs.declared.run.RunTerms.{RunTerms}
 use Rattle.rules.specs.Replies.{startNotFormed}
 use Rattle.rules.specs.Words.{ifSome}
-use Rattle.rules.specs.WellFormed.{fileNameFormed, snapshotsFormed, refsFormed, snapshotLogFormed, metadataLogFormed, schemasFormed, ordersFormed, statisticsFormed, fieldsFormed, refsHeld, mainAgrees, currentSchemaHeld, defaultOrderHeld, metadataFormed}
-use Rattle.rules.specs.Blanks.{isTidySnapshots, isTidyRefs, isTidySnapshotLog, isTidyMetadataLog, isTidySchemas, isTidySortOrders, isTidyStatistics, isTidyFields, isTidyMetadata}
+use Rattle.rules.specs.WellFormed.{fileNameFormed, snapshotsFormed, refsFormed, snapshotLogFormed, metadataLogFormed, schemasFormed, ordersFormed, specsFormed, statisticsFormed, fieldsFormed, refsHeld, mainAgrees, currentSchemaHeld, defaultOrderHeld, defaultSpecHeld, metadataFormed}
+use Rattle.rules.specs.Blanks.{isTidySnapshots, isTidyRefs, isTidySnapshotLog, isTidyMetadataLog, isTidySchemas, isTidySortOrders, isTidyPartitionSpecs, isTidyStatistics, isTidyFields, isTidyMetadata}
 use Rattle.rules.specs.Layout.{given, readText, readMetadata}
 use Rattle.rules.specs.Register as plain
 use Rattle.rules.specs.Answer.{Lent, answer}
@@ -31,12 +31,12 @@ module _ (m : TableMetadata) where
       record {
         tidy =
             whole (isTidySnapshots (m .snapshots))
-            (isTidyRefs (m .refs) ∷ isTidySnapshotLog (m .«snapshot_log») ∷ isTidyMetadataLog (m .«metadata_log») ∷ isTidySchemas (m .schemas) ∷ isTidySortOrders (m .«sort_orders») ∷ isTidyStatistics (m .statistics) ∷ isTidyStatistics (m .«partition_statistics») ∷ isTidyFields (m .fields) ∷ [])
-            (k .snapshots .0, (k .refs .0, (k .snapshotLog .0, (k .metadataLog .0, (k .schemas .0, (k .orders .0, (k .statistics .0, (k .partitionStatistics .0, (k .fields .0, tt)))))))));
+            (isTidyRefs (m .refs) ∷ isTidySnapshotLog (m .«snapshot_log») ∷ isTidyMetadataLog (m .«metadata_log») ∷ isTidySchemas (m .schemas) ∷ isTidySortOrders (m .«sort_orders») ∷ isTidyStatistics (m .statistics) ∷ isTidyStatistics (m .«partition_statistics») ∷ isTidyPartitionSpecs (m .«partition_specs») ∷ isTidyFields (m .fields) ∷ [])
+            (k .snapshots .0, (k .refs .0, (k .snapshotLog .0, (k .metadataLog .0, (k .schemas .0, (k .orders .0, (k .statistics .0, (k .partitionStatistics .0, (k .specs .0, (k .fields .0, tt))))))))));
         formed =
             let q : plain.Metadata = readMetadata m in
             whole (snapshotsFormed (q .snapshots))
-            (refsFormed (q .refs) ∷ snapshotLogFormed (q .snapshotLog) ∷ metadataLogFormed (q .metadataLog) ∷ schemasFormed (q .schemas) ∷ ordersFormed (q .orders) ∷ statisticsFormed (q .statistics) ∷ statisticsFormed (q .partitionStatistics) ∷ fieldsFormed (q .fields) ∷ refsHeld q ∷ mainAgrees q ∷ currentSchemaHeld q ∷ defaultOrderHeld q ∷ []) (
+            (refsFormed (q .refs) ∷ snapshotLogFormed (q .snapshotLog) ∷ metadataLogFormed (q .metadataLog) ∷ schemasFormed (q .schemas) ∷ ordersFormed (q .orders) ∷ statisticsFormed (q .statistics) ∷ statisticsFormed (q .partitionStatistics) ∷ specsFormed (q .specs) ∷ fieldsFormed (q .fields) ∷ refsHeld q ∷ mainAgrees q ∷ currentSchemaHeld q ∷ defaultOrderHeld q ∷ defaultSpecHeld q ∷ []) (
               k .snapshots .1,
               (
                 k .refs .1,
@@ -53,8 +53,11 @@ module _ (m : TableMetadata) where
                           (
                             k .partitionStatistics .1,
                             (
-                              k .fields .1,
-                              (not-false (refsHeld q) (a .0), (not-false (mainAgrees q) (a .1 .0), (not-false (currentSchemaHeld q) (a .1 .1 .0), (not-false (defaultOrderHeld q) (a .1 .1 .1 .0), tt)))),
+                              k .specs .1,
+                              (
+                                k .fields .1,
+                                (not-false (refsHeld q) (a .0), (not-false (mainAgrees q) (a .1 .0), (not-false (currentSchemaHeld q) (a .1 .1 .0), (not-false (defaultOrderHeld q) (a .1 .1 .1 .0), (not-false (defaultSpecHeld q) (a .1 .1 .1 .1 .0), tt))))),
+                              ),
                             ),
                           ),
                         ),
@@ -77,16 +80,16 @@ module _ (m : TableMetadata) where
   formed-faultless f =
       let q : plain.Metadata = readMetadata m in
       let t = parts (isTidySnapshots (m .snapshots))
-      (isTidyRefs (m .refs) ∷ isTidySnapshotLog (m .«snapshot_log») ∷ isTidyMetadataLog (m .«metadata_log») ∷ isTidySchemas (m .schemas) ∷ isTidySortOrders (m .«sort_orders») ∷ isTidyStatistics (m .statistics) ∷ isTidyStatistics (m .«partition_statistics») ∷ isTidyFields (m .fields) ∷ [])
+      (isTidyRefs (m .refs) ∷ isTidySnapshotLog (m .«snapshot_log») ∷ isTidyMetadataLog (m .«metadata_log») ∷ isTidySchemas (m .schemas) ∷ isTidySortOrders (m .«sort_orders») ∷ isTidyStatistics (m .statistics) ∷ isTidyStatistics (m .«partition_statistics») ∷ isTidyPartitionSpecs (m .«partition_specs») ∷ isTidyFields (m .fields) ∷ [])
       (f .tidy) in
       let k = parts (snapshotsFormed (q .snapshots))
-      (refsFormed (q .refs) ∷ snapshotLogFormed (q .snapshotLog) ∷ metadataLogFormed (q .metadataLog) ∷ schemasFormed (q .schemas) ∷ ordersFormed (q .orders) ∷ statisticsFormed (q .statistics) ∷ statisticsFormed (q .partitionStatistics) ∷ fieldsFormed (q .fields) ∷ refsHeld q ∷ mainAgrees q ∷ currentSchemaHeld q ∷ defaultOrderHeld q ∷ [])
+      (refsFormed (q .refs) ∷ snapshotLogFormed (q .snapshotLog) ∷ metadataLogFormed (q .metadataLog) ∷ schemasFormed (q .schemas) ∷ ordersFormed (q .orders) ∷ statisticsFormed (q .statistics) ∷ statisticsFormed (q .partitionStatistics) ∷ specsFormed (q .specs) ∷ fieldsFormed (q .fields) ∷ refsHeld q ∷ mainAgrees q ∷ currentSchemaHeld q ∷ defaultOrderHeld q ∷ defaultSpecHeld q ∷ [])
       (f .formed) in
-      let a = k .1 .1 .1 .1 .1 .1 .1 .1 .1 in
+      let a = k .1 .1 .1 .1 .1 .1 .1 .1 .1 .1 in
       first-after (partFaults m) (agreementFaults q) (parts-numbered m)
       (faultless-parts m
       (record {
-        fields = (t .1 .1 .1 .1 .1 .1 .1 .1 .0, k .1 .1 .1 .1 .1 .1 .1 .1 .0);
+        fields = (t .1 .1 .1 .1 .1 .1 .1 .1 .1 .0, k .1 .1 .1 .1 .1 .1 .1 .1 .1 .0);
         snapshots = (t .0, k .0);
         refs = (t .1 .0, k .1 .0);
         snapshotLog = (t .1 .1 .0, k .1 .1 .0);
@@ -95,8 +98,9 @@ module _ (m : TableMetadata) where
         orders = (t .1 .1 .1 .1 .1 .0, k .1 .1 .1 .1 .1 .0);
         statistics = (t .1 .1 .1 .1 .1 .1 .0, k .1 .1 .1 .1 .1 .1 .0);
         partitionStatistics = (t .1 .1 .1 .1 .1 .1 .1 .0, k .1 .1 .1 .1 .1 .1 .1 .0);
+        specs = (t .1 .1 .1 .1 .1 .1 .1 .1 .0, k .1 .1 .1 .1 .1 .1 .1 .1 .0);
       }))
-      ∙ rw (a .0, a .1 .0, a .1 .1 .0, a .1 .1 .1 .0)
+      ∙ rw (a .0, a .1 .0, a .1 .1 .0, a .1 .1 .1 .0, a .1 .1 .1 .1 .0)
 
 -- ---- a start
 

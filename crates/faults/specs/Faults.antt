@@ -12,17 +12,18 @@ use Rattle.records.specs.declared.snapshot.SnapshotLog.{SnapshotLog}
 use Rattle.records.specs.declared.reference.Refs.{Refs}
 use Rattle.records.specs.declared.schema.Schemas.{Schemas}
 use Rattle.records.specs.declared.«sort_order».SortOrders.{SortOrders}
+use Rattle.records.specs.declared.partition.PartitionSpecs.{PartitionSpecs}
 use Rattle.records.specs.declared.statistics.StatisticsFiles.{StatisticsFiles}
 use Rattle.records.specs.declared.metadata.MetadataLog.{MetadataLog}
 use Rattle.records.specs.declared.metadata.SingleFields.{SingleFields}
 use Rattle.records.specs.declared.metadata.TableMetadata.{TableMetadata}
 use Rattle.records.specs.declared.run.RunTerms.{RunTerms}
 use Rattle.rules.specs.Words.{ifSome, all, ascending, firstOf, Check}
-use Rattle.rules.specs.Capacities.{snapshotRoom, refRoom, snapshotLogRoom, metadataLogRoom, schemaRoom, sortOrderRoom, statisticsRoom}
+use Rattle.rules.specs.Capacities.{snapshotRoom, refRoom, snapshotLogRoom, metadataLogRoom, schemaRoom, sortOrderRoom, specRoom, statisticsRoom}
 use Rattle.rules.specs.Register as plain
-use Rattle.rules.specs.WellFormed.{versionFormed, locationFormed, fileNameFormed, snapshotFormed, refFormed, schemaFormed, orderFormed, statisticsFileFormed, snapshotBelow, refBelow, schemaBelow, orderBelow, statisticsBelow, refsHeld, mainAgrees, currentSchemaHeld, defaultOrderHeld}
-use Rattle.rules.specs.Blanks.{isZeroZ, isTidyText, isTidySnapshots, isTidySnapshotLog, isTidyRefs, isTidySchemas, isTidySortOrders, isTidyStatistics, isTidyMetadataLog}
-use Rattle.rules.specs.Layout.{readText, readSnapshots, readSnapshotLog, readRefs, readSchemas, readSortOrders, readStatistics, readMetadataLog, readMetadata}
+use Rattle.rules.specs.WellFormed.{versionFormed, locationFormed, fileNameFormed, snapshotFormed, refFormed, schemaFormed, orderFormed, specFormed, statisticsFileFormed, snapshotBelow, refBelow, schemaBelow, orderBelow, specBelow, statisticsBelow, refsHeld, mainAgrees, currentSchemaHeld, defaultOrderHeld, defaultSpecHeld}
+use Rattle.rules.specs.Blanks.{isZeroZ, isTidyText, isTidySnapshots, isTidySnapshotLog, isTidyRefs, isTidySchemas, isTidySortOrders, isTidyPartitionSpecs, isTidyStatistics, isTidyMetadataLog}
+use Rattle.rules.specs.Layout.{readText, readSnapshots, readSnapshotLog, readRefs, readSchemas, readSortOrders, readPartitionSpecs, readStatistics, readMetadataLog, readMetadata}
 use Rattle.rules.specs.Answer.{readTerms}
 
 -- ---- a part by itself
@@ -41,28 +42,32 @@ fieldFaults f =
     ∷ (not (isTidyText (f .location) && locationFormed (readText (f .location))), 2)
     ∷ (not (nonNeg (f .«last_sequence_number» .0)), 3)
     ∷ (not (f .«has_current» || isZeroZ (f .«current_snapshot_id» .0)), 4)
+    ∷ (not (nonNeg (f .«last_partition_id» .0)), 5)
     ∷ []
 
 unfoldable pub snapshotFaults : Snapshots → List Check
-snapshotFaults t = tableFaults 5 snapshotRoom (isTidySnapshots t) snapshotFormed snapshotBelow (readSnapshots t)
+snapshotFaults t = tableFaults 6 snapshotRoom (isTidySnapshots t) snapshotFormed snapshotBelow (readSnapshots t)
 
 unfoldable pub refFaults : Refs → List Check
-refFaults t = tableFaults 8 refRoom (isTidyRefs t) refFormed refBelow (readRefs t)
+refFaults t = tableFaults 9 refRoom (isTidyRefs t) refFormed refBelow (readRefs t)
 
 unfoldable pub snapshotLogFaults : SnapshotLog → List Check
-snapshotLogFaults t = logFaults 11 snapshotLogRoom (isTidySnapshotLog t) (λ (e : plain.LogEntry). nonNeg (e .snapshot)) (readSnapshotLog t)
+snapshotLogFaults t = logFaults 12 snapshotLogRoom (isTidySnapshotLog t) (λ (e : plain.LogEntry). nonNeg (e .snapshot)) (readSnapshotLog t)
 
 unfoldable pub metadataLogFaults : MetadataLog → List Check
-metadataLogFaults t = logFaults 13 metadataLogRoom (isTidyMetadataLog t) (λ (e : plain.FileEntry). fileNameFormed (e .file)) (readMetadataLog t)
+metadataLogFaults t = logFaults 14 metadataLogRoom (isTidyMetadataLog t) (λ (e : plain.FileEntry). fileNameFormed (e .file)) (readMetadataLog t)
 
 unfoldable pub schemaFaults : Schemas → List Check
-schemaFaults t = tableFaults 15 schemaRoom (isTidySchemas t) schemaFormed schemaBelow (readSchemas t)
+schemaFaults t = tableFaults 16 schemaRoom (isTidySchemas t) schemaFormed schemaBelow (readSchemas t)
 
 unfoldable pub orderFaults : SortOrders → List Check
-orderFaults t = tableFaults 18 sortOrderRoom (isTidySortOrders t) orderFormed orderBelow (readSortOrders t)
+orderFaults t = tableFaults 19 sortOrderRoom (isTidySortOrders t) orderFormed orderBelow (readSortOrders t)
 
 unfoldable pub statisticsFaults : ℕ → StatisticsFiles → List Check
 statisticsFaults n t = tableFaults n statisticsRoom (isTidyStatistics t) statisticsFileFormed statisticsBelow (readStatistics t)
+
+unfoldable pub specFaults : PartitionSpecs → List Check
+specFaults t = tableFaults 28 specRoom (isTidyPartitionSpecs t) specFormed specBelow (readPartitionSpecs t)
 
 unfoldable pub partFaults : TableMetadata → List Check
 partFaults m =
@@ -73,17 +78,19 @@ partFaults m =
     ++ (metadataLogFaults (m .«metadata_log»)
     ++ (schemaFaults (m .schemas)
     ++ (orderFaults (m .«sort_orders»)
-    ++ (statisticsFaults 21 (m .statistics)
-    ++ statisticsFaults 24 (m .«partition_statistics»))))))))
+    ++ (statisticsFaults 22 (m .statistics)
+    ++ (statisticsFaults 25 (m .«partition_statistics»)
+    ++ specFaults (m .«partition_specs»)))))))))
 
 -- ---- what the parts say of each other
 
 unfoldable pub agreementFaults : plain.Metadata → List Check
 agreementFaults m =
-    (not (refsHeld m), 27)
-    ∷ (not (mainAgrees m), 28)
-    ∷ (not (currentSchemaHeld m), 29)
-    ∷ (not (defaultOrderHeld m), 30)
+    (not (refsHeld m), 31)
+    ∷ (not (mainAgrees m), 32)
+    ∷ (not (currentSchemaHeld m), 33)
+    ∷ (not (defaultOrderHeld m), 34)
+    ∷ (not (defaultSpecHeld m), 35)
     ∷ []
 
 -- ---- the first fault; 0 where there is none
@@ -96,7 +103,7 @@ metadataFault m = firstOf (metadataFaults m)
 
 -- the limit text is not asked for: any will do
 unfoldable pub fileFaults : RunTerms → List Check
-fileFaults terms = (not (ifSome fileNameFormed (readTerms terms (record { text = []; offers = [] }) .file)), 31) ∷ []
+fileFaults terms = (not (ifSome fileNameFormed (readTerms terms (record { text = []; offers = [] }) .file)), 36) ∷ []
 
 unfoldable pub startFault : TableMetadata → RunTerms → ℕ
 startFault m terms = firstOf (metadataFaults m ++ fileFaults terms)

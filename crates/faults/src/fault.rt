@@ -11,28 +11,35 @@ pub const LAST_SEQUENCE_NUMBER: u8 = 3;
 // A current snapshot that is not set and whose place is not blank.
 pub const CURRENT_SNAPSHOT: u8 = 4;
 
-pub const SNAPSHOTS: u8 = 5;
+// Below 0.
+pub const LAST_PARTITION_ID: u8 = 5;
 
-pub const REFS: u8 = 8;
+pub const SNAPSHOTS: u8 = 6;
 
-pub const SNAPSHOT_LOG: u8 = 11;
+pub const REFS: u8 = 9;
 
-pub const METADATA_LOG: u8 = 13;
+pub const SNAPSHOT_LOG: u8 = 12;
 
-pub const SCHEMAS: u8 = 15;
+pub const METADATA_LOG: u8 = 14;
 
-pub const SORT_ORDERS: u8 = 18;
+pub const SCHEMAS: u8 = 16;
 
-pub const STATISTICS: u8 = 21;
+pub const SORT_ORDERS: u8 = 19;
 
-pub const PARTITION_STATISTICS: u8 = 24;
+pub const STATISTICS: u8 = 22;
 
-pub const REF_NOT_HELD: u8 = 27;
+pub const PARTITION_STATISTICS: u8 = 25;
 
-pub const MAIN_DISAGREES: u8 = 28;
+pub const PARTITION_SPECS: u8 = 28;
 
-pub const CURRENT_SCHEMA_NOT_HELD: u8 = 29;
+pub const REF_NOT_HELD: u8 = 31;
 
-pub const DEFAULT_SORT_ORDER_NOT_HELD: u8 = 30;
+pub const MAIN_DISAGREES: u8 = 32;
 
-pub const CURRENT_FILE_NAME: u8 = 31;
+pub const CURRENT_SCHEMA_NOT_HELD: u8 = 33;
+
+pub const DEFAULT_SORT_ORDER_NOT_HELD: u8 = 34;
+
+pub const DEFAULT_SPEC_NOT_HELD: u8 = 35;
+
+pub const CURRENT_FILE_NAME: u8 = 36;

@@ -12,11 +12,13 @@ use crate::part::refs_fault;
 use crate::part::schemas_fault;
 use crate::part::snapshot_log_fault;
 use crate::part::snapshots_fault;
+use crate::part::specs_fault;
 use crate::part::statistics_fault;
 use crate::pick::or_later;
 use crate::pick::unless;
 use formed::metadata::main_agrees;
 use formed::metadata::refs_held;
+use formed::slots::snapshot_keys;
 use records::capacities::TEXT;
 use records::metadata::TableMetadata;
 use records::run::RunTerms;
@@ -29,7 +31,11 @@ mod pick;
 fn part_fault(m: TableMetadata) -> u8
     ensures { λ r. ⌜ r ≡ firstOf (partFaults m) ⌝ }
 {
-    let partition = statistics_fault(fault::PARTITION_STATISTICS, m.partition_statistics);
+    let specs = specs_fault(m.partition_specs);
+    let partition = or_later(
+        statistics_fault(fault::PARTITION_STATISTICS, m.partition_statistics),
+        specs,
+    );
     let statistics = or_later(statistics_fault(fault::STATISTICS, m.statistics), partition);
     let orders = or_later(orders_fault(m.sort_orders), statistics);
     let schemas = or_later(schemas_fault(m.schemas), orders);
@@ -46,11 +52,14 @@ fn agreement_fault(m: TableMetadata) -> u8
     ensures { λ r. ⌜ r ≡ firstOf (agreementFaults (readMetadata m)) ⌝ }
 {
     let fields = m.fields;
-    let held = refs_held(m.refs, m.snapshots);
+    let snapshots = snapshot_keys(m.snapshots);
+    let held = refs_held(m.refs, snapshots);
     let agrees = main_agrees(fields, m.refs);
     let schema = tables::schemas::holds(m.schemas, fields.current_schema_id);
     let order = tables::sort_orders::holds(m.sort_orders, fields.default_sort_order_id);
-    let from_order = unless(order, fault::DEFAULT_SORT_ORDER_NOT_HELD, fault::NONE);
+    let spec = tables::partition_specs::holds(m.partition_specs, fields.default_spec_id);
+    let from_spec = unless(spec, fault::DEFAULT_SPEC_NOT_HELD, fault::NONE);
+    let from_order = unless(order, fault::DEFAULT_SORT_ORDER_NOT_HELD, from_spec);
     let from_schema = unless(schema, fault::CURRENT_SCHEMA_NOT_HELD, from_order);
     let from_main = unless(agrees, fault::MAIN_DISAGREES, from_schema);
     unless(held, fault::REF_NOT_HELD, from_main)

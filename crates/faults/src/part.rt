@@ -4,28 +4,27 @@ ghost use mathlib.Core.Bool.{not};
 ghost use mathlib.Core.List.{[], _∷_};
 ghost use Prim.Native.Nat.{_+_, _≤_};
 ghost use Rattle.rules.specs.Words.{firstOf};
-ghost use Rattle.faults.specs.Faults.{fieldFaults, snapshotFaults, refFaults, snapshotLogFaults, metadataLogFaults, schemaFaults, orderFaults, statisticsFaults};
+ghost use Rattle.faults.specs.Faults.{fieldFaults, snapshotFaults, refFaults, snapshotLogFaults, metadataLogFaults, schemaFaults, orderFaults, specFaults, statisticsFaults};
 use crate::fault;
 use crate::pick::unless;
 use equality::ids::same_snapshot;
 use formed::blanks::text_fits;
+use formed::bounds::last_partition_formed;
 use formed::bounds::sequence_formed;
-use formed::metadata::orders_formed;
 use formed::metadata::refs_formed;
-use formed::metadata::schemas_formed;
-use formed::metadata::snapshots_formed;
-use formed::metadata::statistics_formed;
 use formed::slots::metadata_log_formed;
-use formed::slots::orders_filled;
+use formed::slots::order_keys;
 use formed::slots::refs_filled;
-use formed::slots::schemas_filled;
+use formed::slots::schema_keys;
+use formed::slots::snapshot_keys;
 use formed::slots::snapshot_log_formed;
-use formed::slots::snapshots_filled;
-use formed::slots::statistics_filled;
+use formed::slots::spec_keys;
+use formed::slots::statistics_keys;
 use records::capacities;
 use records::counters::SnapshotId;
 use records::metadata::MetadataLog;
 use records::metadata::SingleFields;
+use records::partition::PartitionSpecs;
 use records::reference::Refs;
 use records::schema::Schemas;
 use records::snapshot::SnapshotLog;
@@ -42,10 +41,16 @@ pub fn fields_fault(f: SingleFields) -> u8
     let s = f.last_sequence_number;
     let h = f.has_current;
     let c = f.current_snapshot_id;
+    let p = f.last_partition_id;
+    let from_partition = unless(
+        last_partition_formed(p),
+        fault::LAST_PARTITION_ID,
+        fault::NONE,
+    );
     let from_current = unless(
         h | same_snapshot(c, SnapshotId(0)),
         fault::CURRENT_SNAPSHOT,
-        fault::NONE,
+        from_partition,
     );
     let from_sequence = unless(
         sequence_formed(s),
@@ -61,14 +66,14 @@ pub fn fields_fault(f: SingleFields) -> u8
 }
 
 fn log_fault(first: u8, fits: bool, filled: bool) -> u8
-    requires { ⌜ first ≤ 13 ⌝ }
+    requires { ⌜ first ≤ 14 ⌝ }
     ensures { λ r. ⌜ r ≡ firstOf ((not fits, first) ∷ (not filled, first + 1) ∷ []) ⌝ }
 {
     unless(fits, first, unless(filled, first + 1, fault::NONE))
 }
 
 fn table_fault(first: u8, fits: bool, filled: bool, ascends: bool) -> u8
-    requires { ⌜ first ≤ 24 ⌝ }
+    requires { ⌜ first ≤ 28 ⌝ }
     ensures { λ r. ⌜ r ≡ firstOf ((not fits, first) ∷ (not filled, first + 1) ∷ (not ascends, first + 2) ∷ []) ⌝ }
 {
     let from_order = unless(ascends, first + 2, fault::NONE);
@@ -80,11 +85,12 @@ pub fn snapshots_fault(t: Snapshots) -> u8
     ensures { λ r. ⌜ r ≡ firstOf (snapshotFaults t) ⌝ }
 {
     let n = t.count;
+    let k = snapshot_keys(t);
     table_fault(
         fault::SNAPSHOTS,
         n <= capacities::SNAPSHOTS,
-        snapshots_filled(t),
-        snapshots_formed(t),
+        k.filled,
+        k.formed,
     )
 }
 
@@ -126,35 +132,41 @@ pub fn schemas_fault(t: Schemas) -> u8
     ensures { λ r. ⌜ r ≡ firstOf (schemaFaults t) ⌝ }
 {
     let n = t.count;
-    table_fault(
-        fault::SCHEMAS,
-        n <= capacities::SCHEMAS,
-        schemas_filled(t),
-        schemas_formed(t),
-    )
+    let k = schema_keys(t);
+    table_fault(fault::SCHEMAS, n <= capacities::SCHEMAS, k.filled, k.formed)
 }
 
 pub fn orders_fault(t: SortOrders) -> u8
     ensures { λ r. ⌜ r ≡ firstOf (orderFaults t) ⌝ }
 {
     let n = t.count;
+    let k = order_keys(t);
     table_fault(
         fault::SORT_ORDERS,
         n <= capacities::SORT_ORDERS,
-        orders_filled(t),
-        orders_formed(t),
+        k.filled,
+        k.formed,
     )
 }
 
 pub fn statistics_fault(first: u8, t: StatisticsFiles) -> u8
-    requires { ⌜ first ≤ 24 ⌝ }
+    requires { ⌜ first ≤ 25 ⌝ }
     ensures { λ r. ⌜ r ≡ firstOf (statisticsFaults first t) ⌝ }
 {
     let n = t.count;
+    let k = statistics_keys(t);
+    table_fault(first, n <= capacities::STATISTICS, k.filled, k.formed)
+}
+
+pub fn specs_fault(t: PartitionSpecs) -> u8
+    ensures { λ r. ⌜ r ≡ firstOf (specFaults t) ⌝ }
+{
+    let n = t.count;
+    let k = spec_keys(t);
     table_fault(
-        first,
-        n <= capacities::STATISTICS,
-        statistics_filled(t),
-        statistics_formed(t),
+        fault::PARTITION_SPECS,
+        n <= capacities::PARTITION_SPECS,
+        k.filled,
+        k.formed,
     )
 }

@@ -1,32 +1,31 @@
--- The fields of a schema, one after another: each is well formed, and none after it has its id or its name.
-use Prim.Native.Nat.{ℕ, _+_, _-_, _≤_, _<_}
+-- The fields of a schema and of a partition spec, each two of which are apart as the code tests it: they are as the rule asks.
+use Prim.Native.Nat.{ℕ, _-_, _<_}
 use native.Mathlib.Omega.{arith}
-use mathlib.Core.Path.{_≡_, refl, sym, ap, _∙_}
+use mathlib.Core.Path.{_≡_, refl, sym, ap, ap₂, _∙_}
 use mathlib.Core.Bool.{Bool, true, false, not, _&&_, _||_, and-assoc}
 use mathlib.Core.List.{List, [], _∷_, map, append-nil}
 use borrow.Author.Tests.{leb-true, leb-false, eqb-true}
 use borrow.Table.Steps.{cases}
 use lib.Dec.{eqb, leb}
-use lib.IntN.{ℤ}
-use lib.ListN.{length, getD, take, drop, replicate}
-use lib.Seq.{length-take-le, getD-take, take-all, take-at}
-use Rattle.records.specs.Blanks.{noSchemaField}
+use lib.ListN.{length, take, replicate}
+use lib.Seq.{take-all, take-at}
 use Rattle.records.specs.declared.text.Name.{Name}
 use Rattle.records.specs.declared.schema.SchemaField.{SchemaField}
-use Rattle.rules.specs.Words.{eqZ, all, any, isIn, unequalBy, sameBytes, unequal}
+use Rattle.records.specs.declared.partition.PartitionField.{PartitionField}
+use Rattle.rules.specs.Words.{eqZ, isSome, all, eachPair, unequalBy, collect, sameBytes, unequal}
 use Rattle.rules.specs.Capacities.{nameRoom}
 use Rattle.rules.specs.WellFormed.{schemaFieldFormed}
-use Rattle.rules.specs.Blanks.{isTidyName, isTidySchemaField}
-use Rattle.rules.specs.Layout.{counted, pad, readName, readSchemaField}
+use Rattle.rules.specs.Partitions.{isRedundant}
+use Rattle.rules.specs.Blanks.{isZeroZ, isTidyName, isTidySchemaField, isTidyPartitionField}
+use Rattle.rules.specs.Layout.{pad, readName, readSchemaField, readPartitionField}
 use Rattle.rules.specs.Register as plain
 use Rattle.rules.proofs.Checks.{and-left, and-right}
 use Rattle.rules.proofs.Orders.{names-told}
-use Rattle.rules.proofs.Tables.{all-drop, all-at}
-use Rattle.rules.proofs.Slots.Relaid.{length-counted, counted-take, bytes-back}
+use Rattle.rules.proofs.Tables.{all-head, all-tail, all-read, pairs-read}
+use Rattle.rules.proofs.Slots.Relaid.{flag-given, length-counted, bytes-back}
 use Rattle.equality.specs.Same.{sameName}
 use Rattle.equality.proofs.Told.{told-alike, ref-names-told}
-use Rattle.formed.proofs.Scans.{Scanned, scan-start, scan-on, scan-end}
-use Rattle.formed.proofs.Bools.{interchange, interchange-three}
+use Rattle.formed.proofs.Pairs.{pairs-both, pairs-alike, read-unequal, alone}
 
 -- ---- names that are tidy, also those of which more is read than they have bytes
 
@@ -49,75 +48,89 @@ tidy-alike a b p q = told-alike readName named ref-names-told names-told a b (ba
     back : (t : Name) → isTidyName t ≡ true → named (readName t) ≡ t
     back t e = let n : length (readName t) ≡ t .len = length-counted 0 (t .bytes) (t .len) in λ i. record { bytes = tidy-bytes t e i; len = n i }
 
--- ---- one field and those after it
+-- no two are the same by a key of what is read
+twice-unequal : {A B K : Type 0} (same : K → K → Bool) (rd : A → B) (key : B → K) (l : List A) → eachPair (λ (x y : A). not (same (key (rd x)) (key (rd y)))) l ≡ unequalBy same (map key (map rd l))
+twice-unequal same rd key l = sym (pairs-read rd (λ x y. not (same (key x) (key y))) l) ∙ read-unequal same key (map rd l)
 
-abbrev ids : List SchemaField → List ℤ
-ids l = map (λ (f : plain.SchemaField). f .id) (map readSchemaField l)
+-- ---- the fields of a schema
 
-abbrev names : List SchemaField → List (List ℕ)
-names l = map (λ (f : plain.SchemaField). f .name) (map readSchemaField l)
+abbrev pub fieldFormed : SchemaField → Bool
+fieldFormed f = schemaFieldFormed (readSchemaField f)
 
--- no field has the id or the name
-abbrev pub isNew : SchemaField → List SchemaField → Bool
-isNew x l = all (λ (f : SchemaField). not (eqZ (x .id .0) (f .id .0)) && not (sameName (x .name) (f .name))) l
+abbrev pub fieldsApart : SchemaField → SchemaField → Bool
+fieldsApart a b = not (eqZ (a .id .0) (b .id .0)) && not (sameName (a .name) (b .name))
 
-not-or : (a b : Bool) → not (a || b) ≡ (not a && not b)
-not-or true b = refl
-not-or false b = refl
+-- two tidy names differ exactly if what is read of them does
+names-apart : (a b : Name) → isTidyName a ≡ true → isTidyName b ≡ true → not (sameName a b) ≡ not (sameBytes (readName a) (readName b))
+names-apart a b p q = ap not (tidy-alike a b p q)
 
-module _ (f : SchemaField) (t : isTidySchemaField f ≡ true) where
-  abbrev newId : List SchemaField → Bool
-  newId l = not (isIn (ids l) (f .id .0))
+module _ (l : List SchemaField) (t : all isTidySchemaField l ≡ true) where
+  abbrev formed : Bool
+  formed = all schemaFieldFormed (map readSchemaField l)
 
-  abbrev newName : List SchemaField → Bool
-  newName l = not (any (sameBytes (readName (f .name))) (names l))
+  abbrev schemaIds : Bool
+  schemaIds = unequal (map (λ (f : plain.SchemaField). f .id) (map readSchemaField l))
 
-  new-parts : (l : List SchemaField) → all isTidySchemaField l ≡ true → (newId l && newName l) ≡ isNew f l
+  abbrev schemaNames : Bool
+  schemaNames = unequalBy sameBytes (map (λ (f : plain.SchemaField). f .name) (map readSchemaField l))
+
+  -- first is what was found before the fields
+  pub schema-fields : (first : Bool) → (first && alone fieldFormed fieldsApart l) ≡ (first && formed && schemaIds && schemaNames)
   unfolding isTidySchemaField
-  new-parts [] h = refl
-  new-parts (g ∷ l) h =
-      let a = eqZ (f .id .0) (g .id .0) in
-      let b = sameBytes (readName (f .name)) (readName (g .name)) in
-      rw (not-or a (isIn (ids l) (f .id .0)), not-or b (any (sameBytes (readName (f .name))) (names l)), interchange (not a) (newId l) (not b) (newName l), new-parts l (and-right (isTidyName (g .name)) _ h), tidy-alike (f .name) (g .name) t (and-left (isTidyName (g .name)) _ h))
+  schema-fields false = refl
+  schema-fields true =
+      ap₂ _&&_
+      (sym (all-read readSchemaField schemaFieldFormed l))
+      (pairs-both (λ a b. not (eqZ (a .id .0) (b .id .0))) (λ a b. not (sameName (a .name) (b .name))) l
+      ∙ ap₂ _&&_
+      (twice-unequal eqZ readSchemaField (λ f. f .id) l)
+      (pairs-alike isTidySchemaField (λ a b. not (sameName (a .name) (b .name))) (λ a b. not (sameBytes (readName (a .name)) (readName (b .name)))) (λ a b. names-apart (a .name) (b .name)) l t
+      ∙ twice-unequal sameBytes readSchemaField (λ f. f .name) l))
+      ∙ sym (and-assoc formed schemaIds schemaNames)
 
-abbrev formed : List SchemaField → Bool
-formed l = all schemaFieldFormed (map readSchemaField l)
+-- ---- the fields of a partition spec that is held
 
-abbrev fieldsFrom : ℕ → List SchemaField → Bool
-fieldsFrom i l = formed l && unequal (ids l) && unequalBy sameBytes (names l)
+abbrev pub partitionsApart : PartitionField → PartitionField → Bool
+partitionsApart a b = not (sameName (a .name) (b .name)) && not (eqZ (a .«field_id» .0) (b .«field_id» .0)) && not (isRedundant (readPartitionField a) (readPartitionField b))
 
-field-step : (f : SchemaField) (l : List SchemaField) → isTidySchemaField f ≡ true → all isTidySchemaField l ≡ true
-    → fieldsFrom 0 (f ∷ l) ≡ ((schemaFieldFormed (readSchemaField f) && isNew f l) && fieldsFrom 0 l)
-field-step f l t h =
-    rw (← new-parts f t l h) (interchange-three (schemaFieldFormed (readSchemaField f)) (formed l) (newId f t l) (unequal (ids l)) (newName f t l) (unequalBy sameBytes (names l)))
+abbrev pub hasId : PartitionField → Bool
+hasId f = f .«has_id»
 
--- ---- the loop
+-- where every field has an id, those are the ids
+ids-given : (l : List PartitionField) → all hasId l ≡ true → collect (λ (f : plain.PartitionField). f .id) (map readPartitionField l) ≡ map (λ (f : PartitionField). f .«field_id» .0) l
+ids-given [] h = refl
+ids-given (f ∷ l) h = rw (all-head hasId f l h, ids-given l (all-tail hasId f l h))
 
--- first is what was found before the fields, and ok what was found with those up to i
-pub record Checked (n : ℕ) (items : List SchemaField) (i : ℕ) (first ok : Bool) : Type 0 where
-  pub fits : n ≤ length items
-  pub tidy : all isTidySchemaField (take n items) ≡ true
-  pub upto : Scanned fieldsFrom (take n items) 0 i first ok
+abbrev allGiven : List plain.PartitionField → Bool
+allGiven l = all (λ (f : plain.PartitionField). isSome (f .id)) l
 
-module _ {n : ℕ} {items : List SchemaField} {first : Bool} where
-  pub checked-start : (room : ℕ) → length items ≡ room → n ≤ room → all isTidySchemaField (take n items) ≡ true → Checked n items 0 first first
-  checked-start room e h t = record { fits = omega arith; tidy = t; upto = scan-start }
+some-given : (l : List PartitionField) → all hasId l ≡ allGiven (map readPartitionField l)
+some-given l = sym (all-read readPartitionField (λ f. isSome (f .id)) l ∙ ap (λ (q : PartitionField → Bool). all q l) (λ i f. flag-given (f .«has_id») (f .«field_id» .0) i))
 
-  module _ {i : ℕ} {ok : Bool} (s : Checked n items i first ok) where
-    pub checked-on : (d : SchemaField) {a z : Bool} → i < n → a ≡ schemaFieldFormed (readSchemaField (getD items i d)) → z ≡ isNew (getD items i d) (drop (i + 1) (take n items)) → Checked n items (i + 1) first (ok && (a && z))
-    checked-on d {a} {z} k e f =
-        let m : length (take n items) ≡ n = length-take-le n items (s .fits) in
-        let g : getD (take n items) i d ≡ getD items i d = getD-take n items i d k in
-        let t : isTidySchemaField (getD items i d) ≡ true = rw g at (all-at isTidySchemaField d (take n items) (s .tidy) i (omega arith)) in
-        record {
-          fits = s .fits;
-          tidy = s .tidy;
-          upto = scan-on (s .upto) d (a && z) (omega arith) (rw (g, e, f) (field-step (getD items i d) (drop (i + 1) (take n items)) t (all-drop isTidySchemaField (i + 1) (take n items) (s .tidy))));
-        }
+abbrev namesUnequal : List plain.PartitionField → Bool
+namesUnequal l = unequalBy sameBytes (map (λ (f : plain.PartitionField). f .name) l)
 
-    pub checked-end : n ≤ i → ok ≡ (first && formed (counted noSchemaField items n) && unequal (ids (counted noSchemaField items n)) && unequalBy sameBytes (names (counted noSchemaField items n)))
-    checked-end k =
-        let l = take n items in
-        scan-end (s .upto) (omega (arith, length-take-le n items (s .fits))) refl
-        ∙ rw (counted-take noSchemaField items n (s .fits))
-        (sym (and-assoc first (formed l && unequal (ids l)) (unequalBy sameBytes (names l))) ∙ ap (λ (z : Bool). z && unequalBy sameBytes (names l)) (sym (and-assoc first (formed l) (unequal (ids l)))))
+abbrev idsUnequal : List plain.PartitionField → Bool
+idsUnequal l = unequal (collect (λ (f : plain.PartitionField). f .id) l)
+
+apart-parts : (l : List PartitionField) → all isTidyPartitionField l ≡ true → all hasId l ≡ true → eachPair partitionsApart l ≡ (namesUnequal (map readPartitionField l) && idsUnequal (map readPartitionField l) && unequalBy isRedundant (map readPartitionField l))
+unfolding isTidyPartitionField
+apart-parts l t h =
+    let name : PartitionField → PartitionField → Bool = λ a b. not (sameName (a .name) (b .name)) in
+    let id : PartitionField → PartitionField → Bool = λ a b. not (eqZ (a .«field_id» .0) (b .«field_id» .0)) in
+    let redundant : PartitionField → PartitionField → Bool = λ a b. not (isRedundant (readPartitionField a) (readPartitionField b)) in
+    pairs-both (λ a b. name a b && id a b) redundant l
+    ∙ ap₂ _&&_
+    (pairs-both name id l
+    ∙ ap₂ _&&_
+    (pairs-alike isTidyPartitionField name (λ a b. not (sameBytes (readName (a .name)) (readName (b .name)))) (λ a b p q. names-apart (a .name) (b .name) (and-right (a .«has_id» || isZeroZ (a .«field_id» .0)) _ p) (and-right (b .«has_id» || isZeroZ (b .«field_id» .0)) _ q)) l t
+    ∙ twice-unequal sameBytes readPartitionField (λ f. f .name) l)
+    (read-unequal eqZ (λ (f : PartitionField). f .«field_id» .0) l ∙ ap unequal (sym (ids-given l h))))
+    (read-unequal isRedundant readPartitionField l)
+
+pub spec-fields : (l : List PartitionField) → all isTidyPartitionField l ≡ true
+    → alone hasId partitionsApart l ≡ (allGiven (map readPartitionField l) && namesUnequal (map readPartitionField l) && idsUnequal (map readPartitionField l) && unequalBy isRedundant (map readPartitionField l))
+spec-fields l t =
+    cases (all hasId l)
+    (λ y. rw (y, sym (some-given l) ∙ y) (apart-parts l t y))
+    (λ n. rw (n, sym (some-given l) ∙ n))

@@ -12,7 +12,7 @@ use Rattle.rules.specs.Words.{all}
 use Rattle.rules.specs.Layout.{counted}
 use Rattle.rules.specs.Blanks.{restBlank, tidySlots}
 use Rattle.formed.proofs.Scans.{Scanned, scan-start, scan-on, scan-end}
-use Rattle.formed.proofs.Bools.{interchange}
+use Rattle.formed.proofs.Bools.{all-both}
 use Rattle.formed.proofs.Counted.{too-many, few-enough, all-counted}
 
 module _ {A : Type 0} (used unused : A → Bool) where
@@ -40,11 +40,6 @@ module _ {A : Type 0} (used unused : A → Bool) where
       cases (ltb i n)
       (λ t. let e : n - i ≡ suc (n - (i + 1)) = omega (arith, ltb-true i n t) in rw (t, e))
       (λ f. let e : n - i ≡ 0 = omega (arith, ltb-false i n f) in let k : n - (i + 1) ≡ 0 = omega (arith, ltb-false i n f) in rw (f, e, k))
-
-module _ {A : Type 0} (p q : A → Bool) where
-  all-both : (l : List A) → all (λ (x : A). p x && q x) l ≡ (all p l && all q l)
-  all-both [] = refl
-  all-both (x ∷ l) = ap (λ (z : Bool). (p x && q x) && z) (all-both l) ∙ interchange (p x) (q x) (all p l) (all q l)
 
 all-true : {A : Type 0} (l : List A) → all (λ (x : A). true) l ≡ true
 all-true [] = refl

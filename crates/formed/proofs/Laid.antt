@@ -15,23 +15,18 @@ use Rattle.records.specs.declared.reference.NamedRef.{NamedRef}
 use Rattle.records.specs.declared.reference.Refs.{Refs}
 use Rattle.records.specs.declared.schema.Schemas.{Schemas}
 use Rattle.records.specs.declared.«sort_order».SortOrders.{SortOrders}
+use Rattle.records.specs.declared.partition.PartitionSpecs.{PartitionSpecs}
 use Rattle.rules.specs.Words.{all, ascending}
 use Rattle.rules.specs.Register as plain
-use Rattle.rules.specs.Capacities.{snapshotRoom, refRoom, nameRoom, schemaRoom, schemaFieldRoom, sortOrderRoom, sortFieldRoom}
-use Rattle.rules.specs.WellFormed.{nameFormed, snapshotFormed, refFormed, schemaFormed, sortFieldFormed, offeredOrderFormed, orderFormed, snapshotBelow, schemaBelow, orderBelow, snapshotsFormed, refsFormed, schemasFormed, ordersFormed}
-use Rattle.rules.specs.Blanks.{isTidySnapshots, isBlankRef, isTidyRef, isTidyRefs, isTidySchemas, isTidySortOrders}
-use Rattle.rules.specs.Layout.{pad, readName, readSnapshots, readRef, laidRef, readRefs, laidRefs, readSchemas, readSortOrders}
-use Rattle.rules.proofs.Checks.{both, and-left, and-right, parts, schemaTests}
+use Rattle.rules.specs.Capacities.{snapshotRoom, refRoom, nameRoom, schemaRoom, schemaFieldRoom, sortOrderRoom, sortFieldRoom, specRoom, partitionFieldRoom}
+use Rattle.rules.specs.WellFormed.{nameFormed, snapshotFormed, refFormed, schemaFormed, sortFieldFormed, offeredOrderFormed, orderFormed, partitionFieldFormed, specFormed, snapshotBelow, schemaBelow, orderBelow, specBelow, snapshotsFormed, refsFormed, schemasFormed, ordersFormed, specsFormed}
+use Rattle.rules.specs.Blanks.{isTidySnapshots, isBlankRef, isTidyRef, isTidyRefs, isTidySchemas, isTidySortOrders, isTidyPartitionSpecs}
+use Rattle.rules.specs.Layout.{pad, readName, readSnapshots, readRef, laidRef, readRefs, laidRefs, readSchemas, readSortOrders, readPartitionSpecs}
+use Rattle.rules.proofs.Checks.{both, and-left, and-right, parts, schemaTests, offered-of}
 use Rattle.rules.proofs.Tables.{all-then, all-at, logFormed, log-fits, log-all}
-use Rattle.rules.proofs.Slots.Relaid.{table-back, blank-ref, back-snapshots, back-ref, back-schemas, back-sort-orders}
-use Rattle.tables.specs.Laid.{LaidName, LaidSnapshots, LaidRefs, LaidSchemas, LaidOrders}
+use Rattle.rules.proofs.Slots.Relaid.{table-back, blank-ref, back-snapshots, back-ref, back-schemas, back-sort-orders, back-partition-specs}
+use Rattle.tables.specs.Laid.{LaidName, LaidSnapshots, LaidRefs, LaidSchemas, LaidOrders, LaidSpecs}
 use Rattle.formed.proofs.Counted.{read-length, read-at}
-
-pub laid-snapshots : (t : Snapshots) → isTidySnapshots t ≡ true → snapshotsFormed (readSnapshots t) ≡ true → LaidSnapshots t
-unfolding snapshotsFormed
-laid-snapshots t e f =
-    let k = parts (leb (length (readSnapshots t)) snapshotRoom) (all snapshotFormed (readSnapshots t) ∷ ascending snapshotBelow (readSnapshots t) ∷ []) f in
-    record { back = back-snapshots t e f; fits = leb-true _ _ (k .0) }
 
 -- the order of refs is not asked: it is tested on names that are laid out
 pub laid-refs : (t : Refs) {ok : Bool} → ok ≡ (isTidyRefs t && logFormed refRoom refFormed (readRefs t)) → ok ≡ true → LaidRefs t
@@ -61,7 +56,7 @@ any-default : {A : Type 0} (l : List A) (i : ℕ) (d e : A) → i < length l →
 any-default l i d e h = cc (drop-cons l i d h, drop-cons l i e h)
 
 module _ {t : Refs} (h : LaidRefs t) where
-  refs-slots : length (t .items) ≡ refRoom
+  pub refs-slots : length (t .items) ≡ refRoom
   unfolding laidRefs
   refs-slots =
       let l : List NamedRef = map laidRef (readRefs t) in
@@ -115,4 +110,14 @@ laid-orders t e f =
       back = back-sort-orders t e f;
       fits = leb-true _ _ (k .0);
       fields = all-then orderFormed (λ (o : plain.SortOrder). leb (length (o .fields)) sortFieldRoom) (λ o h. parts (nonNeg (o .id)) (leb (length (o .fields)) sortFieldRoom ∷ all sortFieldFormed (o .fields) ∷ []) (and-left (offeredOrderFormed o) _ h) .1 .0) (readSortOrders t) (k .1 .0);
+    }
+
+pub laid-specs : (t : PartitionSpecs) → isTidyPartitionSpecs t ≡ true → specsFormed (readPartitionSpecs t) ≡ true → LaidSpecs t
+unfolding specsFormed
+laid-specs t e f =
+    let k = parts (leb (length (readPartitionSpecs t)) specRoom) (all specFormed (readPartitionSpecs t) ∷ ascending specBelow (readPartitionSpecs t) ∷ []) f in
+    record {
+      back = back-partition-specs t e f;
+      fits = leb-true _ _ (k .0);
+      fields = all-then specFormed (λ (s : plain.PartitionSpec). leb (length (s .fields)) partitionFieldRoom) (λ s h. parts (nonNeg (s .id)) (leb (length (s .fields)) partitionFieldRoom ∷ all partitionFieldFormed (s .fields) ∷ []) (offered-of s h) .1 .0) (readPartitionSpecs t) (k .1 .0);
     }

@@ -5,6 +5,8 @@ mod Bools
 pub mod Counted
 mod Filled
 mod Ascends
+pub mod Gathered
+mod Pairs
 mod Fields
 mod Unused
 mod Used

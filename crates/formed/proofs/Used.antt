@@ -13,15 +13,17 @@ use Rattle.records.specs.declared.reference.SnapshotReference.{SnapshotReferenc
 use Rattle.records.specs.declared.schema.SchemaIds.{SchemaIds}
 use Rattle.records.specs.declared.«sort_order».SortOrder.{SortOrder}
 use Rattle.records.specs.declared.statistics.StatisticsFile.{StatisticsFile}
+use Rattle.records.specs.declared.partition.SpecOffer.{SpecOffer}
+use Rattle.records.specs.declared.partition.SpecIds.{SpecIds}
 use Rattle.records.specs.declared.update.TableUpdate.{TableUpdate}
 use Rattle.rules.specs.Words.{any}
 use Rattle.rules.specs.Register.{Update}
 use Rattle.rules.specs.Register.Update.{NotFormed}
 use Rattle.rules.specs.WellFormed.{statisticsFileFormed, updateFormed}
 use Rattle.rules.specs.Kinds.{setStatisticsKind, removeStatisticsKind, setPartitionStatisticsKind, removePartitionStatisticsKind, fitsKinds, readKind}
-use Rattle.rules.specs.Blanks.{isZero, isZeroZ, restBlank, noneUsed, isBlankSnapshotId, isBlankSchemaId, isBlankSortField, isTidySnapshot, isBlankSnapshot, isTidySnapshotIds, isBlankSnapshotIds, isTidyReference, isBlankReference, isTidySchemaIds, isBlankSchemaIds, isTidySortOrder, isBlankSortOrder, isTidyStatisticsFile, isBlankStatisticsFile}
+use Rattle.rules.specs.Blanks.{isZero, isZeroZ, restBlank, noneUsed, isBlankSnapshotId, isBlankSchemaId, isBlankSortField, isTidySnapshot, isBlankSnapshot, isTidySnapshotIds, isBlankSnapshotIds, isTidyReference, isBlankReference, isTidySchemaIds, isBlankSchemaIds, isTidySortOrder, isBlankSortOrder, isTidyStatisticsFile, isBlankStatisticsFile, isBlankFieldId, isTidySpecOffer, isBlankSpecOffer, isBlankSpecId, isTidySpecIds, isBlankSpecIds}
 use Rattle.rules.specs.Layout.{readStatisticsFile}
-use Rattle.rules.specs.Capacities.{removalRoom, sortFieldRoom}
+use Rattle.rules.specs.Capacities.{removalRoom, sortFieldRoom, partitionFieldRoom}
 use Rattle.rules.proofs.Checks.{and-left, and-right}
 use Rattle.rules.proofs.Slots.Relaid.{blank-snapshot, blank-reference, blank-statistics-file}
 
@@ -73,6 +75,14 @@ blank-order-tidy o e = none-rest sortFieldRoom isBlankSortField (o .items) (o .c
 pub blank-statistics-file-tidy : (f : StatisticsFile) → isBlankStatisticsFile f ≡ true → isTidyStatisticsFile f ≡ true
 unfolding isTidyStatisticsFile
 blank-statistics-file-tidy f e = rw (blank-statistics-file f e)
+
+pub blank-spec-offer-tidy : (o : SpecOffer) → isBlankSpecOffer o ≡ true → isTidySpecOffer o ≡ true
+unfolding isBlankSpecOffer isTidySpecOffer
+blank-spec-offer-tidy o e = none-rest partitionFieldRoom isBlankFieldId (o .ids) (o .count) (and-right (isZeroZ (o .«spec_id» .0) && isZero (o .at)) _ e)
+
+pub blank-spec-ids-tidy : (t : SpecIds) → isBlankSpecIds t ≡ true → isTidySpecIds t ≡ true
+unfolding isBlankSpecIds isTidySpecIds
+blank-spec-ids-tidy t e = none-rest removalRoom isBlankSpecId (t .items) (t .count) e
 
 -- ---- the update
 

@@ -4,25 +4,25 @@ use mathlib.Core.Bool.{Bool, true, false, _&&_, false≢true, true≢false}
 use mathlib.Core.List.{List, [], _∷_, map}
 use Rattle.records.specs.declared.metadata.TableMetadata.{TableMetadata}
 use Rattle.rules.specs.Words.{eqZ, sameOption, all, any}
-use Rattle.rules.specs.WellFormed.{snapshotsFormed, refsFormed, snapshotLogFormed, metadataLogFormed, schemasFormed, ordersFormed, statisticsFormed, fieldsFormed, pointsIn, mainSnapshot, hasSchema, hasOrder, refsHeld, mainAgrees, currentSchemaHeld, defaultOrderHeld, metadataFormed}
-use Rattle.rules.specs.Blanks.{isTidySnapshots, isTidyRefs, isTidySnapshotLog, isTidyMetadataLog, isTidySchemas, isTidySortOrders, isTidyStatistics, isTidyFields, isTidyMetadata}
-use Rattle.rules.specs.Layout.{readSnapshots, readRefs, readSnapshotLog, readMetadataLog, readSchemas, readSortOrders, readStatistics, readFields, readMetadata}
+use Rattle.rules.specs.WellFormed.{snapshotsFormed, refsFormed, snapshotLogFormed, metadataLogFormed, schemasFormed, ordersFormed, specsFormed, statisticsFormed, fieldsFormed, pointsIn, mainSnapshot, hasSchema, hasOrder, hasSpec, refsHeld, mainAgrees, currentSchemaHeld, defaultOrderHeld, defaultSpecHeld, metadataFormed}
+use Rattle.rules.specs.Blanks.{isTidySnapshots, isTidyRefs, isTidySnapshotLog, isTidyMetadataLog, isTidySchemas, isTidySortOrders, isTidyPartitionSpecs, isTidyStatistics, isTidyFields, isTidyMetadata}
+use Rattle.rules.specs.Layout.{readSnapshots, readRefs, readSnapshotLog, readMetadataLog, readSchemas, readSortOrders, readPartitionSpecs, readStatistics, readFields, readMetadata}
 use Rattle.rules.proofs.Checks.{andAll, Hold, parts, and-left, and-right}
-use Rattle.tables.specs.Laid.{LaidSnapshots, LaidRefs, LaidSchemas, LaidOrders}
+use Rattle.tables.specs.Laid.{LaidRefs}
 use Rattle.formed.proofs.Bools.{apart}
-use Rattle.formed.proofs.Laid.{laid-snapshots, laid-formed-refs, laid-schemas, laid-orders}
+use Rattle.formed.proofs.Laid.{laid-formed-refs}
 
 -- ---- tests that are made where two others passed
 
-four-asked : (t f a b c d : Bool) → (t && f) ≡ true → (a && b && c && d) ≡ (t && (f && a && b && c && d))
-four-asked true true a b c d e = refl
-four-asked true false a b c d e = absurd (false≢true e)
-four-asked false f a b c d e = absurd (false≢true e)
+five-asked : (t f a b c d e : Bool) → (t && f) ≡ true → (a && b && c && d && e) ≡ (t && (f && a && b && c && d && e))
+five-asked true true a b c d e h = refl
+five-asked true false a b c d e h = absurd (false≢true h)
+five-asked false f a b c d e h = absurd (false≢true h)
 
-four-not-asked : (t f a b c d : Bool) → (t && f) ≡ false → false ≡ (t && (f && a && b && c && d))
-four-not-asked true true a b c d e = absurd (true≢false e)
-four-not-asked true false a b c d e = refl
-four-not-asked false f a b c d e = refl
+five-not-asked : (t f a b c d e : Bool) → (t && f) ≡ false → false ≡ (t && (f && a && b && c && d && e))
+five-not-asked true true a b c d e h = absurd (true≢false h)
+five-not-asked true false a b c d e h = refl
+five-not-asked false f a b c d e h = refl
 
 module _ (m : TableMetadata) where
   -- of each part after the snapshots, whether it is tidy and whether it is well formed
@@ -35,6 +35,7 @@ module _ (m : TableMetadata) where
       ∷ (isTidySortOrders (m .«sort_orders»), ordersFormed (readSortOrders (m .«sort_orders»)))
       ∷ (isTidyStatistics (m .statistics), statisticsFormed (readStatistics (m .statistics)))
       ∷ (isTidyStatistics (m .«partition_statistics»), statisticsFormed (readStatistics (m .«partition_statistics»)))
+      ∷ (isTidyPartitionSpecs (m .«partition_specs»), specsFormed (readPartitionSpecs (m .«partition_specs»)))
       ∷ (isTidyFields (m .fields), fieldsFormed (readFields (m .fields)))
       ∷ []
 
@@ -56,28 +57,20 @@ module _ (m : TableMetadata) where
       && sameOption eqZ (readFields (m .fields) .current) (mainSnapshot (readRefs (m .refs)))
       && any (hasSchema (m .fields .«current_schema_id» .0)) (readSchemas (m .schemas))
       && any (hasOrder (m .fields .«default_sort_order_id» .0)) (readSortOrders (m .«sort_orders»))
+      && any (hasSpec (m .fields .«default_spec_id» .0)) (readPartitionSpecs (m .«partition_specs»))
 
   pub whole-formed : eachFormed ≡ true → agreeing ≡ (isTidyMetadata m && metadataFormed (readMetadata m))
-  unfolding metadataFormed refsHeld mainAgrees currentSchemaHeld defaultOrderHeld
-  whole-formed e = four-asked (isTidyMetadata m) allFormed _ _ _ _ (sym each-apart ∙ e)
+  unfolding metadataFormed refsHeld mainAgrees currentSchemaHeld defaultOrderHeld defaultSpecHeld
+  whole-formed e = five-asked (isTidyMetadata m) allFormed _ _ _ _ _ (sym each-apart ∙ e)
 
   pub whole-not-formed : eachFormed ≡ false → false ≡ (isTidyMetadata m && metadataFormed (readMetadata m))
   unfolding metadataFormed
-  whole-not-formed e = four-not-asked (isTidyMetadata m) allFormed (refsHeld (readMetadata m)) (mainAgrees (readMetadata m)) (currentSchemaHeld (readMetadata m)) (defaultOrderHeld (readMetadata m)) (sym each-apart ∙ e)
+  whole-not-formed e = five-not-asked (isTidyMetadata m) allFormed (refsHeld (readMetadata m)) (mainAgrees (readMetadata m)) (currentSchemaHeld (readMetadata m)) (defaultOrderHeld (readMetadata m)) (defaultSpecHeld (readMetadata m)) (sym each-apart ∙ e)
 
-  -- the tables as the functions on tables ask them
+  -- the refs as the functions on tables ask them
   module _ (e : eachFormed ≡ true) where
     holds : Hold ((isTidySnapshots (m .snapshots) && snapshotsFormed (readSnapshots (m .snapshots))) ∷ map (λ (x : Bool × Bool). x .0 && x .1) after)
     holds = parts (isTidySnapshots (m .snapshots) && snapshotsFormed (readSnapshots (m .snapshots))) (map (λ (x : Bool × Bool). x .0 && x .1) after) e
 
-    pub snapshots-laid : LaidSnapshots (m .snapshots)
-    snapshots-laid = laid-snapshots (m .snapshots) (and-left (isTidySnapshots (m .snapshots)) _ (holds .0)) (and-right (isTidySnapshots (m .snapshots)) _ (holds .0))
-
     pub refs-laid : LaidRefs (m .refs)
     refs-laid = laid-formed-refs (m .refs) (and-left (isTidyRefs (m .refs)) _ (holds .1 .0)) (and-right (isTidyRefs (m .refs)) _ (holds .1 .0))
-
-    pub schemas-laid : LaidSchemas (m .schemas)
-    schemas-laid = laid-schemas (m .schemas) (and-left (isTidySchemas (m .schemas)) _ (holds .1 .1 .1 .1 .0)) (and-right (isTidySchemas (m .schemas)) _ (holds .1 .1 .1 .1 .0))
-
-    pub orders-laid : LaidOrders (m .«sort_orders»)
-    orders-laid = laid-orders (m .«sort_orders») (and-left (isTidySortOrders (m .«sort_orders»)) _ (holds .1 .1 .1 .1 .1 .0)) (and-right (isTidySortOrders (m .«sort_orders»)) _ (holds .1 .1 .1 .1 .1 .0))

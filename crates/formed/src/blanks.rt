@@ -7,25 +7,33 @@ ghost use mathlib.Core.Path.{_≡_};
 ghost use mathlib.Core.Bool.{cond};
 ghost use lib.ListN.{drop};
 ghost use Rattle.rules.specs.Words.{all};
-ghost use Rattle.rules.specs.Capacities.{sortFieldRoom, removalRoom};
-ghost use Rattle.rules.specs.Blanks.{isZero, restBlank, isTidyName, isBlankName, isTidyText, isBlankText, isTidySnapshot, isBlankSnapshot, isBlankSnapshotId, isTidySnapshotIds, isBlankSnapshotIds, isTidyReference, isBlankReference, isTidySchemaField, isBlankSchemaField, isTidySchema, isBlankSchema, isBlankSchemaOffer, isBlankSchemaId, isTidySchemaIds, isBlankSchemaIds, isBlankSortField, isTidySortOrder, isBlankSortOrder, isTidyStatisticsFile, isBlankStatisticsFile};
+ghost use Rattle.rules.specs.Capacities.{sortFieldRoom, partitionFieldRoom, removalRoom};
+ghost use Rattle.rules.specs.Blanks.{isZero, restBlank, isTidyName, isBlankName, isTidyText, isBlankText, isTidySnapshot, isBlankSnapshot, isBlankSnapshotId, isTidySnapshotIds, isBlankSnapshotIds, isTidyReference, isBlankReference, isTidySchemaField, isBlankSchemaField, isTidySchema, isBlankSchema, isBlankSchemaOffer, isBlankSchemaId, isTidySchemaIds, isBlankSchemaIds, isBlankSortField, isTidySortOrder, isBlankSortOrder, isTidyPartitionField, isBlankPartitionField, isTidyPartitionSpec, isBlankPartitionSpec, isBlankFieldId, isTidySpecOffer, isBlankSpecOffer, isBlankSpecId, isTidySpecIds, isBlankSpecIds, isTidyStatisticsFile, isBlankStatisticsFile};
 use equality::ids;
 use equality::number::same_age;
+use equality::number::same_buckets;
 use equality::number::same_file_size;
 use equality::number::same_min;
 use equality::slots::same_sort_field;
 use equality::whole::same_reference;
 use equality::whole::same_snapshot;
+use records::capacities::PARTITION_FIELDS;
 use records::capacities::REMOVALS;
 use records::capacities::SCHEMA_FIELDS;
 use records::capacities::SORT_FIELDS;
 use records::counters::Age;
+use records::counters::Buckets;
 use records::counters::FieldId;
 use records::counters::FileSize;
 use records::counters::MinSnapshots;
 use records::counters::SchemaId;
 use records::counters::SnapshotId;
 use records::counters::SortOrderId;
+use records::counters::SpecId;
+use records::partition::PartitionField;
+use records::partition::PartitionSpec;
+use records::partition::SpecIds;
+use records::partition::SpecOffer;
 use records::reference::SnapshotReference;
 use records::schema::Schema;
 use records::schema::SchemaField;
@@ -206,6 +214,85 @@ pub fn order_fits(used: bool, o: SortOrder) -> bool
     let n = o.count;
     let from = unused_from(used, n);
     (used | (ids::same_order(id, SortOrderId(0)) & (n == 0))) & sort_fields_blank_from(o, from)
+}
+
+fn partition_field_fits(used: bool, f: PartitionField) -> bool
+    ensures { λ r. ⌜ r ≡ cond used (isTidyPartitionField f) (isBlankPartitionField f) ⌝ }
+{
+    let id = f.field_id;
+    let t = f.transform;
+    let h = f.has_id;
+    let n = f.name;
+    if used {
+        return (h | ids::same_field(id, FieldId(0))) & name_fits(true, n);
+    }
+    ids::same_field(f.source_id, FieldId(0))
+        & ids::same_field(id, FieldId(0))
+        & same_buckets(f.buckets, Buckets(0))
+        & (t == 0)
+        & !h
+        & name_fits(false, n)
+}
+
+pub fn spec_fits(used: bool, s: PartitionSpec) -> bool
+    ensures { λ r. ⌜ r ≡ cond used (isTidyPartitionSpec s) (isBlankPartitionSpec s) ⌝ }
+{
+    let id = s.spec_id;
+    let n = s.count;
+    let from = unused_from(used, n);
+    let mut ok = used | (ids::same_spec(id, SpecId(0)) & (n == 0));
+    let mut i = 0;
+    while i < PARTITION_FIELDS {
+        let f = s.items[i];
+        ok = ok & partition_field_fits(i < from, f);
+        i += 1;
+    }
+    ok
+}
+
+fn offered_ids_blank_from(o: SpecOffer, from: usize) -> bool
+    ensures { λ r. ⌜ r ≡ restBlank partitionFieldRoom isBlankFieldId (o .ids) from ⌝ }
+{
+    let mut ok = true;
+    let mut i = from;
+    while i < PARTITION_FIELDS {
+        let x = o.ids[i];
+        ok = ok & ids::same_field(x, FieldId(0));
+        i += 1;
+    }
+    ok
+}
+
+pub fn spec_offer_fits(used: bool, o: SpecOffer) -> bool
+    ensures { λ r. ⌜ r ≡ cond used (isTidySpecOffer o) (isBlankSpecOffer o) ⌝ }
+{
+    let id = o.spec_id;
+    let at = o.at;
+    let n = o.count;
+    let from = unused_from(used, n);
+    (used | (ids::same_spec(id, SpecId(0)) & (at == 0) & (n == 0)))
+        & offered_ids_blank_from(o, from)
+}
+
+fn spec_ids_blank_from(t: SpecIds, from: usize) -> bool
+    ensures { λ r. ⌜ r ≡ restBlank removalRoom isBlankSpecId (t .items) from ⌝ }
+{
+    let mut ok = true;
+    let mut i = from;
+    while i < REMOVALS {
+        let x = t.items[i];
+        ok = ok & ids::same_spec(x, SpecId(0));
+        i += 1;
+    }
+    ok
+}
+
+pub fn spec_ids_fit(used: bool, t: SpecIds) -> bool
+    ensures { λ r. ⌜ r ≡ cond used (isTidySpecIds t) (isBlankSpecIds t) ⌝ }
+{
+    let n = t.count;
+    let from = unused_from(used, n);
+    (used | (n == 0)) & spec_ids_blank_from(t, from)
 }
 
 pub fn statistics_file_fits(used: bool, f: StatisticsFile) -> bool

@@ -1,37 +1,71 @@
-// Tables in the order of their keys: each element is below the next.
+// Tables in the order of their keys: each element is below the next. The order of numbers is asked of the keys alone, gathered where the slots are looked at,
+// so that a table is handed over once.
 ghost use mathlib.Core.Path.{_≡_};
+ghost use mathlib.Core.Bool.{true};
 ghost use Prim.Native.Nat.{_≤_};
-ghost use Rattle.rules.specs.Words.{ascending};
-ghost use Rattle.rules.specs.Capacities.{snapshotRoom, schemaRoom, sortOrderRoom, statisticsRoom};
-ghost use Rattle.rules.specs.WellFormed.{snapshotBelow, refBelow, schemaBelow, orderBelow, statisticsBelow};
-ghost use Rattle.rules.specs.Layout.{readSnapshots, readRefs, readSchemas, readSortOrders, readStatistics};
+ghost use lib.ListN.{take};
+ghost use lib.Signed.{ltZ};
+ghost use Rattle.rules.specs.Words.{ascending, isIn};
+ghost use Rattle.rules.specs.Capacities.{snapshotRoom};
+ghost use Rattle.rules.specs.WellFormed.{refBelow};
+ghost use Rattle.rules.specs.Layout.{readRefs};
 ghost use Rattle.tables.specs.Laid.{LaidRefs};
+ghost use Rattle.formed.specs.Found.{Told};
+use records::capacities::SNAPSHOTS;
 use records::reference::Refs;
-use records::schema::Schemas;
-use records::snapshot::Snapshots;
-use records::sort_order::SortOrders;
-use records::statistics::StatisticsFiles;
-use tables::ids::order_below;
-use tables::ids::schema_below;
-use tables::ids::snapshot_below;
+use search::Key;
+use search::is_in;
 use tables::names::name_is_below;
 
-pub fn snapshots_ascend(t: Snapshots) -> bool
-    requires { ⌜ t .count ≤ snapshotRoom ⌝ }
-    ensures { λ r. ⌜ r ≡ ascending snapshotBelow (readSnapshots t) ⌝ }
+// The keys of a table in its order, and zeros up to as many as the largest table has. It is `filled` if its slots passed, and `formed` if its keys ascend too.
+pub struct Keys {
+    pub ids: [i64; SNAPSHOTS],
+    pub count: usize,
+    pub filled: bool,
+    pub formed: bool,
+}
+
+fn ascends(ids: &[i64]) -> bool
+    ensures { λ r. ⌜ r ≡ ascending ltZ (now (ids .entry)) ⌝ }
 {
-    let n = t.count;
     let mut ok = true;
     let mut i = 1;
-    while i < n {
-        let a = t.items[i - 1];
-        let b = t.items[i];
-        let x = a.snapshot_id;
-        let y = b.snapshot_id;
-        ok = ok & snapshot_below(x, y);
+    while i < ids.len() {
+        ok = ok & (ids[i - 1] < ids[i]);
         i += 1;
     }
     ok
+}
+
+// The order is asked of a table whose slots passed.
+pub fn told(filled: bool, count: usize, ids: [i64; SNAPSHOTS]) -> Keys
+    requires { ⌜ (filled ≡ true → count ≤ snapshotRoom) ⌝ }
+    ensures { λ r. ⌜ Told filled count ids r ⌝ }
+{
+    if filled {
+        let formed = ascends(&ids[..count]);
+        return Keys {
+            ids,
+            count,
+            filled: true,
+            formed,
+        };
+    }
+    Keys {
+        ids,
+        count: 0,
+        filled: false,
+        formed: false,
+    }
+}
+
+pub fn holds(k: Keys, key: Key) -> bool
+    requires { ⌜ k .count ≤ snapshotRoom ⌝ }
+    ensures { λ r. ⌜ r ≡ isIn (take (k .count) (k .ids)) (key .0) ⌝ }
+{
+    let n = k.count;
+    let ids = k.ids;
+    is_in(&ids[..n], key)
 }
 
 pub fn refs_ascend(t: Refs) -> bool
@@ -47,60 +81,6 @@ pub fn refs_ascend(t: Refs) -> bool
         let x = a.name;
         let y = b.name;
         ok = ok & name_is_below(x, y);
-        i += 1;
-    }
-    ok
-}
-
-pub fn schemas_ascend(t: Schemas) -> bool
-    requires { ⌜ t .count ≤ schemaRoom ⌝ }
-    ensures { λ r. ⌜ r ≡ ascending schemaBelow (readSchemas t) ⌝ }
-{
-    let n = t.count;
-    let mut ok = true;
-    let mut i = 1;
-    while i < n {
-        let a = t.items[i - 1];
-        let b = t.items[i];
-        let x = a.schema_id;
-        let y = b.schema_id;
-        ok = ok & schema_below(x, y);
-        i += 1;
-    }
-    ok
-}
-
-pub fn orders_ascend(t: SortOrders) -> bool
-    requires { ⌜ t .count ≤ sortOrderRoom ⌝ }
-    ensures { λ r. ⌜ r ≡ ascending orderBelow (readSortOrders t) ⌝ }
-{
-    let n = t.count;
-    let mut ok = true;
-    let mut i = 1;
-    while i < n {
-        let a = t.items[i - 1];
-        let b = t.items[i];
-        let x = a.order_id;
-        let y = b.order_id;
-        ok = ok & order_below(x, y);
-        i += 1;
-    }
-    ok
-}
-
-pub fn statistics_ascend(t: StatisticsFiles) -> bool
-    requires { ⌜ t .count ≤ statisticsRoom ⌝ }
-    ensures { λ r. ⌜ r ≡ ascending statisticsBelow (readStatistics t) ⌝ }
-{
-    let n = t.count;
-    let mut ok = true;
-    let mut i = 1;
-    while i < n {
-        let f = t.items[i - 1];
-        let g = t.items[i];
-        let p = f.snapshot_id;
-        let q = g.snapshot_id;
-        ok = ok & snapshot_below(p, q);
         i += 1;
     }
     ok

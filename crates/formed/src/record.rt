@@ -3,29 +3,45 @@ ghost use mathlib.Core.Path.{_≡_};
 ghost use Prim.Native.Nat.{_≤_};
 ghost use mathlib.Core.Bool.{true, not, _&&_};
 ghost use lib.ListN.{drop, take};
-ghost use Rattle.rules.specs.Words.{eqZ, all};
-ghost use Rattle.rules.specs.Capacities.{schemaFieldRoom};
-ghost use Rattle.rules.specs.WellFormed.{snapshotFormed, referenceFormed, schemaFieldFormed, schemaFormed, sortFieldFormed, offeredOrderFormed, orderFormed, statisticsFileFormed, removalFormed};
-ghost use Rattle.rules.specs.Blanks.{isTidySchema};
-ghost use Rattle.rules.specs.Layout.{readSnapshot, readSnapshotIds, readReference, readSchemaField, readSchema, readSchemaIds, readSortField, readSortOrder, readStatisticsFile};
+ghost use Rattle.rules.specs.Words.{eqZ, ifSome, all, eachPair};
+ghost use Rattle.rules.specs.Capacities.{schemaFieldRoom, partitionFieldRoom};
+ghost use Rattle.rules.specs.WellFormed.{atLeastOne, snapshotFormed, referenceFormed, schemaFieldFormed, schemaFormed, sortFieldFormed, offeredOrderFormed, orderFormed, transformFormed, partitionFieldFormed, offeredSpecFormed, specFormed, statisticsFileFormed, removalFormed, offeredIdsFormed};
+ghost use Rattle.rules.specs.Partitions.{isTime, isRedundant};
+ghost use Rattle.rules.specs.Blanks.{isTidySchema, isTidyPartitionSpec};
+ghost use Rattle.rules.specs.Layout.{readSnapshot, readSnapshotIds, readReference, readSchemaField, readSchema, readSchemaIds, readSortField, readSortOrder, readPartitionField, readPartitionSpec, readFieldId, readSpecOffer, readSpecIds, readStatisticsFile};
 ghost use Rattle.equality.specs.Same.{sameName};
 use crate::bounds::age_formed;
+use crate::bounds::buckets_formed;
 use crate::bounds::field_id_formed;
 use crate::bounds::file_size_formed;
 use crate::bounds::min_formed;
 use crate::bounds::order_id_formed;
+use crate::bounds::partition_id_formed;
 use crate::bounds::schema_id_formed;
 use crate::bounds::sequence_formed;
 use crate::bounds::snapshot_id_formed;
+use crate::bounds::spec_id_formed;
 use equality::ids::same_field;
 use equality::ids::same_order;
+use equality::number::same_buckets;
 use equality::text::same_name;
 use records::capacities::NAME;
+use records::capacities::PARTITION_FIELDS;
 use records::capacities::REMOVALS;
 use records::capacities::SCHEMA_FIELDS;
 use records::capacities::SORT_FIELDS;
 use records::capacities::TEXT;
+use records::counters::Buckets;
+use records::counters::FieldId;
 use records::counters::SortOrderId;
+use records::partition::BUCKET;
+use records::partition::DAY;
+use records::partition::IDENTITY;
+use records::partition::PartitionField;
+use records::partition::PartitionSpec;
+use records::partition::SpecIds;
+use records::partition::SpecOffer;
+use records::partition::YEAR;
 use records::reference::SnapshotReference;
 use records::schema::LONG;
 use records::schema::Schema;
@@ -37,6 +53,7 @@ use records::snapshot::SnapshotIds;
 use records::sort_order::SortField;
 use records::sort_order::SortOrder;
 use records::statistics::StatisticsFile;
+use records::text::Name;
 
 pub fn snapshot_formed(s: Snapshot) -> bool
     ensures { λ r. ⌜ r ≡ snapshotFormed (readSnapshot s) ⌝ }
@@ -91,33 +108,42 @@ fn field_formed(f: SchemaField) -> bool
     field_id_formed(x) & ((t == LONG) | (t == TIMESTAMP)) & (n <= NAME)
 }
 
-// Neither the ids nor the names are the same. Lengths tell most names apart, and the bytes are looked at where they do not.
-fn fields_differ(a: SchemaField, b: SchemaField) -> bool
-    ensures { λ r. ⌜ r ≡ (not (eqZ (a .id .0) (b .id .0)) && not (sameName (a .name) (b .name))) ⌝ }
+// Lengths tell most names apart, and the bytes are looked at where they do not.
+fn names_differ(x: Name, y: Name) -> bool
+    ensures { λ r. ⌜ r ≡ not (sameName x y) ⌝ }
 {
-    let x = a.name;
-    let y = b.name;
-    if same_field(a.id, b.id) {
-        return false;
-    }
     if x.len != y.len {
         return true;
     }
     !same_name(x, y)
 }
 
-// No field from a place on has the id or the name of this one.
-fn field_is_new(s: Schema, x: SchemaField, from: usize) -> bool
+// Neither the ids nor the names are the same.
+fn fields_differ(a: SchemaField, b: SchemaField) -> bool
+    ensures { λ r. ⌜ r ≡ (not (eqZ (a .id .0) (b .id .0)) && not (sameName (a .name) (b .name))) ⌝ }
+{
+    !same_field(a.id, b.id) & names_differ(a.name, b.name)
+}
+
+// Each two fields differ. One field after another is asked with those after it, in one loop, as the schema is large and what is handed over is copied.
+fn fields_are_apart(s: Schema) -> bool
     requires { ⌜ s .count ≤ schemaFieldRoom ⌝ }
-    ensures { λ r. ⌜ r ≡ all (λ f. not (eqZ (x .id .0) (f .id .0)) && not (sameName (x .name) (f .name))) (drop from (take (s .count) (s .items))) ⌝ }
+    ensures { λ r. ⌜ r ≡ eachPair (λ a b. not (eqZ (a .id .0) (b .id .0)) && not (sameName (a .name) (b .name))) (take (s .count) (s .items)) ⌝ }
 {
     let n = s.count;
     let mut ok = true;
-    let mut i = from;
+    let mut i = 0;
+    let mut j = 1;
     while i < n {
-        let f = s.items[i];
-        ok = ok & fields_differ(x, f);
+        if j < n {
+            let a = s.items[i];
+            let b = s.items[j];
+            ok = ok & fields_differ(a, b);
+            j += 1;
+            continue;
+        }
         i += 1;
+        j = i + 1;
     }
     ok
 }
@@ -135,10 +161,10 @@ pub fn schema_formed(s: Schema) -> bool
     let mut i = 0;
     while i < n {
         let f = s.items[i];
+        ok = ok & field_formed(f);
         i += 1;
-        ok = ok & (field_formed(f) & field_is_new(s, f, i));
     }
-    ok
+    ok & fields_are_apart(s)
 }
 
 pub fn schema_ids_formed(t: SchemaIds) -> bool
@@ -195,6 +221,147 @@ pub fn order_formed(o: SortOrder) -> bool
     let zero = same_order(id, SortOrderId(0));
     let none = n == 0;
     offered_order_formed(o) & (none == zero)
+}
+
+// A bucket has a number, and no other transform has one.
+fn transform_formed(t: u8, n: Buckets) -> bool
+    ensures { λ r. ⌜ r ≡ transformFormed t (n .0) ⌝ }
+{
+    ((IDENTITY <= t) & (t <= DAY) & same_buckets(n, Buckets(0)))
+        | ((t == BUCKET) & buckets_formed(n))
+}
+
+fn partition_field_formed(f: PartitionField) -> bool
+    ensures { λ r. ⌜ r ≡ partitionFieldFormed (readPartitionField f) ⌝ }
+{
+    let a = f.name;
+    let n = a.len;
+    field_id_formed(f.source_id)
+        & partition_id_formed(f.has_id, f.field_id)
+        & transform_formed(f.transform, f.buckets)
+        & (1 <= n)
+        & (n <= NAME)
+}
+
+// A spec that is offered.
+pub fn offered_spec_formed(s: PartitionSpec) -> bool
+    ensures { λ r. ⌜ r ≡ offeredSpecFormed (readPartitionSpec s) ⌝ }
+{
+    let id = s.spec_id;
+    let n = s.count;
+    if n > PARTITION_FIELDS {
+        return false;
+    }
+    let mut ok = spec_id_formed(id);
+    let mut i = 0;
+    while i < n {
+        let f = s.items[i];
+        ok = ok & partition_field_formed(f);
+        i += 1;
+    }
+    ok
+}
+
+fn is_time(t: u8) -> bool
+    ensures { λ r. ⌜ r ≡ isTime t ⌝ }
+{
+    (YEAR <= t) & (t <= DAY)
+}
+
+// Two fields of one source, with one transform or both with a time.
+pub fn is_redundant(a: PartitionField, b: PartitionField) -> bool
+    ensures { λ r. ⌜ r ≡ isRedundant (readPartitionField a) (readPartitionField b) ⌝ }
+{
+    let t = a.transform;
+    let u = b.transform;
+    same_field(a.source_id, b.source_id)
+        & (((t == u) & same_buckets(a.buckets, b.buckets)) | (is_time(t) & is_time(u)))
+}
+
+// Neither the names nor the ids are the same, and none of the two is redundant.
+fn partitions_differ(a: PartitionField, b: PartitionField) -> bool
+    ensures { λ r. ⌜ r ≡ (not (sameName (a .name) (b .name)) && not (eqZ (a .«field_id» .0) (b .«field_id» .0)) && not (isRedundant (readPartitionField a) (readPartitionField b))) ⌝ }
+{
+    names_differ(a.name, b.name) & !same_field(a.field_id, b.field_id) & !is_redundant(a, b)
+}
+
+// Each field from a place on differs from this one.
+fn partition_is_new(s: PartitionSpec, x: PartitionField, from: usize) -> bool
+    requires { ⌜ s .count ≤ partitionFieldRoom ⌝ }
+    ensures { λ r. ⌜ r ≡ all (λ f. not (sameName (x .name) (f .name)) && not (eqZ (x .«field_id» .0) (f .«field_id» .0)) && not (isRedundant (readPartitionField x) (readPartitionField f))) (drop from (take (s .count) (s .items))) ⌝ }
+{
+    let n = s.count;
+    let mut ok = true;
+    let mut i = from;
+    while i < n {
+        let f = s.items[i];
+        ok = ok & partitions_differ(x, f);
+        i += 1;
+    }
+    ok
+}
+
+// One that is held: every field has an id, and each two of them differ.
+pub fn spec_formed(s: PartitionSpec) -> bool
+    requires { ⌜ isTidyPartitionSpec s ≡ true ⌝ }
+    ensures { λ r. ⌜ r ≡ specFormed (readPartitionSpec s) ⌝ }
+{
+    let n = s.count;
+    if !offered_spec_formed(s) {
+        return false;
+    }
+    let mut ok = true;
+    let mut i = 0;
+    while i < n {
+        let f = s.items[i];
+        i += 1;
+        ok = ok & (f.has_id & partition_is_new(s, f, i));
+    }
+    ok
+}
+
+// An id of 0 is one that is left out.
+fn offered_id_formed(x: FieldId) -> bool
+    ensures { λ r. ⌜ r ≡ ifSome atLeastOne (readFieldId x) ⌝ }
+{
+    let has = !same_field(x, FieldId(0));
+    partition_id_formed(has, x)
+}
+
+// What is asked of an offered spec before its fields are read.
+pub fn offered_ids_formed(o: SpecOffer) -> bool
+    ensures { λ r. ⌜ r ≡ offeredIdsFormed (readSpecOffer o) ⌝ }
+{
+    let id = o.spec_id;
+    let n = o.count;
+    if n > PARTITION_FIELDS {
+        return false;
+    }
+    let mut ok = spec_id_formed(id);
+    let mut i = 0;
+    while i < n {
+        let x = o.ids[i];
+        ok = ok & offered_id_formed(x);
+        i += 1;
+    }
+    ok
+}
+
+pub fn spec_ids_formed(t: SpecIds) -> bool
+    ensures { λ r. ⌜ r ≡ removalFormed (readSpecIds t) ⌝ }
+{
+    let n = t.count;
+    if n > REMOVALS {
+        return false;
+    }
+    let mut ok = true;
+    let mut i = 0;
+    while i < n {
+        let x = t.items[i];
+        ok = ok & spec_id_formed(x);
+        i += 1;
+    }
+    ok
 }
 
 pub fn statistics_file_formed(f: StatisticsFile) -> bool

@@ -1,31 +1,37 @@
-// The slots of tables and logs: the counted ones are tidy and well formed, and the rest are blank.
+// The slots of tables and logs: the counted ones are tidy and well formed, and the rest are blank. The keys of a table are gathered on the way.
 ghost use mathlib.Core.Path.{_≡_};
 ghost use mathlib.Core.Bool.{cond, _&&_};
 ghost use lib.Dec.{leb};
 ghost use lib.ListN.{length};
 ghost use lib.Signed.{nonNeg};
 ghost use Rattle.rules.specs.Words.{all};
-ghost use Rattle.rules.specs.Capacities.{snapshotRoom, refRoom, schemaRoom, sortOrderRoom, statisticsRoom};
-ghost use Rattle.rules.specs.WellFormed.{fileNameFormed, snapshotFormed, refFormed, schemaFormed, orderFormed, statisticsFileFormed, snapshotLogFormed, metadataLogFormed};
-ghost use Rattle.rules.specs.Blanks.{isTidySnapshot, isBlankSnapshot, isTidySnapshots, isBlankLogEntry, isTidySnapshotLog, isTidyRef, isBlankRef, isTidyRefs, isTidySchema, isBlankSchema, isTidySchemas, isTidySortOrder, isBlankSortOrder, isTidySortOrders, isTidyStatisticsFile, isBlankStatisticsFile, isTidyStatistics, isTidyMetadataLogEntry, isBlankMetadataLogEntry, isTidyMetadataLog};
-ghost use Rattle.rules.specs.Layout.{readText, readSnapshot, readSnapshots, readSnapshotLog, readRef, readRefs, readSchema, readSchemas, readSortOrder, readSortOrders, readStatisticsFile, readStatistics, readMetadataLog};
+ghost use Rattle.rules.specs.Capacities.{snapshotRoom, refRoom, schemaRoom, sortOrderRoom, specRoom, statisticsRoom};
+ghost use Rattle.rules.specs.WellFormed.{fileNameFormed, snapshotFormed, refFormed, schemaFormed, orderFormed, specFormed, statisticsFileFormed, snapshotLogFormed, metadataLogFormed};
+ghost use Rattle.rules.specs.Blanks.{isTidySnapshot, isBlankSnapshot, isTidySnapshots, isBlankLogEntry, isTidySnapshotLog, isTidyRef, isBlankRef, isTidyRefs, isTidySchema, isBlankSchema, isTidySchemas, isTidySortOrder, isBlankSortOrder, isTidySortOrders, isTidyPartitionSpec, isBlankPartitionSpec, isTidyPartitionSpecs, isTidyStatisticsFile, isBlankStatisticsFile, isTidyStatistics, isTidyMetadataLogEntry, isBlankMetadataLogEntry, isTidyMetadataLog};
+ghost use Rattle.rules.specs.Layout.{readText, readSnapshot, readSnapshots, readSnapshotLog, readRef, readRefs, readSchema, readSchemas, readSortOrder, readSortOrders, readPartitionSpec, readPartitionSpecs, readStatisticsFile, readStatistics, readMetadataLog};
+ghost use Rattle.formed.specs.Found.{Found};
 use crate::blanks::name_fits;
 use crate::blanks::order_fits;
 use crate::blanks::reference_fits;
 use crate::blanks::schema_fits;
 use crate::blanks::snapshot_fits;
+use crate::blanks::spec_fits;
 use crate::blanks::statistics_file_fits;
 use crate::blanks::text_fits;
 use crate::bounds::snapshot_id_formed;
+use crate::order::Keys;
+use crate::order::told;
 use crate::record::order_formed;
 use crate::record::reference_formed;
 use crate::record::schema_formed;
 use crate::record::snapshot_formed;
+use crate::record::spec_formed;
 use crate::record::statistics_file_formed;
 use equality::number::same_time;
 use equality::whole::same_log_entry;
 use records::capacities::METADATA_LOG;
 use records::capacities::NAME;
+use records::capacities::PARTITION_SPECS;
 use records::capacities::REFS;
 use records::capacities::SCHEMAS;
 use records::capacities::SNAPSHOT_LOG;
@@ -36,6 +42,8 @@ use records::capacities::TEXT;
 use records::counters::Time;
 use records::metadata::MetadataLog;
 use records::metadata::MetadataLogEntry;
+use records::partition::PartitionSpec;
+use records::partition::PartitionSpecs;
 use records::reference::NamedRef;
 use records::reference::Refs;
 use records::schema::Schema;
@@ -48,6 +56,10 @@ use records::sort_order::SortOrder;
 use records::sort_order::SortOrders;
 use records::statistics::StatisticsFile;
 use records::statistics::StatisticsFiles;
+use tables::keys::order_key;
+use tables::keys::schema_key;
+use tables::keys::snapshot_key;
+use tables::keys::spec_key;
 
 fn snapshot_slot(used: bool, s: Snapshot) -> bool
     ensures { λ r. ⌜ r ≡ cond used (isTidySnapshot s && snapshotFormed (readSnapshot s)) (isBlankSnapshot s) ⌝ }
@@ -58,18 +70,22 @@ fn snapshot_slot(used: bool, s: Snapshot) -> bool
     snapshot_fits(false, s)
 }
 
-pub fn snapshots_filled(t: Snapshots) -> bool
-    ensures { λ r. ⌜ r ≡ (isTidySnapshots t && (leb (length (readSnapshots t)) snapshotRoom && all snapshotFormed (readSnapshots t))) ⌝ }
+pub fn snapshot_keys(t: Snapshots) -> Keys
+    ensures { λ r. ⌜ Found (isTidySnapshots t) snapshotRoom snapshotFormed (λ x. x .id) (readSnapshots t) r ⌝ }
 {
     let n = t.count;
+    let mut ids = [0i64; SNAPSHOTS];
     let mut ok = n <= SNAPSHOTS;
     let mut i = 0;
     while i < SNAPSHOTS {
         let x = t.items[i];
         ok = ok & snapshot_slot(i < n, x);
+        let k = snapshot_key(x.snapshot_id);
+        let z = k.0;
+        ids[i] = z;
         i += 1;
     }
-    ok
+    told(ok, n, ids)
 }
 
 fn ref_slot(used: bool, r: NamedRef) -> bool
@@ -160,18 +176,22 @@ fn schema_slot(used: bool, s: Schema) -> bool
     true
 }
 
-pub fn schemas_filled(t: Schemas) -> bool
-    ensures { λ r. ⌜ r ≡ (isTidySchemas t && (leb (length (readSchemas t)) schemaRoom && all schemaFormed (readSchemas t))) ⌝ }
+pub fn schema_keys(t: Schemas) -> Keys
+    ensures { λ r. ⌜ Found (isTidySchemas t) schemaRoom schemaFormed (λ x. x .id) (readSchemas t) r ⌝ }
 {
     let n = t.count;
+    let mut ids = [0i64; SNAPSHOTS];
     let mut ok = n <= SCHEMAS;
     let mut i = 0;
     while i < SCHEMAS {
         let x = t.items[i];
         ok = ok & schema_slot(i < n, x);
+        let k = schema_key(x.schema_id);
+        let z = k.0;
+        ids[i] = z;
         i += 1;
     }
-    ok
+    told(ok, n, ids)
 }
 
 fn order_slot(used: bool, o: SortOrder) -> bool
@@ -183,18 +203,52 @@ fn order_slot(used: bool, o: SortOrder) -> bool
     order_fits(false, o)
 }
 
-pub fn orders_filled(t: SortOrders) -> bool
-    ensures { λ r. ⌜ r ≡ (isTidySortOrders t && (leb (length (readSortOrders t)) sortOrderRoom && all orderFormed (readSortOrders t))) ⌝ }
+pub fn order_keys(t: SortOrders) -> Keys
+    ensures { λ r. ⌜ Found (isTidySortOrders t) sortOrderRoom orderFormed (λ x. x .id) (readSortOrders t) r ⌝ }
 {
     let n = t.count;
+    let mut ids = [0i64; SNAPSHOTS];
     let mut ok = n <= SORT_ORDERS;
     let mut i = 0;
     while i < SORT_ORDERS {
         let x = t.items[i];
         ok = ok & order_slot(i < n, x);
+        let k = order_key(x.order_id);
+        let z = k.0;
+        ids[i] = z;
         i += 1;
     }
-    ok
+    told(ok, n, ids)
+}
+
+fn spec_slot(used: bool, s: PartitionSpec) -> bool
+    ensures { λ r. ⌜ r ≡ cond used (isTidyPartitionSpec s && specFormed (readPartitionSpec s)) (isBlankPartitionSpec s) ⌝ }
+{
+    if !spec_fits(used, s) {
+        return false;
+    }
+    if used {
+        return spec_formed(s);
+    }
+    true
+}
+
+pub fn spec_keys(t: PartitionSpecs) -> Keys
+    ensures { λ r. ⌜ Found (isTidyPartitionSpecs t) specRoom specFormed (λ x. x .id) (readPartitionSpecs t) r ⌝ }
+{
+    let n = t.count;
+    let mut ids = [0i64; SNAPSHOTS];
+    let mut ok = n <= PARTITION_SPECS;
+    let mut i = 0;
+    while i < PARTITION_SPECS {
+        let x = t.items[i];
+        ok = ok & spec_slot(i < n, x);
+        let k = spec_key(x.spec_id);
+        let z = k.0;
+        ids[i] = z;
+        i += 1;
+    }
+    told(ok, n, ids)
 }
 
 fn statistics_slot(used: bool, f: StatisticsFile) -> bool
@@ -206,16 +260,20 @@ fn statistics_slot(used: bool, f: StatisticsFile) -> bool
     statistics_file_fits(false, f)
 }
 
-pub fn statistics_filled(t: StatisticsFiles) -> bool
-    ensures { λ r. ⌜ r ≡ (isTidyStatistics t && (leb (length (readStatistics t)) statisticsRoom && all statisticsFileFormed (readStatistics t))) ⌝ }
+pub fn statistics_keys(t: StatisticsFiles) -> Keys
+    ensures { λ r. ⌜ Found (isTidyStatistics t) statisticsRoom statisticsFileFormed (λ x. x .snapshot) (readStatistics t) r ⌝ }
 {
     let n = t.count;
+    let mut ids = [0i64; SNAPSHOTS];
     let mut ok = n <= STATISTICS;
     let mut i = 0;
     while i < STATISTICS {
         let x = t.items[i];
         ok = ok & statistics_slot(i < n, x);
+        let k = snapshot_key(x.snapshot_id);
+        let z = k.0;
+        ids[i] = z;
         i += 1;
     }
-    ok
+    told(ok, n, ids)
 }

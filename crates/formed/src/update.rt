@@ -2,7 +2,7 @@
 // Whether what an update offers is well formed is asked where it is added, by its bytes.
 ghost use mathlib.Core.Path.{_≡_};
 ghost use Rattle.rules.specs.WellFormed.{updateFormed};
-ghost use Rattle.rules.specs.Kinds.{isTidyFieldsPart, isTidySnapshotsPart, isTidyRefsPart, isTidySchemasPart, isTidySortOrdersPart, isTidyStatisticsPart, isTidyUpdate, readKind, readUpdate};
+ghost use Rattle.rules.specs.Kinds.{isTidyFieldsPart, isTidySnapshotsPart, isTidyRefsPart, isTidySchemasPart, isTidySortOrdersPart, isTidyStatisticsPart, isTidyPartitionSpecsPart, isTidyUpdate, readKind, readUpdate};
 use crate::blanks::name_fits;
 use crate::blanks::order_fits;
 use crate::blanks::reference_fits;
@@ -10,6 +10,8 @@ use crate::blanks::schema_ids_fit;
 use crate::blanks::schema_offer_is_blank;
 use crate::blanks::snapshot_fits;
 use crate::blanks::snapshot_ids_fit;
+use crate::blanks::spec_ids_fit;
+use crate::blanks::spec_offer_fits;
 use crate::blanks::statistics_file_fits;
 use crate::blanks::text_fits;
 use crate::blanks::zeros_from;
@@ -17,30 +19,38 @@ use crate::bounds::order_choice_formed;
 use crate::bounds::schema_choice_formed;
 use crate::bounds::schema_id_formed;
 use crate::bounds::snapshot_id_formed;
+use crate::bounds::spec_choice_formed;
+use crate::record::offered_ids_formed;
 use crate::record::offered_order_formed;
 use crate::record::reference_formed;
 use crate::record::schema_ids_formed;
 use crate::record::snapshot_formed;
 use crate::record::snapshot_ids_formed;
+use crate::record::spec_ids_formed;
 use crate::record::statistics_file_formed;
 use equality::ids::same_order;
 use equality::ids::same_schema;
 use equality::ids::same_snapshot;
+use equality::ids::same_spec;
 use records::capacities::NAME;
 use records::capacities::TEXT;
 use records::counters::SchemaId;
 use records::counters::SnapshotId;
 use records::counters::SortOrderId;
+use records::counters::SpecId;
 use records::part::FieldsPart;
+use records::part::PartitionSpecsPart;
 use records::part::SchemasPart;
 use records::part::SnapshotsPart;
 use records::part::SortOrdersPart;
 use records::part::StatisticsPart;
 use records::reference::NamedRef;
+use records::update::ADD_PARTITION_SPEC;
 use records::update::ADD_SCHEMA;
 use records::update::ADD_SNAPSHOT;
 use records::update::ADD_SORT_ORDER;
 use records::update::ASSIGN_UUID;
+use records::update::REMOVE_PARTITION_SPECS;
 use records::update::REMOVE_PARTITION_STATISTICS;
 use records::update::REMOVE_REF;
 use records::update::REMOVE_SCHEMAS;
@@ -48,6 +58,7 @@ use records::update::REMOVE_SNAPSHOTS;
 use records::update::REMOVE_STATISTICS;
 use records::update::SET_BRANCH_SNAPSHOT;
 use records::update::SET_CURRENT_SCHEMA;
+use records::update::SET_DEFAULT_PARTITION_SPEC;
 use records::update::SET_DEFAULT_SORT_ORDER;
 use records::update::SET_LOCATION;
 use records::update::SET_PARTITION_STATISTICS;
@@ -112,6 +123,14 @@ fn statistics_fit(k: u8, p: StatisticsPart) -> bool
             | same_snapshot(p.removed, SnapshotId(0)))
 }
 
+fn partition_specs_fit(k: u8, p: PartitionSpecsPart) -> bool
+    ensures { λ r. ⌜ r ≡ isTidyPartitionSpecsPart k p ⌝ }
+{
+    spec_offer_fits(k == ADD_PARTITION_SPEC, p.added)
+        & ((k == SET_DEFAULT_PARTITION_SPEC) | same_spec(p.chosen, SpecId(0)))
+        & spec_ids_fit(k == REMOVE_PARTITION_SPECS, p.removed)
+}
+
 // ---- the update
 
 pub fn is_tidy(u: TableUpdate) -> bool
@@ -124,6 +143,7 @@ pub fn is_tidy(u: TableUpdate) -> bool
         & schemas_fit(k, u.schemas)
         & sort_orders_fit(k, u.sort_orders)
         & statistics_fit(k, u.statistics)
+        & partition_specs_fit(k, u.partition_specs)
 }
 
 // The numbers and lengths that the kind uses keep their bounds.
@@ -152,6 +172,9 @@ fn used_formed(u: TableUpdate) -> bool
         REMOVE_STATISTICS | REMOVE_PARTITION_STATISTICS => {
             snapshot_id_formed(u.statistics.removed)
         }
+        ADD_PARTITION_SPEC => offered_ids_formed(u.partition_specs.added),
+        SET_DEFAULT_PARTITION_SPEC => spec_choice_formed(u.partition_specs.chosen),
+        REMOVE_PARTITION_SPECS => spec_ids_formed(u.partition_specs.removed),
         _ => false,
     }
 }

@@ -1,63 +1,55 @@
--- The bytes of a field: what is asked of them, and the name that they say. Those past the name are 0, so that all of them laid out are the name laid out.
+-- What the bytes of a field say from a place on. A number of at most 31 bits is a number of 32 with a sign. Those past a name are 0, so that all of them
+-- laid out are the name laid out.
 use Prim.Native.Nat.{ℕ, _+_, _-_, _≤_, _<_}
 use native.Mathlib.Omega.{arith}
-use mathlib.Core.Path.{_≡_, sym, ap, ap₂, _∙_}
-use mathlib.Core.Bool.{Bool, true}
-use mathlib.Core.List.{List, [], _∷_, append-nil}
-use borrow.Author.Tests.{leb-true, le-leb, eq-eqb}
-use lib.Dec.{leb}
-use lib.ListN.{length, getD, set, take, drop, length-take, length-drop}
-use lib.Seq.{getD-drop, length-take-le, take-all}
-use Rattle.records.specs.Blanks.{noName}
-use Rattle.records.specs.declared.text.Name.{Name}
+use mathlib.Core.Path.{_≡_, sym, _∙_}
+use mathlib.Core.Bool.{Bool, true, false, _&&_}
+use mathlib.Core.List.{List, append-nil}
+use borrow.Author.Tests.{leb-true, le-leb, lt-leb, eq-eqb}
+use lib.ListN.{length, drop, length-take, length-drop}
+use lib.Seq.{length-take-le, drop-drop}
 use Rattle.rules.specs.Words.{all}
-use Rattle.rules.specs.Capacities.{largestFieldId, fieldBytes, nameRoom}
+use Rattle.rules.specs.Capacities.{largestFieldId, nameRoom}
 use Rattle.rules.specs.WellFormed.{nameFormed}
 use Rattle.rules.specs.Blanks.{isZero, restBlank}
-use Rattle.rules.specs.Offers.{numberOf, nameLength, nameBytes, offeredField, isTidyField}
+use Rattle.rules.specs.Offers.{numberAt, isNumberAt, lengthAt, bytesAfter, nameAt, fitsAt, restZeroAt}
 use Rattle.rules.specs.Layout.{pad, laidName}
-use Rattle.rules.proofs.Checks.{both, parts}
+use Rattle.rules.proofs.Checks.{both, and-left, and-right}
 use Rattle.rules.proofs.Slots.Relaid.{zero, padded}
-use Rattle.tables.proofs.Keyed.{pad-more}
+use Rattle.offers.proofs.Filled.{Filled, filled-all}
 
-module _ (bs : List ℕ) (t : isTidyField bs ≡ true) where
-  abbrev tests : List Bool
-  tests = leb (nameLength bs) nameRoom ∷ all isZero (drop (nameLength bs) (nameBytes bs)) ∷ []
+pub number-small : (at : ℕ) (bs : List ℕ) → isNumberAt at bs ≡ true → numberAt at bs ≤ largestFieldId
+number-small at bs t = leb-true _ _ t
 
-  pub id-small : numberOf bs ≤ largestFieldId
-  id-small = leb-true _ _ (parts (leb (numberOf bs) largestFieldId) tests t .0)
+-- the code asks for the length first, and for the rest where a name can be so long
+module _ (at : ℕ) (bs : List ℕ) {n : ℕ} (e : n ≡ lengthAt at bs) where
+  pub too-long : nameRoom < n → false ≡ (fitsAt at bs && restZeroAt at bs)
+  too-long h = sym (rw (← e, lt-leb n nameRoom h))
 
-  name-short : nameLength bs ≤ nameRoom
-  name-short = leb-true _ _ (parts (leb (numberOf bs) largestFieldId) tests t .1 .0)
+  pub rest-asked : {z : Bool} → n ≤ nameRoom → z ≡ all isZero (drop (at + 1 + n) bs) → z ≡ (fitsAt at bs && restZeroAt at bs)
+  rest-asked h k = k ∙ sym (rw (drop-drop (lengthAt at bs) (at + 1) bs, ← e, le-leb n nameRoom h))
 
-  pub name-formed : nameFormed (offeredField bs .name) ≡ true
-  name-formed = le-leb (length (take (nameLength bs) (nameBytes bs))) nameRoom (simp length-take (omega (arith, name-short)))
+-- as many bytes follow the length as a name has room for
+pub name-room : (at : ℕ) (bs : List ℕ) → length bs ≡ at + 1 + nameRoom → length (bytesAfter at bs) ≡ nameRoom
+name-room at bs h = simp length-drop (omega arith)
 
-  rest-blank : length bs ≡ fieldBytes → restBlank nameRoom isZero (nameBytes bs) (nameLength bs) ≡ true
-  rest-blank h = both (eq-eqb (length (nameBytes bs)) nameRoom (simp length-drop (omega arith))) (parts (leb (numberOf bs) largestFieldId) tests t .1 .1 .0)
+module _ (at : ℕ) (bs : List ℕ) (t : (fitsAt at bs && restZeroAt at bs) ≡ true) where
+  name-short : lengthAt at bs ≤ nameRoom
+  name-short = leb-true _ _ (and-left (fitsAt at bs) _ t)
 
--- the bytes of a name hold the first i
-pub record Copied (bs bytes : List ℕ) (i : ℕ) : Type 0 where
-  pub slots : bytes ≡ pad nameRoom 0 (take i (nameBytes bs))
+  pub name-formed : nameFormed (nameAt at bs) ≡ true
+  name-formed = le-leb (length (nameAt at bs)) nameRoom (simp length-take (omega (arith, name-short)))
 
-pub copied-start : {r : Name} (bs : List ℕ) → r ≡ noName → Copied bs (r .bytes) 0
-copied-start bs e = record { slots = ap (λ (t : Name). t .bytes) e }
+  module _ (h : length bs ≡ at + 1 + nameRoom) where
+    rest-blank : restBlank nameRoom isZero (bytesAfter at bs) (lengthAt at bs) ≡ true
+    rest-blank = both (eq-eqb (length (bytesAfter at bs)) nameRoom (name-room at bs h)) (and-right (fitsAt at bs) _ t)
 
-module _ {bs bytes : List ℕ} {i : ℕ} (h : length bs ≡ fieldBytes) (s : Copied bs bytes i) where
-  name-room : length (nameBytes bs) ≡ nameRoom
-  name-room = simp length-drop (omega arith)
-
-  pub copied-on : i < nameRoom → Copied bs (set bytes i (getD bs (6 + i) 0)) (i + 1)
-  copied-on b =
-      record {
-        slots = ap₂ (λ (l : List ℕ) (x : ℕ). set l i x) (s .slots) (sym (getD-drop 6 bs i 0)) ∙ pad-more nameRoom i 0 0 (nameBytes bs) (omega (arith, name-room)) (omega (arith, name-room));
-      }
-
-  pub copied-end : isTidyField bs ≡ true → nameRoom ≤ i → record { bytes = bytes; len = nameLength bs } ≡ laidName (offeredField bs .name)
-  unfolding laidName
-  copied-end t b =
-      let z : nameRoom - length (nameBytes bs) ≡ 0 = omega (arith, name-room) in
-      let a : bytes ≡ nameBytes bs = s .slots ∙ rw (take-all i (nameBytes bs) (omega (arith, name-room)), z) (append-nil (nameBytes bs)) in
-      let p : nameBytes bs ≡ pad nameRoom 0 (take (nameLength bs) (nameBytes bs)) = padded 0 isZero zero nameRoom (nameLength bs) (nameBytes bs) (rest-blank bs t h) (name-short bs t) in
-      let n : nameLength bs ≡ length (take (nameLength bs) (nameBytes bs)) = sym (length-take-le (nameLength bs) (nameBytes bs) (omega (arith, name-room, name-short bs t))) in
-      λ j. record { bytes = (a ∙ p) j; len = n j }
+    -- all bytes are copied
+    pub copied : {bytes : List ℕ} {i : ℕ} → Filled nameRoom 0 (bytesAfter at bs) bytes i → nameRoom ≤ i → record { bytes = bytes; len = lengthAt at bs } ≡ laidName (nameAt at bs)
+    unfolding laidName
+    copied {bytes} f b =
+        let z : nameRoom - length (bytesAfter at bs) ≡ 0 = omega (arith, name-room at bs h) in
+        let a : bytes ≡ bytesAfter at bs = filled-all f (omega (arith, name-room at bs h)) ∙ rw z (append-nil (bytesAfter at bs)) in
+        let p : bytesAfter at bs ≡ pad nameRoom 0 (nameAt at bs) = padded 0 isZero zero nameRoom (lengthAt at bs) (bytesAfter at bs) rest-blank name-short in
+        let n : lengthAt at bs ≡ length (nameAt at bs) = sym (length-take-le (lengthAt at bs) (bytesAfter at bs) (omega (arith, name-room at bs h, name-short))) in
+        λ j. record { bytes = (a ∙ p) j; len = n j }

@@ -1,22 +1,32 @@
 // What an update offers, read from the bytes that are lent beside the list, as the crate `rules` says it in Offers. Any offer is answered, whatever the bytes.
 pub mod field;
+pub mod partition;
+pub mod place;
+pub mod spec_fields;
 
 ghost use mathlib.Core.Path.{_≡_};
 ghost use Prim.Native.Nat.{_+_, _*_, _≤_};
 ghost use mathlib.Core.Bool.{true, false, _&&_};
 ghost use lib.Dec.{leb};
 ghost use lib.ListN.{length};
-ghost use Rattle.records.specs.Blanks.{noSchema};
+ghost use Rattle.records.specs.Blanks.{noSchema, noPartitionSpec};
 ghost use Rattle.rules.specs.Words.{all};
 ghost use Rattle.rules.specs.Capacities.{schemaFieldRoom, fieldBytes};
 ghost use Rattle.rules.specs.Offers.{isTidyField, offeredFields, offeredSchema};
-ghost use Rattle.rules.specs.Layout.{readSchemaOffer, laidSchema};
-ghost use Rattle.offers.specs.Offered.{Offered};
+ghost use Rattle.rules.specs.Layout.{readSchemaOffer, laidSchema, readSpecOffer};
+ghost use Rattle.offers.specs.Offered.{Offered, SpecOffered};
 use crate::field::field_of;
 use crate::field::is_tidy_field;
+use crate::place::are_within;
+use crate::spec_fields::are_there;
+use crate::spec_fields::are_tidy;
+use crate::spec_fields::spec_of;
+use formed::record::offered_spec_formed;
 use formed::record::schema_formed;
 use records::capacities::FIELD_BYTES;
 use records::capacities::SCHEMA_FIELDS;
+use records::partition::PartitionSpec;
+use records::partition::SpecOffer;
 use records::schema::Schema;
 use records::schema::SchemaOffer;
 
@@ -26,7 +36,13 @@ pub struct OfferedSchema {
     pub schema: Schema,
 }
 
-// No more fields than a schema has room for, and all their bytes are among so many. Each sum is made where it can not wrap.
+// The same of a partition spec.
+pub struct OfferedSpec {
+    pub formed: bool,
+    pub spec: PartitionSpec,
+}
+
+// No more fields than a schema has room for, and all their bytes are among so many.
 fn is_there(o: SchemaOffer, len: usize) -> bool
     ensures { λ r. ⌜ r ≡ (leb (o .count) schemaFieldRoom && leb (o .at + o .count * fieldBytes) len) ⌝ }
 {
@@ -35,13 +51,7 @@ fn is_there(o: SchemaOffer, len: usize) -> bool
     if n > SCHEMA_FIELDS {
         return false;
     }
-    if at > len {
-        return false;
-    }
-    if n * FIELD_BYTES > len - at {
-        return false;
-    }
-    true
+    are_within(at, n * FIELD_BYTES, len)
 }
 
 // The bytes of each field say one.
@@ -114,5 +124,36 @@ pub fn schema(o: SchemaOffer, bytes: &[u8]) -> OfferedSchema
     OfferedSchema {
         formed: true,
         schema: s,
+    }
+}
+
+// What is answered of an offer of a spec that is not well formed.
+fn spec_not_formed() -> OfferedSpec
+    ensures { λ r. ⌜ (r .formed ≡ false) × (r .spec ≡ noPartitionSpec) ⌝ }
+{
+    let s = PartitionSpec::blank();
+    OfferedSpec {
+        formed: false,
+        spec: s,
+    }
+}
+
+// The spec that an offer offers, and whether it is well formed; where it is not, the spec is blank.
+pub fn spec(o: SpecOffer, bytes: &[u8]) -> OfferedSpec
+    ensures { λ r. ⌜ SpecOffered (now (bytes .entry)) (readSpecOffer o) r ⌝ }
+{
+    if !are_there(o, bytes.len()) {
+        return spec_not_formed();
+    }
+    if !are_tidy(o, bytes) {
+        return spec_not_formed();
+    }
+    let s = spec_of(o, bytes);
+    if !offered_spec_formed(s) {
+        return spec_not_formed();
+    }
+    OfferedSpec {
+        formed: true,
+        spec: s,
     }
 }

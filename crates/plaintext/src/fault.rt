@@ -37,7 +37,7 @@ fn say_wanted(output: &mut Output, end: &mut usize, wanted: usize, bound: usize)
         there should be a number from -\n\
         there should be the kind of a case, from 1 to \n\
         there should be the kind of a run, 1 or \n\
-        there should be a tag of at most 4 and above \n\
+        there should be a tag of at most 5 and above \n\
         there should be a kind from 0 to 3 or \n\
         there should be the end of the input\n";
     say_line(output, end, words, wanted);

@@ -8,12 +8,14 @@ use cards::item::items;
 use tokens::output::Output;
 
 // A template for each kind of item: the word for no elements, an id, a field of a schema, of which its name and type are said unless it is a long that
-// is named by its id, the source id, direction and nulls of a sort field, and how many more are counted than there are slots for.
+// is named by its id, the source id, direction and nulls of a sort field, the transform, source id, name and id of a partition field, and how many
+// more are counted than there are slots for.
 fn say_list(output: &mut Output, end: &mut usize, list: List) {
     let templates = b"none\
         ;?3{|, }#0\
         ;?3{|, }#0?2{| $ (long)| $ (timestamp)~ $ (type #1)}\
         ;?3{|, }#0 ?1{ascending|descending~in direction #1} nulls ?2{first|last~#2}\
+        ;?3{|, }?4{transform #4|identity|year|month|day|bucket~transform #4}?6{| #5} of field #0 as $ (?1{no id|id #2})\
         ; and %1 more";
     let n = items(list);
     let mut i = 0;
@@ -25,7 +27,7 @@ fn say_list(output: &mut Output, end: &mut usize, list: List) {
 }
 
 // The template of the ids of a removal, behind those of the elements of each table.
-pub const OF_IDS: usize = 8;
+pub const OF_IDS: usize = 9;
 
 // As `5 (parent 4, sequence 7, at 300000 (1970-01-01 00:05:00 UTC))`. Past the last template nothing is said.
 pub fn say_record(output: &mut Output, end: &mut usize, record: usize, card: Card) {
@@ -39,6 +41,7 @@ pub fn say_record(output: &mut Output, end: &mut usize, record: usize, card: Car
         ;#0 (fields: *)\
         ;snapshot #0: file $, #1 bytes\
         ;snapshot #0: file $, #1 bytes\
+        ;#0 (fields: *)\
         ;*";
     say_part(output, end, templates, record, 0, card);
     if card.list.kind != NOTHING {

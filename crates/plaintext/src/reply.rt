@@ -21,6 +21,7 @@ fn say_fault(output: &mut Output, end: &mut usize, fault: u8) {
         location: longer than 96 bytes, or an unused byte is not 0\n\
         last sequence number: below 0\n\
         current snapshot: none is set, and its id is not 0\n\
+        last partition id: below 0\n\
         snapshots: more than 64\n\
         snapshots: one is not well formed, or an unused place is not blank\n\
         snapshots: their ids do not ascend\n\
@@ -43,15 +44,18 @@ fn say_fault(output: &mut Output, end: &mut usize, fault: u8) {
         partition statistics: more than 32\n\
         partition statistics: one is not well formed, or an unused place is not blank\n\
         partition statistics: their snapshot ids do not ascend\n\
+        partition specs: more than 16\n\
+        partition specs: one is not well formed, or an unused place is not blank\n\
+        partition specs: their ids do not ascend\n\
         refs: one names a snapshot that is not held\n\
         current snapshot: it and ref `main` disagree\n\
-        current schema: not held\n\
-        default sort order: not held\n\
+        current schema: not held\ndefault sort order: not held\ndefault partition spec: not held\n\
         current metadata file: its name is longer than 96 bytes\n";
     say_line(output, end, faults, fault as usize);
 }
 
-// What a run is refused for: its numbers are 1 to 23 and 26. A line stands for each number, also for the two of a walk.
+// What a run is refused for: its numbers are 1 to 23, 26 and 31 to 34. A line stands for each number, also for the two of a walk; those of 27 to 30, which
+// are no answers yet, are empty.
 fn say_number(output: &mut Output, end: &mut usize, number: u8) {
     let reasons = b"accepted\n\
         the start is not well formed\n\
@@ -68,7 +72,7 @@ fn say_number(output: &mut Output, end: &mut usize, number: u8) {
         ref to a snapshot not held\n\
         branch commit on a tag\n\
         -1 given, nothing added in this run\n\
-        unknown schema or order id\n\
+        unknown schema, order or spec id\n\
         current schema in the removal list\n\
         new order names a field not in the current schema\n\
         highest id is already the type's largest\n\
@@ -79,7 +83,11 @@ fn say_number(output: &mut Output, end: &mut usize, number: u8) {
         close: over 128 metadata-log entries would stay\n\
         walk meets a snapshot twice\n\
         walk's buffer shorter than its answer\n\
-        tolerance not within 0 to 3600000 ms\n";
+        tolerance not within 0 to 3600000 ms\n\n\n\n\n\
+        name clash, redundant field or one field id twice in a spec\n\
+        source missing or of the wrong type\n\
+        ids not sequential\n\
+        default spec removed\n";
     say_line(output, end, reasons, number as usize);
 }
 

@@ -7,6 +7,7 @@ use crate::template::say_part;
 use crate::text::say;
 use cards::card::Card;
 use cards::card::counted;
+use cards::table::OF_PARTITION_SPECS;
 use cards::table::OF_REFS;
 use cards::table::OF_SCHEMAS;
 use cards::table::OF_SNAPSHOTS;
@@ -15,10 +16,11 @@ use cards::table::OF_STATISTICS;
 use cards::update::update;
 use cards::update::update_at;
 use records::capacities::UPDATES;
+use records::update::ADD_PARTITION_SPEC;
 use records::update::ADD_SCHEMA;
 use records::update::ADD_SNAPSHOT;
 use records::update::ADD_SORT_ORDER;
-use records::update::REMOVE_PARTITION_STATISTICS;
+use records::update::REMOVE_PARTITION_SPECS;
 use records::update::REMOVE_SCHEMAS;
 use records::update::REMOVE_SNAPSHOTS;
 use records::update::SET_BRANCH_SNAPSHOT;
@@ -34,18 +36,19 @@ use tokens::output::Output;
 fn record_of(kind: u8) -> usize {
     match kind {
         ADD_SNAPSHOT | SET_BRANCH_SNAPSHOT => OF_SNAPSHOTS,
-        REMOVE_SNAPSHOTS | REMOVE_SCHEMAS => OF_IDS,
+        REMOVE_SNAPSHOTS | REMOVE_SCHEMAS | REMOVE_PARTITION_SPECS => OF_IDS,
         SET_REF => OF_REFS,
         ADD_SCHEMA => OF_SCHEMAS,
         ADD_SORT_ORDER => OF_SORT_ORDERS,
         SET_STATISTICS | SET_PARTITION_STATISTICS => OF_STATISTICS,
+        ADD_PARTITION_SPEC => OF_PARTITION_SPECS,
         _ => OF_IDS + 1,
     }
 }
 
 // The template of a kind: the first is for all that are unknown.
 fn template_of(kind: u8) -> usize {
-    if kind > REMOVE_PARTITION_STATISTICS {
+    if kind > REMOVE_PARTITION_SPECS {
         return 0;
     }
     kind as usize
@@ -70,7 +73,10 @@ fn say_card(output: &mut Output, end: &mut usize, card: Card) {
         ;set statistics of \
         ;remove statistics of snapshot #0\
         ;set partition statistics of \
-        ;remove partition statistics of snapshot #0";
+        ;remove partition statistics of snapshot #0\
+        ;add partition spec \
+        ;set default partition spec to #0?1{| (the last added)}\
+        ;remove partition specs ";
     say_part(output, end, templates, template_of(card.kind), 0, card);
     say_record(output, end, record_of(card.kind), card);
 }

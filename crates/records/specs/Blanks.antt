@@ -4,6 +4,8 @@ use lib.IntN.{pos}
 use lib.ListN.{replicate}
 use Rattle.records.specs.declared.counters.SnapshotId.{SnapshotId}
 use Rattle.records.specs.declared.counters.SchemaId.{SchemaId}
+use Rattle.records.specs.declared.counters.FieldId.{FieldId}
+use Rattle.records.specs.declared.counters.SpecId.{SpecId}
 use Rattle.records.specs.declared.text.Name.{Name}
 use Rattle.records.specs.declared.text.Text.{Text}
 use Rattle.records.specs.declared.snapshot.Snapshot.{Snapshot}
@@ -22,6 +24,11 @@ use Rattle.records.specs.declared.schema.SchemaIds.{SchemaIds}
 use Rattle.records.specs.declared.«sort_order».SortField.{SortField}
 use Rattle.records.specs.declared.«sort_order».SortOrder.{SortOrder}
 use Rattle.records.specs.declared.«sort_order».SortOrders.{SortOrders}
+use Rattle.records.specs.declared.partition.PartitionField.{PartitionField}
+use Rattle.records.specs.declared.partition.PartitionSpec.{PartitionSpec}
+use Rattle.records.specs.declared.partition.PartitionSpecs.{PartitionSpecs}
+use Rattle.records.specs.declared.partition.SpecOffer.{SpecOffer}
+use Rattle.records.specs.declared.partition.SpecIds.{SpecIds}
 use Rattle.records.specs.declared.statistics.StatisticsFile.{StatisticsFile}
 use Rattle.records.specs.declared.statistics.StatisticsFiles.{StatisticsFiles}
 use Rattle.records.specs.declared.metadata.MetadataLogEntry.{MetadataLogEntry}
@@ -33,6 +40,7 @@ use Rattle.records.specs.declared.part.SnapshotsPart.{SnapshotsPart}
 use Rattle.records.specs.declared.part.SchemasPart.{SchemasPart}
 use Rattle.records.specs.declared.part.SortOrdersPart.{SortOrdersPart}
 use Rattle.records.specs.declared.part.StatisticsPart.{StatisticsPart}
+use Rattle.records.specs.declared.part.PartitionSpecsPart.{PartitionSpecsPart}
 use Rattle.records.specs.declared.update.TableUpdate.{TableUpdate}
 use Rattle.records.specs.declared.update.UpdateList.{UpdateList}
 
@@ -124,6 +132,29 @@ noSortOrder = record { «order_id» = record { 0 = pos 0 }; items = replicate 8 
 unfoldable pub noSortOrders : SortOrders
 noSortOrders = record { items = replicate 16 noSortOrder; count = 0 }
 
+-- ---- partition specs
+
+abbrev pub noPartitionField : PartitionField
+noPartitionField = record { «source_id» = record { 0 = pos 0 }; «field_id» = record { 0 = pos 0 }; buckets = record { 0 = pos 0 }; transform = 0; «has_id» = false; name = noName }
+
+unfoldable pub noPartitionSpec : PartitionSpec
+noPartitionSpec = record { «spec_id» = record { 0 = pos 0 }; items = replicate 8 noPartitionField; count = 0 }
+
+unfoldable pub noPartitionSpecs : PartitionSpecs
+noPartitionSpecs = record { items = replicate 16 noPartitionSpec; count = 0 }
+
+abbrev pub noFieldId : FieldId
+noFieldId = record { 0 = pos 0 }
+
+abbrev pub noSpecId : SpecId
+noSpecId = record { 0 = pos 0 }
+
+abbrev pub noSpecOffer : SpecOffer
+noSpecOffer = record { «spec_id» = noSpecId; at = 0; count = 0; ids = replicate 8 noFieldId }
+
+abbrev pub noSpecIds : SpecIds
+noSpecIds = record { items = replicate 16 noSpecId; count = 0 }
+
 -- ---- statistics files
 
 abbrev pub noStatisticsFile : StatisticsFile
@@ -154,6 +185,8 @@ noFields = record {
   «current_snapshot_id» = noSnapshotId;
   «current_schema_id» = record { 0 = pos 0 };
   «default_sort_order_id» = record { 0 = pos 0 };
+  «default_spec_id» = record { 0 = pos 0 };
+  «last_partition_id» = record { 0 = pos 0 };
 }
 
 unfoldable pub noMetadata : TableMetadata
@@ -167,6 +200,7 @@ noMetadata = record {
   «sort_orders» = noSortOrders;
   statistics = noStatisticsFiles;
   «partition_statistics» = noStatisticsFiles;
+  «partition_specs» = noPartitionSpecs;
 }
 
 -- ---- updates
@@ -186,8 +220,11 @@ noSortOrdersPart = record { added = noSortOrder; chosen = record { 0 = pos 0 } }
 unfoldable pub noStatisticsPart : StatisticsPart
 noStatisticsPart = record { file = noStatisticsFile; removed = noSnapshotId }
 
+unfoldable pub noPartitionSpecsPart : PartitionSpecsPart
+noPartitionSpecsPart = record { added = noSpecOffer; chosen = noSpecId; removed = noSpecIds }
+
 unfoldable pub noUpdate : TableUpdate
-noUpdate = record { kind = 0; fields = noFieldsPart; snapshots = noSnapshotsPart; refs = noRef; schemas = noSchemasPart; «sort_orders» = noSortOrdersPart; statistics = noStatisticsPart }
+noUpdate = record { kind = 0; fields = noFieldsPart; snapshots = noSnapshotsPart; refs = noRef; schemas = noSchemasPart; «sort_orders» = noSortOrdersPart; statistics = noStatisticsPart; «partition_specs» = noPartitionSpecsPart }
 
 unfoldable pub noUpdates : UpdateList
 noUpdates = record { items = replicate 64 noUpdate; count = 0 }

@@ -14,6 +14,11 @@ pub struct FieldId(pub i32);
 
 pub struct SortOrderId(pub i64);
 
+pub struct SpecId(pub i32);
+
+// How many buckets a partition has.
+pub struct Buckets(pub i32);
+
 // Milliseconds since 1970.
 pub struct Time(pub i64);
 

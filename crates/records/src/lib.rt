@@ -5,6 +5,7 @@ pub mod capacities;
 pub mod counters;
 pub mod metadata;
 pub mod part;
+pub mod partition;
 pub mod reference;
 pub mod replies;
 pub mod run;

@@ -1,4 +1,4 @@
-// The table's metadata: its single fields, and eight tables.
+// The table's metadata: its single fields, and nine tables.
 ghost use mathlib.Core.Path.{_≡_};
 ghost use Rattle.records.specs.Blanks.{noMetadataLogEntry, noMetadataLog, noFields, noMetadata};
 use crate::capacities::METADATA_LOG;
@@ -8,7 +8,9 @@ use crate::counters::SchemaId;
 use crate::counters::SequenceNumber;
 use crate::counters::SnapshotId;
 use crate::counters::SortOrderId;
+use crate::counters::SpecId;
 use crate::counters::Time;
+use crate::partition::PartitionSpecs;
 use crate::reference::Refs;
 use crate::schema::Schemas;
 use crate::snapshot::SnapshotLog;
@@ -28,7 +30,7 @@ pub struct MetadataLog {
     pub count: usize,
 }
 
-// Last column id is a field id. The current snapshot behind a flag that is not set is 0.
+// Last column id and last partition id are field ids. The current snapshot behind a flag that is not set is 0.
 pub struct SingleFields {
     pub format_version: u8,
     pub table_uuid: [u8; 16],
@@ -41,6 +43,8 @@ pub struct SingleFields {
     pub current_snapshot_id: SnapshotId,
     pub current_schema_id: SchemaId,
     pub default_sort_order_id: SortOrderId,
+    pub default_spec_id: SpecId,
+    pub last_partition_id: FieldId,
 }
 
 pub struct TableMetadata {
@@ -53,6 +57,7 @@ pub struct TableMetadata {
     pub sort_orders: SortOrders,
     pub statistics: StatisticsFiles,
     pub partition_statistics: StatisticsFiles,
+    pub partition_specs: PartitionSpecs,
 }
 
 impl MetadataLogEntry {
@@ -94,6 +99,8 @@ impl SingleFields {
             current_snapshot_id: SnapshotId(0),
             current_schema_id: SchemaId(0),
             default_sort_order_id: SortOrderId(0),
+            default_spec_id: SpecId(0),
+            last_partition_id: FieldId(0),
         }
     }
 }
@@ -111,6 +118,7 @@ impl TableMetadata {
         let sort_orders = SortOrders::blank();
         let statistics = StatisticsFiles::blank();
         let partition_statistics = StatisticsFiles::blank();
+        let partition_specs = PartitionSpecs::blank();
         TableMetadata {
             fields,
             snapshots,
@@ -121,6 +129,7 @@ impl TableMetadata {
             sort_orders,
             statistics,
             partition_statistics,
+            partition_specs,
         }
     }
 }

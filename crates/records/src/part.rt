@@ -1,9 +1,12 @@
 // The parts of an update, each named for the part of the metadata that it is about. A ref is offered as the refs hold it, with its name.
 ghost use mathlib.Core.Path.{_≡_};
-ghost use Rattle.records.specs.Blanks.{noFieldsPart, noSnapshotsPart, noSchemasPart, noSortOrdersPart, noStatisticsPart};
+ghost use Rattle.records.specs.Blanks.{noFieldsPart, noSnapshotsPart, noSchemasPart, noSortOrdersPart, noStatisticsPart, noPartitionSpecsPart};
 use crate::counters::SchemaId;
 use crate::counters::SnapshotId;
 use crate::counters::SortOrderId;
+use crate::counters::SpecId;
+use crate::partition::SpecIds;
+use crate::partition::SpecOffer;
 use crate::schema::SchemaIds;
 use crate::schema::SchemaOffer;
 use crate::snapshot::Snapshot;
@@ -38,6 +41,12 @@ pub struct SortOrdersPart {
 pub struct StatisticsPart {
     pub file: StatisticsFile,
     pub removed: SnapshotId,
+}
+
+pub struct PartitionSpecsPart {
+    pub added: SpecOffer,
+    pub chosen: SpecId,
+    pub removed: SpecIds,
 }
 
 impl FieldsPart {
@@ -97,6 +106,20 @@ impl StatisticsPart {
         StatisticsPart {
             file,
             removed: SnapshotId(0),
+        }
+    }
+}
+
+impl PartitionSpecsPart {
+    pub fn blank() -> PartitionSpecsPart
+        ensures { λ r. ⌜ r ≡ noPartitionSpecsPart ⌝ }
+    {
+        let added = SpecOffer::blank();
+        let removed = SpecIds::blank();
+        PartitionSpecsPart {
+            added,
+            chosen: SpecId(0),
+            removed,
         }
     }
 }

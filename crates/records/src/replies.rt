@@ -55,3 +55,12 @@ pub const MET_TWICE: u8 = 24;
 pub const BUFFER_TOO_SHORT: u8 = 25;
 
 pub const TOLERANCE_OUTSIDE: u8 = 26;
+
+// Also where a partition field is redundant, or a field id stands twice in a spec.
+pub const NAME_CLASH: u8 = 31;
+
+pub const SOURCE_MISFIT: u8 = 32;
+
+pub const IDS_NOT_SEQUENTIAL: u8 = 33;
+
+pub const DEFAULT_SPEC_REMOVED: u8 = 34;

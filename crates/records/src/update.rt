@@ -3,6 +3,7 @@ ghost use mathlib.Core.Path.{_≡_};
 ghost use Rattle.records.specs.Blanks.{noUpdate, noUpdates};
 use crate::capacities::UPDATES;
 use crate::part::FieldsPart;
+use crate::part::PartitionSpecsPart;
 use crate::part::SchemasPart;
 use crate::part::SnapshotsPart;
 use crate::part::SortOrdersPart;
@@ -44,6 +45,12 @@ pub const SET_PARTITION_STATISTICS: u8 = 16;
 
 pub const REMOVE_PARTITION_STATISTICS: u8 = 17;
 
+pub const ADD_PARTITION_SPEC: u8 = 18;
+
+pub const SET_DEFAULT_PARTITION_SPEC: u8 = 19;
+
+pub const REMOVE_PARTITION_SPECS: u8 = 20;
+
 pub struct TableUpdate {
     pub kind: u8,
     pub fields: FieldsPart,
@@ -52,6 +59,7 @@ pub struct TableUpdate {
     pub schemas: SchemasPart,
     pub sort_orders: SortOrdersPart,
     pub statistics: StatisticsPart,
+    pub partition_specs: PartitionSpecsPart,
 }
 
 // A list of updates, and the log of those that took effect.
@@ -70,6 +78,7 @@ impl TableUpdate {
         let schemas = SchemasPart::blank();
         let sort_orders = SortOrdersPart::blank();
         let statistics = StatisticsPart::blank();
+        let partition_specs = PartitionSpecsPart::blank();
         TableUpdate {
             kind: 0,
             fields,
@@ -78,6 +87,7 @@ impl TableUpdate {
             schemas,
             sort_orders,
             statistics,
+            partition_specs,
         }
     }
 }

@@ -15,22 +15,22 @@ use Rattle.records.specs.declared.metadata.TableMetadata.{TableMetadata}
 use Rattle.records.specs.declared.update.TableUpdate.{TableUpdate}
 use Rattle.records.specs.declared.schema.Schema.{Schema}
 use Rattle.records.specs.declared.schema.Schemas.{Schemas}
-use Rattle.rules.specs.Words.{any, first, ascending}
-use Rattle.rules.specs.Capacities.{snapshotRoom, refRoom, snapshotLogRoom, schemaRoom, sortOrderRoom, statisticsRoom, nameRoom, schemaFieldRoom, sortFieldRoom, locationRoom}
+use Rattle.rules.specs.Words.{any, all, first, ascending}
+use Rattle.rules.specs.Capacities.{snapshotRoom, refRoom, snapshotLogRoom, schemaRoom, sortOrderRoom, statisticsRoom, specRoom, nameRoom, schemaFieldRoom, sortFieldRoom, partitionFieldRoom, locationRoom}
 use Rattle.rules.specs.Register as plain
 use Rattle.rules.specs.Register.{StatisticsTable, State, statisticsOf}
 use Rattle.rules.specs.Register.StatisticsTable.{Statistics, PartitionStatistics}
-use Rattle.rules.specs.WellFormed.{snapshotFormed, refFormed, schemaFormed, orderFormed, statisticsFileFormed, nameFormed, snapshotBelow, refBelow, schemaBelow, orderBelow, statisticsBelow, snapshotsFormed, refsFormed, snapshotLogFormed, schemasFormed, ordersFormed, statisticsFormed, fieldsFormed, offeredOrderFormed, versionFormed, locationFormed, hasSchema, hasOrder, currentSchemaHeld, defaultOrderHeld}
+use Rattle.rules.specs.WellFormed.{snapshotFormed, refFormed, schemaFormed, orderFormed, specFormed, statisticsFileFormed, nameFormed, snapshotBelow, refBelow, schemaBelow, orderBelow, specBelow, statisticsBelow, snapshotsFormed, refsFormed, snapshotLogFormed, schemasFormed, ordersFormed, specsFormed, statisticsFormed, fieldsFormed, offeredOrderFormed, partitionFieldFormed, versionFormed, locationFormed, hasSchema, hasOrder, hasSpec, currentSchemaHeld, defaultOrderHeld, defaultSpecHeld}
 use lib.Signed.{nonNeg}
 use Rattle.rules.specs.ChangeLog.{logsMain, logsRemoval}
 use Rattle.rules.specs.Run.{started, listSum}
-use Rattle.rules.specs.Layout.{given, pad, readMetadata, readSnapshots, readRefs, readSnapshotLog, readSchema, readSchemas, laidSchemas, readSortOrders, readStatistics, laidStatistics, laidFields, readFields, laidText, laidMetadata}
+use Rattle.rules.specs.Layout.{given, pad, readMetadata, readSnapshots, readRefs, readSnapshotLog, readSchema, readSchemas, laidSchemas, readSortOrders, readStatistics, laidStatistics, readPartitionSpecs, laidFields, readFields, laidText, laidMetadata}
 use Rattle.rules.proofs.Sound.Metadata.{formed-sound, statistics-formed}
 use Rattle.rules.proofs.Slots.Relaid.{relaid}
-use Rattle.rules.proofs.Slots.Reread.{reread-snapshots, reread-refs, reread-snapshot-log, reread-schemas, reread-sort-orders, reread-statistics, reread-fields}
+use Rattle.rules.proofs.Slots.Reread.{reread-snapshots, reread-refs, reread-snapshot-log, reread-schemas, reread-sort-orders, reread-statistics, reread-partition-specs, reread-fields}
 use Rattle.rules.proofs.Tables.{table-parts, log-fits, all-then}
-use Rattle.rules.proofs.Checks.{and-left, parts, schemaTests}
-use Rattle.tables.specs.Laid.{LaidSnapshots, LaidRefs, LaidSnapshotLog, LaidSchemas, LaidOrders, LaidStatistics}
+use Rattle.rules.proofs.Checks.{and-left, parts, schemaTests, offered-of}
+use Rattle.tables.specs.Laid.{LaidSnapshots, LaidRefs, LaidSnapshotLog, LaidSchemas, LaidOrders, LaidStatistics, LaidSpecs}
 use Rattle.builder.specs.declared.builder.TableMetadataBuilder.{TableMetadataBuilder}
 use Rattle.builder.specs.Pieces.{fresh, laidBuilder, idsOf, lastTime, IsCurrent}
 use Rattle.close.specs.Facts.{additions}
@@ -76,7 +76,7 @@ module _ (g : Given) (z : startNumber (g .metadata) (g .updates) (g .terms) ≡ 
 
   pub standing-start : {b : TableMetadataBuilder} {is : List ℤ} {last : Time} {keys : SchemaKeys} {e : TableUpdate} → b ≡ fresh (g .metadata .fields) → is ≡ pad 64 (pos 0) (idsOf (readSnapshots (g .metadata .snapshots))) → given (ltb 0 (g .metadata .«snapshot_log» .count)) (last .0) ≡ lastTime (readSnapshotLog (g .metadata .«snapshot_log»)) → keys ≡ laidKeys (readSchemas (g .metadata .schemas)) → e ≡ noUpdate
       → Standing g 0 (record {
-        held = record { builder = b; snapshots = g .metadata .snapshots; ids = is; refs = g .metadata .refs; log = g .metadata .«snapshot_log»; last = last; ownTables = record { schemas = record { table = g .metadata .schemas; keys = keys }; orders = g .metadata .«sort_orders»; statistics = g .metadata .statistics; partitionStatistics = g .metadata .«partition_statistics» } };
+        held = record { builder = b; snapshots = g .metadata .snapshots; ids = is; refs = g .metadata .refs; log = g .metadata .«snapshot_log»; last = last; ownTables = record { schemas = record { table = g .metadata .schemas; keys = keys }; orders = g .metadata .«sort_orders»; statistics = g .metadata .statistics; partitionStatistics = g .metadata .«partition_statistics»; specs = g .metadata .«partition_specs» } };
         changes = record { entries = replicate 64 e; count = 0; added = replicate 64 (pos 0); adds = 0; mainTargets = replicate 64 (pos 0); mains = 0; removal = false };
       })
   unfolding fresh laidBuilder laidMetadata additions logsMain logsRemoval listSum
@@ -101,6 +101,7 @@ module _ (g : Given) (z : startNumber (g .metadata) (g .updates) (g .terms) ≡ 
               orders = sym (ap (λ (x : TableMetadata). x .«sort_orders») back);
               statistics = sym (ap (λ (x : TableMetadata). x .statistics) back);
               partitionStatistics = sym (ap (λ (x : TableMetadata). x .«partition_statistics») back);
+              specs = sym (ap (λ (x : TableMetadata). x .«partition_specs») back);
             };
           };
           logs = record { entries = ap (λ (x : TableUpdate). replicate 64 x) r; count = refl; added = refl; adds = refl; mainTargets = refl; mains = refl; removal = refl };
@@ -131,6 +132,9 @@ module _ {g : Given} {st : State} {p : Pieces} (E : Represents g st p) where
 
   pub read-orders : readSortOrders (p .held .ownTables .orders) ≡ st .metadata .orders
   read-orders = rw (E .tables .ownTables .orders) (reread-sort-orders (st .metadata .orders))
+
+  pub read-specs : readPartitionSpecs (p .held .ownTables .specs) ≡ st .metadata .specs
+  read-specs = rw (E .tables .ownTables .specs) (reread-partition-specs (st .metadata .specs))
 
   pub statistics-laid : (which : StatisticsTable) → filesOf which (p .held .ownTables) ≡ laidStatistics (statisticsOf which (st .metadata))
   statistics-laid Statistics = E .tables .ownTables .statistics
@@ -182,6 +186,19 @@ module _ {g : Given} {st : State} {p : Pieces} (E : Represents g st p) where
         fields = rw read-orders (all-then orderFormed (λ (x : plain.SortOrder). leb (length (x .fields)) sortFieldRoom) (λ x e. parts (nonNeg (x .id)) (leb (length (x .fields)) sortFieldRoom ∷ _ ∷ []) (and-left (offeredOrderFormed x) _ e) .1 .0) (st .metadata .orders) (table-parts sortOrderRoom orderFormed orderBelow (st .metadata .orders) (E .sound .orders) .1));
       }
 
+  pub laid-specs : LaidSpecs (p .held .ownTables .specs)
+  unfolding specsFormed
+  laid-specs =
+      let k = table-parts specRoom specFormed specBelow (st .metadata .specs) (E .sound .specs) in
+      record {
+        back = rw read-specs (sym (E .tables .ownTables .specs));
+        fits = rw read-specs (k .0);
+        fields = rw read-specs (all-then specFormed (λ (x : plain.PartitionSpec). leb (length (x .fields)) partitionFieldRoom) (λ x e. parts (nonNeg (x .id)) (leb (length (x .fields)) partitionFieldRoom ∷ all partitionFieldFormed (x .fields) ∷ []) (offered-of x e) .1 .0) (st .metadata .specs) (k .1));
+      }
+
+  pub specs-formed : specsFormed (readPartitionSpecs (p .held .ownTables .specs)) ≡ true
+  specs-formed = rw read-specs (E .sound .specs)
+
   pub laid-statistics : (which : StatisticsTable) → LaidStatistics (filesOf which (p .held .ownTables))
   unfolding statisticsFormed
   laid-statistics which =
@@ -198,7 +215,7 @@ module _ {g : Given} {st : State} {p : Pieces} (E : Represents g st p) where
   pub location-fits : p .held .builder .fields .location .len ≤ locationRoom
   unfolding laidBuilder laidFields laidText fieldsFormed
   location-fits =
-      let k = parts (versionFormed (st .metadata .fields .version)) (locationFormed (st .metadata .fields .location) ∷ nonNeg (st .metadata .fields .lastSequence .0) ∷ []) (E .sound .fields) in
+      let k = parts (versionFormed (st .metadata .fields .version)) (locationFormed (st .metadata .fields .location) ∷ nonNeg (st .metadata .fields .lastSequence .0) ∷ nonNeg (st .metadata .fields .lastPartition) ∷ []) (E .sound .fields) in
       rw (E .tables .builder) (leb-true (length (st .metadata .fields .location)) locationRoom (k .1 .0))
 
   -- the single fields as they are read
@@ -224,3 +241,7 @@ module _ {g : Given} {st : State} {p : Pieces} (E : Represents g st p) where
   pub order-held : any (hasOrder (p .held .builder .fields .«default_sort_order_id» .0)) (readSortOrders (p .held .ownTables .orders)) ≡ true
   unfolding defaultOrderHeld
   order-held = rw (read-orders, ap (λ (x : plain.SingleFields). x .defaultOrder) read-fields) (E .sound .orderHeld)
+
+  pub spec-held : any (hasSpec (p .held .builder .fields .«default_spec_id» .0)) (readPartitionSpecs (p .held .ownTables .specs)) ≡ true
+  unfolding defaultSpecHeld
+  spec-held = rw (read-specs, ap (λ (x : plain.SingleFields). x .defaultSpec) read-fields) (E .sound .specHeld)

@@ -45,7 +45,7 @@ use Rattle.close.specs.Answers.{HistoryOf, Handed, joining}
 use Rattle.close.proofs.Join.{Filed, gone-within, stays, expires, stays-length}
 use Rattle.refinement.specs.Standing.{Given, Pieces, Represents, termsOf}
 use Rattle.refinement.proofs.Slots.{pad-length, pad-front, collect-length}
-use Rattle.refinement.proofs.Beginning.{read-fields, read-refs, read-log, read-orders, read-snapshots, snapshots-fit, snapshots-ascend}
+use Rattle.refinement.proofs.Beginning.{read-fields, read-refs, read-log, read-orders, read-specs, read-snapshots, snapshots-fit, snapshots-ascend}
 
 pub limit-least : (text : List ℕ) → 1 ≤ limitOf text
 unfolding limitOf
@@ -118,8 +118,8 @@ module _ {g : Given} {st : State} {p : Pieces} (E : Represents g st p) where
         removes = E .logs .removal;
       }
 
-  pub handed : (s : Schema) → IsCurrent (st .metadata) s → Handed (st .metadata) (p .held .builder .fields) (p .held .refs) s (p .held .ownTables .orders)
-  handed s c = record { single = read-fields E; named = read-refs E; current = c; sorts = read-orders E }
+  pub handed : (s : Schema) → IsCurrent (st .metadata) s → Handed (st .metadata) (p .held .builder .fields) (p .held .refs) s (p .held .ownTables .orders) (p .held .ownTables .specs)
+  handed s c = record { single = read-fields E; named = read-refs E; current = c; sorts = read-orders E; partitions = read-specs E }
 
   pub files-laid : LaidMetadataLog (g .metadata .«metadata_log»)
   unfolding metadataLogFormed
@@ -149,7 +149,7 @@ module _ {g : Given} {st : State} {p : Pieces} (E : Represents g st p) where
     pub joins-fit : firstOf checks ≡ 0 → g .terms .«has_file» ≡ true → (g .metadata .«metadata_log» .count - gone < 128) × (g .terms .file .len ≤ 96)
     unfolding closeChecks
     joins-fit z j =
-        let few : length (staying (termsOf g) (st .metadata)) ≤ 128 = ltb-false metadataLogRoom _ (passed checks refl z .1 .1 .1 .0) in
+        let few : length (staying (termsOf g) (st .metadata)) ≤ 128 = ltb-false metadataLogRoom _ (passed checks refl z .1 .1 .1 .1 .1 .0) in
         (omega (arith, few, gone-fits, stays-count ∙ ap (λ (b : Bool). cond b (g .metadata .«metadata_log» .count + 1) (g .metadata .«metadata_log» .count) - gone) j), E .since .short j)
 
     pub stay-is : {stay : MetadataLog} → stay ≡ laidMetadataLog (drop gone (readMetadataLog (g .metadata .«metadata_log»)) ++ joining (g .terms) (g .metadata .fields .«last_updated_ms»)) → stay ≡ laidMetadataLog (staying (termsOf g) (st .metadata))
@@ -168,19 +168,19 @@ module _ {g : Given} {st : State} {p : Pieces} (E : Represents g st p) where
 
   -- the single fields with another last update
   abbrev pub updated : Time → SingleFields → SingleFields
-  updated x f = record { «format_version» = f .«format_version»; «table_uuid» = f .«table_uuid»; location = f .location; «last_updated_ms» = x; «last_sequence_number» = f .«last_sequence_number»; «next_row_id» = f .«next_row_id»; «last_column_id» = f .«last_column_id»; «has_current» = f .«has_current»; «current_snapshot_id» = f .«current_snapshot_id»; «current_schema_id» = f .«current_schema_id»; «default_sort_order_id» = f .«default_sort_order_id» }
+  updated x f = record { «format_version» = f .«format_version»; «table_uuid» = f .«table_uuid»; location = f .location; «last_updated_ms» = x; «last_sequence_number» = f .«last_sequence_number»; «next_row_id» = f .«next_row_id»; «last_column_id» = f .«last_column_id»; «has_current» = f .«has_current»; «current_snapshot_id» = f .«current_snapshot_id»; «current_schema_id» = f .«current_schema_id»; «default_sort_order_id» = f .«default_sort_order_id»; «default_spec_id» = f .«default_spec_id»; «last_partition_id» = f .«last_partition_id» }
 
   pub close-accepted : (place : ℕ) → firstOf checks ≡ 0 → {y : History} → HistoryOf (st .log) (st .metadata) y
       → {stay gone : MetadataLog} → stay ≡ laidMetadataLog (staying (termsOf g) (st .metadata)) → gone ≡ laidMetadataLog (expired (termsOf g) (st .metadata))
       → {x : Time} → x .0 ≡ orElse (given (p .held .builder .«has_own») (p .held .builder .own .0)) (g .terms .«clock_ms» .0)
-      → _≡_ {A = Answer} (record { number = 0; place = 0; metadata = record { fields = updated x (p .held .builder .fields); snapshots = p .held .snapshots; refs = p .held .refs; «snapshot_log» = y .log; «metadata_log» = stay; schemas = p .held .ownTables .schemas .table; «sort_orders» = p .held .ownTables .orders; statistics = p .held .ownTables .statistics; «partition_statistics» = p .held .ownTables .partitionStatistics }; changes = record { items = p .changes .entries; count = p .changes .count }; expired = gone })
+      → _≡_ {A = Answer} (record { number = 0; place = 0; metadata = record { fields = updated x (p .held .builder .fields); snapshots = p .held .snapshots; refs = p .held .refs; «snapshot_log» = y .log; «metadata_log» = stay; schemas = p .held .ownTables .schemas .table; «sort_orders» = p .held .ownTables .orders; statistics = p .held .ownTables .statistics; «partition_statistics» = p .held .ownTables .partitionStatistics; «partition_specs» = p .held .ownTables .specs }; changes = record { items = p .changes .entries; count = p .changes .count }; expired = gone })
       (laidOutcome (g .metadata) (close (termsOf g) place (st .log) st))
   unfolding laidOutcome closed laidMetadata laidFields laidUpdates
   close-accepted place e {y} Y S G {x} u =
       let T = E .tables in
       let own : x .0 ≡ orElse (st .own) (g .terms .«clock_ms» .0) = u ∙ ap (λ (o : Option ℤ). orElse o (g .terms .«clock_ms» .0)) (its-own st (T .builder)) in
       let F : updated x (p .held .builder .fields) ≡ updated (record { 0 = orElse (st .own) (g .terms .«clock_ms» .0) }) (laidFields (st .metadata .fields)) = λ i. updated (record { 0 = own i }) (fields-laid i) in
-      (λ i. record { number = 0; place = 0; metadata = record { fields = F i; snapshots = T .snapshots i; refs = T .refs i; «snapshot_log» = Y .log i; «metadata_log» = S i; schemas = T .ownTables .schemas i .table; «sort_orders» = T .ownTables .orders i; statistics = T .ownTables .statistics i; «partition_statistics» = T .ownTables .partitionStatistics i }; changes = record { items = E .logs .entries i; count = E .logs .count i }; expired = G i })
+      (λ i. record { number = 0; place = 0; metadata = record { fields = F i; snapshots = T .snapshots i; refs = T .refs i; «snapshot_log» = Y .log i; «metadata_log» = S i; schemas = T .ownTables .schemas i .table; «sort_orders» = T .ownTables .orders i; statistics = T .ownTables .statistics i; «partition_statistics» = T .ownTables .partitionStatistics i; «partition_specs» = T .ownTables .specs i }; changes = record { items = E .logs .entries i; count = E .logs .count i }; expired = G i })
       ∙ ap (laidOutcome (g .metadata)) (sym (accepts e place))
 
   -- the parts that are lent

@@ -17,14 +17,14 @@ use Rattle.rules.specs.WellFormed.{updateFormed}
 use Rattle.rules.specs.RefUpdates.{hasName, refNamed, removeRef}
 use Rattle.rules.specs.Updates.{effect}
 use Rattle.rules.specs.Run.{weight}
-use Rattle.rules.specs.Layout.{readRefs, laidRefs, laidSortOrders, laidStatistics}
+use Rattle.rules.specs.Layout.{readRefs, laidRefs, laidSortOrders, laidStatistics, laidPartitionSpecs}
 use Rattle.rules.specs.Kinds.{readUpdates}
 use Rattle.rules.proofs.Checks.{by-test}
 use Rattle.builder.specs.declared.decision.Decision.{Decision}
 use Rattle.builder.specs.Pieces.{laidBuilder}
 use Rattle.builder.specs.Answers.{AnswersUpdate}
 use Rattle.refinement.specs.Standing.{Given, termsOf, OwnTables, OwnTable, Slots, tableOf, withTable, OwnLists, ownLists, heldSchemas, laidOf, OwnLaid, Pieces, Represents, Standing}
-use Rattle.refinement.specs.Standing.OwnTable.{ofSchemas, ofOrders, ofStatistics}
+use Rattle.refinement.specs.Standing.OwnTable.{ofSchemas, ofOrders, ofStatistics, ofSpecs}
 use Rattle.refinement.specs.Turns.{Stands, Decided}
 use Rattle.refinement.proofs.Effects.{group, statisticsGroup, Aside, aside}
 use Rattle.refinement.proofs.Logged.{push-quiet}
@@ -48,25 +48,29 @@ abbrev pub numberOf : OwnTable → ℕ
 numberOf ofSchemas = 2
 numberOf ofOrders = 3
 numberOf (ofStatistics which) = statisticsGroup which
+numberOf ofSpecs = 7
 
 not-zero : (o : OwnTable) → numberOf o ≡ 0 → ⊥
 not-zero ofSchemas z = omega arith
 not-zero ofOrders z = omega arith
 not-zero (ofStatistics Statistics) z = omega arith
 not-zero (ofStatistics PartitionStatistics) z = omega arith
+not-zero ofSpecs z = omega arith
 
 not-refs : (o : OwnTable) → eqb (numberOf o) 4 ≡ false
 not-refs ofSchemas = refl
 not-refs ofOrders = refl
 not-refs (ofStatistics Statistics) = refl
 not-refs (ofStatistics PartitionStatistics) = refl
+not-refs ofSpecs = refl
 
 -- a table of a family, and the tables of the others
 placed : (o : OwnTable) {l : OwnLists} {s : OwnTables} {t : Slots o} → t ≡ laidOf o l → ((q : OwnTable) → eqb (numberOf o) (numberOf q) ≡ false → tableOf q s ≡ laidOf q l) → OwnLaid l (withTable o t s)
-placed ofSchemas x h = record { schemas = x; orders = h ofOrders refl; statistics = h (ofStatistics Statistics) refl; partitionStatistics = h (ofStatistics PartitionStatistics) refl }
-placed ofOrders x h = record { schemas = h ofSchemas refl; orders = x; statistics = h (ofStatistics Statistics) refl; partitionStatistics = h (ofStatistics PartitionStatistics) refl }
-placed (ofStatistics Statistics) x h = record { schemas = h ofSchemas refl; orders = h ofOrders refl; statistics = x; partitionStatistics = h (ofStatistics PartitionStatistics) refl }
-placed (ofStatistics PartitionStatistics) x h = record { schemas = h ofSchemas refl; orders = h ofOrders refl; statistics = h (ofStatistics Statistics) refl; partitionStatistics = x }
+placed ofSchemas x h = record { schemas = x; orders = h ofOrders refl; statistics = h (ofStatistics Statistics) refl; partitionStatistics = h (ofStatistics PartitionStatistics) refl; specs = h ofSpecs refl }
+placed ofOrders x h = record { schemas = h ofSchemas refl; orders = x; statistics = h (ofStatistics Statistics) refl; partitionStatistics = h (ofStatistics PartitionStatistics) refl; specs = h ofSpecs refl }
+placed (ofStatistics Statistics) x h = record { schemas = h ofSchemas refl; orders = h ofOrders refl; statistics = x; partitionStatistics = h (ofStatistics PartitionStatistics) refl; specs = h ofSpecs refl }
+placed (ofStatistics PartitionStatistics) x h = record { schemas = h ofSchemas refl; orders = h ofOrders refl; statistics = h (ofStatistics Statistics) refl; partitionStatistics = x; specs = h ofSpecs refl }
+placed ofSpecs x h = record { schemas = h ofSchemas refl; orders = h ofOrders refl; statistics = h (ofStatistics Statistics) refl; partitionStatistics = h (ofStatistics PartitionStatistics) refl; specs = x }
 
 module _ {g : Given} {i : ℕ} {p : Pieces} (S : Standing g i p) (v : Update) (at : drop i (readUpdates (g .updates)) ≡ v ∷ drop (i + 1) (readUpdates (g .updates))) (one : 1 ≤ weight v) where
   -- an entry has room
@@ -117,9 +121,10 @@ module _ {g : Given} {i : ℕ} {p : Pieces} (S : Standing g i p) (v : Update) (a
     same-own ofOrders f = S .stands .tables .ownTables .orders ∙ ap laidSortOrders (sym (Q .same .orders f))
     same-own (ofStatistics Statistics) f = S .stands .tables .ownTables .statistics ∙ ap laidStatistics (sym (Q .same .statistics f))
     same-own (ofStatistics PartitionStatistics) f = S .stands .tables .ownTables .partitionStatistics ∙ ap laidStatistics (sym (Q .same .partitionStatistics f))
+    same-own ofSpecs f = S .stands .tables .ownTables .specs ∙ ap laidPartitionSpecs (sym (Q .same .specs f))
 
     same-tables : ((o : OwnTable) → eqb (group v) (numberOf o) ≡ false) → OwnLaid (ownLists (after .metadata)) (p .held .ownTables)
-    same-tables f = record { schemas = same-own ofSchemas (f ofSchemas); orders = same-own ofOrders (f ofOrders); statistics = same-own (ofStatistics Statistics) (f (ofStatistics Statistics)); partitionStatistics = same-own (ofStatistics PartitionStatistics) (f (ofStatistics PartitionStatistics)) }
+    same-tables f = record { schemas = same-own ofSchemas (f ofSchemas); orders = same-own ofOrders (f ofOrders); statistics = same-own (ofStatistics Statistics) (f (ofStatistics Statistics)); partitionStatistics = same-own (ofStatistics PartitionStatistics) (f (ofStatistics PartitionStatistics)); specs = same-own ofSpecs (f ofSpecs) }
 
   -- what a decision comes to, by the family of the update
   module _ (e : updateFormed v ≡ true) {d : Decision} (A : AnswersUpdate (termsOf g) v (S .state) (d .number) (d .logs) (d .builder) (d .entry)) where
@@ -134,6 +139,7 @@ module _ {g : Given} {i : ℕ} {p : Pieces} (S : Standing g i p) (v : Update) (a
         others ofOrders = refl
         others (ofStatistics Statistics) = refl
         others (ofStatistics PartitionStatistics) = refl
+        others ofSpecs = refl
 
     -- it removes a ref
     pub refs-decided : group v ≡ 4 → {r : Refs} → (d .number ≡ 0 → r ≡ laidRefs (effect (termsOf g) v (S .state) .metadata .refs)) → Decided g i false (tabled r (p .held .ownTables) p) d
@@ -146,6 +152,7 @@ module _ {g : Given} {i : ℕ} {p : Pieces} (S : Standing g i p) (v : Update) (a
         others ofOrders = refl
         others (ofStatistics Statistics) = refl
         others (ofStatistics PartitionStatistics) = refl
+        others ofSpecs = refl
 
     -- it is of a family with a table of its own, and the table is the one after the update
     pub own-decided : (o : OwnTable) → group v ≡ numberOf o → {t : Slots o} → (d .number ≡ 0 → t ≡ laidOf o (ownLists (effect (termsOf g) v (S .state) .metadata))) → Decided g i false (tabled (p .held .refs) (withTable o t (p .held .ownTables)) p) d

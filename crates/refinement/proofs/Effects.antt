@@ -9,17 +9,18 @@ use lib.Dec.{eqb}
 use lib.ListN.{length, length-append}
 use Rattle.rules.specs.Words.{eqZ, someWith, isEmpty, sameBytes, isSome}
 use Rattle.rules.specs.Names.{trimmed, isMain}
-use Rattle.rules.specs.Register.{Reference, Snapshot, StatisticsFile, StatisticsTable, Metadata, Update, Terms, State, withFields, withRefs, withSchemas, withOrders, statisticsOf, withStatistics, logged}
+use Rattle.rules.specs.Register.{Reference, Snapshot, StatisticsFile, StatisticsTable, Metadata, Update, Terms, State, withFields, withRefs, withSchemas, withOrders, statisticsOf, withStatistics, withSpecs, logged}
 use Rattle.rules.specs.Register.StatisticsTable.{Statistics, PartitionStatistics}
-use Rattle.rules.specs.Register.Update.{AssignUuid, UpgradeFormatVersion, SetLocation, AddSnapshot, SetBranchSnapshot, RemoveSnapshots, SetRef, RemoveRef, AddSchema, SetCurrentSchema, RemoveSchemas, AddSortOrder, SetDefaultSortOrder, SetStatistics, RemoveStatistics, NotFormed}
+use Rattle.rules.specs.Register.Update.{AssignUuid, UpgradeFormatVersion, SetLocation, AddSnapshot, SetBranchSnapshot, RemoveSnapshots, SetRef, RemoveRef, AddSchema, SetCurrentSchema, RemoveSchemas, AddSortOrder, SetDefaultSortOrder, SetStatistics, RemoveStatistics, AddPartitionSpec, SetDefaultPartitionSpec, RemovePartitionSpecs, NotFormed}
 use Rattle.rules.specs.ChangeLog.{addition, mainTarget, isSnapshotRemoval}
 use Rattle.rules.specs.SingleUpdates.{assignUuid, upgradeFormatVersion, setLocation}
 use Rattle.rules.specs.SnapshotUpdates.{addSnapshot, removeSnapshots, heldSnapshots}
 use Rattle.rules.specs.RefUpdates.{setRef, setBranchSnapshot, removeRef, isHeldRef, putRef, refNamed, committed}
-use Rattle.rules.specs.Offers.{offeredSchema}
+use Rattle.rules.specs.Offers.{offeredSchema, offeredSpec}
 use Rattle.rules.specs.SchemaUpdates.{addSchema, setCurrentSchema, removeSchemas, reusedSchema, chosen}
 use Rattle.rules.specs.OrderUpdates.{addSortOrder, setDefaultSortOrder, reusedOrder}
 use Rattle.rules.specs.StatisticsUpdates.{hasFileOf, setStatistics, removeStatistics}
+use Rattle.rules.specs.SpecUpdates.{reusing, reusedSpec, specAdded, addPartitionSpec, setDefaultPartitionSpec, heldSpecs, removePartitionSpecs}
 use Rattle.rules.specs.Updates.{effect}
 use Rattle.rules.specs.Run.{weight}
 use Rattle.rules.proofs.Checks.{by-test, by-option}
@@ -53,7 +54,7 @@ set-moves terms name r st =
     (λ e. by-test (λ (x : State). Moves 1 st (logged (SetRef name r) (putRef name r x))) (isMain name) (λ f. one (SetRef name r) st _ refl refl refl) (λ f. one (SetRef name r) st _ refl refl refl))
 
 pub moves : (terms : Terms) (u : Update) (st : State) → Moves (weight u) st (effect terms u st)
-unfolding effect assignUuid upgradeFormatVersion setLocation removeSnapshots setBranchSnapshot removeRef addSchema setCurrentSchema removeSchemas addSortOrder setDefaultSortOrder setStatistics removeStatistics
+unfolding effect assignUuid upgradeFormatVersion setLocation removeSnapshots setBranchSnapshot removeRef addSchema setCurrentSchema removeSchemas addSortOrder setDefaultSortOrder setStatistics removeStatistics specAdded addPartitionSpec setDefaultPartitionSpec removePartitionSpecs
 moves terms (AssignUuid uuid) st = by-test (Moves 1 st) (sameBytes uuid (st .metadata .fields .uuid)) (λ e. still 1 st) (λ e. one (AssignUuid uuid) st _ refl refl refl)
 moves terms (UpgradeFormatVersion v) st = by-test (Moves 1 st) (eqb v (st .metadata .fields .version)) (λ e. still 1 st) (λ e. one (UpgradeFormatVersion v) st _ refl refl refl)
 moves terms (SetLocation l) st = by-test (Moves 1 st) (sameBytes (trimmed l) (st .metadata .fields .location)) (λ e. still 1 st) (λ e. one (SetLocation (trimmed l)) st _ refl refl refl)
@@ -83,6 +84,12 @@ moves terms (SetStatistics Statistics f) st = one (SetStatistics Statistics f) s
 moves terms (SetStatistics PartitionStatistics f) st = one (SetStatistics PartitionStatistics f) st _ refl refl refl
 moves terms (RemoveStatistics Statistics id) st = by-test (Moves 1 st) (hasFileOf (st .metadata .statistics) id) (λ e. one (RemoveStatistics Statistics id) st _ refl refl refl) (λ e. still 1 st)
 moves terms (RemoveStatistics PartitionStatistics id) st = by-test (Moves 1 st) (hasFileOf (st .metadata .partitionStatistics) id) (λ e. one (RemoveStatistics PartitionStatistics id) st _ refl refl refl) (λ e. still 1 st)
+moves terms (AddPartitionSpec o) st =
+    by-option (Moves 1 st) (reusedSpec (reusing (st .metadata .specs) (offeredSpec (terms .offers) o)) (st .metadata .specs))
+    (λ e. one (AddPartitionSpec _) st _ refl refl refl)
+    (λ id e. by-test (Moves 1 st) (someWith (eqZ id) (st .added .spec)) (λ f. still 1 st) (λ f. one (AddPartitionSpec _) st _ refl refl refl))
+moves terms (SetDefaultPartitionSpec id) st = by-test (Moves 1 st) (eqZ (chosen id (st .added .spec)) (st .metadata .fields .defaultSpec)) (λ e. still 1 st) (λ e. one (SetDefaultPartitionSpec _) st _ refl refl refl)
+moves terms (RemovePartitionSpecs ids) st = by-test (Moves 1 st) (isEmpty (heldSpecs ids (st .metadata .specs))) (λ e. still 1 st) (λ e. one (RemovePartitionSpecs _) st _ refl refl refl)
 moves terms (NotFormed counts) st = still counts st
 
 -- ---- updates that leave snapshots and refs alone
@@ -99,7 +106,7 @@ statisticsGroup Statistics = 5
 statisticsGroup PartitionStatistics = 6
 
 -- Its family, by what it may change beside the log: 1 single fields; 2 schemas; 3 sort orders; 4 refs, by removing one; 5 and 6 statistics
--- files; 0 snapshots, or refs by setting one. Choosing a schema or an order changes a single field, and is of their family.
+-- files; 7 partition specs; 0 snapshots, or refs by setting one. Choosing a schema, an order or a spec changes a single field, and is of their family.
 abbrev pub group : Update → ℕ
 group (AssignUuid uuid) = 1
 group (UpgradeFormatVersion v) = 1
@@ -116,6 +123,9 @@ group (AddSortOrder o) = 3
 group (SetDefaultSortOrder id) = 3
 group (SetStatistics which f) = statisticsGroup which
 group (RemoveStatistics which id) = statisticsGroup which
+group (AddPartitionSpec o) = 7
+group (SetDefaultPartitionSpec id) = 7
+group (RemovePartitionSpecs ids) = 7
 group (NotFormed counts) = 1
 
 -- all but what that number names is the same
@@ -127,24 +137,28 @@ pub record Same (g : ℕ) (m m′ : Metadata) : Type 0 where
   pub orders : eqb g 3 ≡ false → m′ .orders ≡ m .orders
   pub statistics : eqb g 5 ≡ false → m′ .statistics ≡ m .statistics
   pub partitionStatistics : eqb g 6 ≡ false → m′ .partitionStatistics ≡ m .partitionStatistics
+  pub specs : eqb g 7 ≡ false → m′ .specs ≡ m .specs
 
 -- one table changed, and the single fields
 module _ {m m′ : Metadata} where
   fields-same : (g : ℕ) → withFields (m′ .fields) m ≡ m′ → Same g m m′
-  fields-same g e = rw (← e) (record { snapshots = refl; refs = λ z. refl; log = refl; schemas = λ z. refl; orders = λ z. refl; statistics = λ z. refl; partitionStatistics = λ z. refl })
+  fields-same g e = rw (← e) (record { snapshots = refl; refs = λ z. refl; log = refl; schemas = λ z. refl; orders = λ z. refl; statistics = λ z. refl; partitionStatistics = λ z. refl; specs = λ z. refl })
 
   schemas-same : withFields (m′ .fields) (withSchemas (m′ .schemas) m) ≡ m′ → Same 2 m m′
-  schemas-same e = rw (← e) (record { snapshots = refl; refs = λ z. refl; log = refl; schemas = λ z. absurd (true≢false z); orders = λ z. refl; statistics = λ z. refl; partitionStatistics = λ z. refl })
+  schemas-same e = rw (← e) (record { snapshots = refl; refs = λ z. refl; log = refl; schemas = λ z. absurd (true≢false z); orders = λ z. refl; statistics = λ z. refl; partitionStatistics = λ z. refl; specs = λ z. refl })
 
   orders-same : withOrders (m′ .orders) m ≡ m′ → Same 3 m m′
-  orders-same e = rw (← e) (record { snapshots = refl; refs = λ z. refl; log = refl; schemas = λ z. refl; orders = λ z. absurd (true≢false z); statistics = λ z. refl; partitionStatistics = λ z. refl })
+  orders-same e = rw (← e) (record { snapshots = refl; refs = λ z. refl; log = refl; schemas = λ z. refl; orders = λ z. absurd (true≢false z); statistics = λ z. refl; partitionStatistics = λ z. refl; specs = λ z. refl })
+
+  specs-same : withFields (m′ .fields) (withSpecs (m′ .specs) m) ≡ m′ → Same 7 m m′
+  specs-same e = rw (← e) (record { snapshots = refl; refs = λ z. refl; log = refl; schemas = λ z. refl; orders = λ z. refl; statistics = λ z. refl; partitionStatistics = λ z. refl; specs = λ z. absurd (true≢false z) })
 
   refs-same : withFields (m′ .fields) (withRefs (m′ .refs) m) ≡ m′ → Same 4 m m′
-  refs-same e = rw (← e) (record { snapshots = refl; refs = λ z. absurd (true≢false z); log = refl; schemas = λ z. refl; orders = λ z. refl; statistics = λ z. refl; partitionStatistics = λ z. refl })
+  refs-same e = rw (← e) (record { snapshots = refl; refs = λ z. absurd (true≢false z); log = refl; schemas = λ z. refl; orders = λ z. refl; statistics = λ z. refl; partitionStatistics = λ z. refl; specs = λ z. refl })
 
 statistics-same : (which : StatisticsTable) (l : List StatisticsFile) (m : Metadata) → Same (statisticsGroup which) m (withStatistics which l m)
-statistics-same Statistics l m = record { snapshots = refl; refs = λ z. refl; log = refl; schemas = λ z. refl; orders = λ z. refl; statistics = λ z. absurd (true≢false z); partitionStatistics = λ z. refl }
-statistics-same PartitionStatistics l m = record { snapshots = refl; refs = λ z. refl; log = refl; schemas = λ z. refl; orders = λ z. refl; statistics = λ z. refl; partitionStatistics = λ z. absurd (true≢false z) }
+statistics-same Statistics l m = record { snapshots = refl; refs = λ z. refl; log = refl; schemas = λ z. refl; orders = λ z. refl; statistics = λ z. absurd (true≢false z); partitionStatistics = λ z. refl; specs = λ z. refl }
+statistics-same PartitionStatistics l m = record { snapshots = refl; refs = λ z. refl; log = refl; schemas = λ z. refl; orders = λ z. refl; statistics = λ z. refl; partitionStatistics = λ z. absurd (true≢false z); specs = λ z. refl }
 
 pub record Aside (g : ℕ) (st st′ : State) : Type 0 where
   pub same : Same g (st .metadata) (st′ .metadata)
@@ -158,7 +172,7 @@ logs-quiet : {g : ℕ} (u : Update) (st : State) {st′ : State} → Same g (st 
 logs-quiet u st s l q = record { same = s; quiet = λ v e. subst Quiet (last-cancels (st .log) u v (sym l ∙ e)) q }
 
 pub aside : (terms : Terms) (u : Update) (st : State) → (group u ≡ 0 → ⊥) → Aside (group u) st (effect terms u st)
-unfolding effect assignUuid upgradeFormatVersion setLocation removeRef addSchema setCurrentSchema removeSchemas addSortOrder setDefaultSortOrder setStatistics removeStatistics
+unfolding effect assignUuid upgradeFormatVersion setLocation removeRef addSchema setCurrentSchema removeSchemas addSortOrder setDefaultSortOrder setStatistics removeStatistics specAdded addPartitionSpec setDefaultPartitionSpec removePartitionSpecs
 aside terms (AssignUuid uuid) st n = by-test (Aside 1 st) (sameBytes uuid (st .metadata .fields .uuid)) (λ e. rest 1 st) (λ e. logs-quiet (AssignUuid uuid) st (fields-same 1 refl) refl (record { adds = refl; sets = refl; removes = refl }))
 aside terms (UpgradeFormatVersion v) st n = by-test (Aside 1 st) (eqb v (st .metadata .fields .version)) (λ e. rest 1 st) (λ e. logs-quiet (UpgradeFormatVersion v) st (fields-same 1 refl) refl (record { adds = refl; sets = refl; removes = refl }))
 aside terms (SetLocation l) st n = by-test (Aside 1 st) (sameBytes (trimmed l) (st .metadata .fields .location)) (λ e. rest 1 st) (λ e. logs-quiet (SetLocation (trimmed l)) st (fields-same 1 refl) refl (record { adds = refl; sets = refl; removes = refl }))
@@ -183,4 +197,10 @@ aside terms (AddSortOrder o) st n =
 aside terms (SetDefaultSortOrder id) st n = by-test (Aside 3 st) (eqZ (chosen id (st .added .order)) (st .metadata .fields .defaultOrder)) (λ e. rest 3 st) (λ e. logs-quiet (SetDefaultSortOrder _) st (fields-same 3 refl) refl (record { adds = refl; sets = refl; removes = refl }))
 aside terms (SetStatistics which f) st n = logs-quiet (SetStatistics which f) st (statistics-same which _ (st .metadata)) refl (record { adds = refl; sets = refl; removes = refl })
 aside terms (RemoveStatistics which id) st n = by-test (Aside (statisticsGroup which) st) (hasFileOf (statisticsOf which (st .metadata)) id) (λ e. logs-quiet (RemoveStatistics which id) st (statistics-same which _ (st .metadata)) refl (record { adds = refl; sets = refl; removes = refl })) (λ e. rest (statisticsGroup which) st)
+aside terms (AddPartitionSpec o) st n =
+    by-option (Aside 7 st) (reusedSpec (reusing (st .metadata .specs) (offeredSpec (terms .offers) o)) (st .metadata .specs))
+    (λ e. logs-quiet (AddPartitionSpec _) st (specs-same refl) refl (record { adds = refl; sets = refl; removes = refl }))
+    (λ id e. by-test (Aside 7 st) (someWith (eqZ id) (st .added .spec)) (λ f. rest 7 st) (λ f. logs-quiet (AddPartitionSpec _) st (fields-same 7 refl) refl (record { adds = refl; sets = refl; removes = refl })))
+aside terms (SetDefaultPartitionSpec id) st n = by-test (Aside 7 st) (eqZ (chosen id (st .added .spec)) (st .metadata .fields .defaultSpec)) (λ e. rest 7 st) (λ e. logs-quiet (SetDefaultPartitionSpec _) st (fields-same 7 refl) refl (record { adds = refl; sets = refl; removes = refl }))
+aside terms (RemovePartitionSpecs ids) st n = by-test (Aside 7 st) (isEmpty (heldSpecs ids (st .metadata .specs))) (λ e. rest 7 st) (λ e. logs-quiet (RemovePartitionSpecs _) st (specs-same refl) refl (record { adds = refl; sets = refl; removes = refl }))
 aside terms (NotFormed counts) st n = rest 1 st

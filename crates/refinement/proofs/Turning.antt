@@ -8,7 +8,7 @@ use borrow.Table.Steps.{cases}
 use lib.Dec.{eqb}
 use Rattle.records.specs.declared.update.TableUpdate.{TableUpdate}
 use Rattle.rules.specs.WellFormed.{updateFormed}
-use Rattle.rules.specs.Kinds.{atKind, readings, readKind, readUpdate, assignUuidKind, setLocationKind, setBranchSnapshotKind, removeRefKind, addSchemaKind, removeSchemasKind, setDefaultSortOrderKind, removeStatisticsKind}
+use Rattle.rules.specs.Kinds.{atKind, readings, readKind, readUpdate, assignUuidKind, setLocationKind, setBranchSnapshotKind, removeRefKind, addSchemaKind, removeSchemasKind, setDefaultSortOrderKind, removeStatisticsKind, removePartitionStatisticsKind, addPartitionSpecKind}
 use Rattle.builder.specs.declared.decision.Decision.{Decision}
 use Rattle.schema_updates.specs.Keys.{KeysFit}
 use Rattle.start.proofs.Reading.{formed-tidy, read-tidy, bounds}
@@ -70,5 +70,8 @@ module _ (u : TableUpdate) (f : updateFormed (readUpdate u) ≡ true) where
   pub is-statistics : setDefaultSortOrderKind < u .kind → u .kind ≤ removeStatisticsKind → group (readUpdate u) ≡ 5
   is-statistics l h = ap group read ∙ two (λ k. group (atKind k (readings u)) ≡ 5) 14 (u .kind) (omega arith) h refl refl
 
-  pub is-partition-statistics : removeStatisticsKind < u .kind → group (readUpdate u) ≡ 6
-  is-partition-statistics l = ap group read ∙ two (λ k. group (atKind k (readings u)) ≡ 6) 16 (u .kind) (omega arith) (omega (arith, bounds u f)) refl refl
+  pub is-partition-statistics : removeStatisticsKind < u .kind → u .kind ≤ removePartitionStatisticsKind → group (readUpdate u) ≡ 6
+  is-partition-statistics l h = ap group read ∙ two (λ k. group (atKind k (readings u)) ≡ 6) 16 (u .kind) (omega arith) h refl refl
+
+  pub is-specs : removePartitionStatisticsKind < u .kind → group (readUpdate u) ≡ 7
+  is-specs l = ap group read ∙ cases (eqb (u .kind) addPartitionSpecKind) (λ t. rw (eqb-true (u .kind) addPartitionSpecKind t)) (λ n. two (λ k. group (atKind k (readings u)) ≡ 7) 19 (u .kind) (omega (arith, eqb-false (u .kind) addPartitionSpecKind n)) (omega (arith, bounds u f)) refl refl)

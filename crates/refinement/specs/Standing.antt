@@ -15,6 +15,7 @@ use Rattle.records.specs.declared.reference.Refs.{Refs}
 use Rattle.records.specs.declared.schema.Schemas.{Schemas}
 use Rattle.records.specs.declared.«sort_order».SortOrders.{SortOrders}
 use Rattle.records.specs.declared.statistics.StatisticsFiles.{StatisticsFiles}
+use Rattle.records.specs.declared.partition.PartitionSpecs.{PartitionSpecs}
 use Rattle.records.specs.declared.update.TableUpdate.{TableUpdate}
 use Rattle.records.specs.declared.update.UpdateList.{UpdateList}
 use Rattle.records.specs.declared.run.RunTerms.{RunTerms}
@@ -25,7 +26,7 @@ use Rattle.rules.specs.Register.{StatisticsTable, Metadata, Update, Terms, Stat
 use Rattle.rules.specs.Register.StatisticsTable.{Statistics, PartitionStatistics}
 use Rattle.rules.specs.ChangeLog.{logsMain, logsRemoval}
 use Rattle.rules.specs.Run.{weight, runFrom, started}
-use Rattle.rules.specs.Layout.{given, pad, laidSnapshots, laidRefs, laidSnapshotLog, laidSchemas, laidSortOrders, laidStatistics, readMetadata, readMetadataLog, laidMetadataLog}
+use Rattle.rules.specs.Layout.{given, pad, laidSnapshots, laidRefs, laidSnapshotLog, laidSchemas, laidSortOrders, laidStatistics, laidPartitionSpecs, readMetadata, readMetadataLog, laidMetadataLog}
 use Rattle.rules.specs.Kinds.{readUpdates, laidUpdate}
 use Rattle.rules.specs.Answer.{Lent, readTerms, answer}
 use Rattle.rules.proofs.Sound.Metadata.{Sound}
@@ -62,17 +63,20 @@ pub record OwnTables : Type 0 where
   pub orders : SortOrders
   pub statistics : StatisticsFiles
   pub partitionStatistics : StatisticsFiles
+  pub specs : PartitionSpecs
 
 -- one of them, by its family
 pub data OwnTable : Type 0 where
   ofSchemas : OwnTable
   ofOrders : OwnTable
   ofStatistics : StatisticsTable → OwnTable
+  ofSpecs : OwnTable
 
 abbrev pub Slots : OwnTable → Type 0
 Slots ofSchemas = HeldSchemas
 Slots ofOrders = SortOrders
 Slots (ofStatistics which) = StatisticsFiles
+Slots ofSpecs = PartitionSpecs
 
 abbrev pub filesOf : StatisticsTable → OwnTables → StatisticsFiles
 filesOf Statistics s = s .statistics
@@ -82,13 +86,15 @@ abbrev pub tableOf : (o : OwnTable) → OwnTables → Slots o
 tableOf ofSchemas s = s .schemas
 tableOf ofOrders s = s .orders
 tableOf (ofStatistics which) s = filesOf which s
+tableOf ofSpecs s = s .specs
 
 -- the tables with another one of a family
 abbrev pub withTable : (o : OwnTable) → Slots o → OwnTables → OwnTables
-withTable ofSchemas t s = record { schemas = t; orders = s .orders; statistics = s .statistics; partitionStatistics = s .partitionStatistics }
-withTable ofOrders t s = record { schemas = s .schemas; orders = t; statistics = s .statistics; partitionStatistics = s .partitionStatistics }
-withTable (ofStatistics Statistics) t s = record { schemas = s .schemas; orders = s .orders; statistics = t; partitionStatistics = s .partitionStatistics }
-withTable (ofStatistics PartitionStatistics) t s = record { schemas = s .schemas; orders = s .orders; statistics = s .statistics; partitionStatistics = t }
+withTable ofSchemas t s = record { schemas = t; orders = s .orders; statistics = s .statistics; partitionStatistics = s .partitionStatistics; specs = s .specs }
+withTable ofOrders t s = record { schemas = s .schemas; orders = t; statistics = s .statistics; partitionStatistics = s .partitionStatistics; specs = s .specs }
+withTable (ofStatistics Statistics) t s = record { schemas = s .schemas; orders = s .orders; statistics = t; partitionStatistics = s .partitionStatistics; specs = s .specs }
+withTable (ofStatistics PartitionStatistics) t s = record { schemas = s .schemas; orders = s .orders; statistics = s .statistics; partitionStatistics = t; specs = s .specs }
+withTable ofSpecs t s = record { schemas = s .schemas; orders = s .orders; statistics = s .statistics; partitionStatistics = s .partitionStatistics; specs = t }
 
 -- the builder and the tables; the ids of the snapshots and the time of the last log entry stand beside them, as they are read often
 pub record Held : Type 0 where
@@ -145,9 +151,10 @@ pub record OwnLists : Type 0 where
   pub orders : List plain.SortOrder
   pub statistics : List plain.StatisticsFile
   pub partitionStatistics : List plain.StatisticsFile
+  pub specs : List plain.PartitionSpec
 
 abbrev pub ownLists : Metadata → OwnLists
-ownLists m = record { schemas = m .schemas; orders = m .orders; statistics = m .statistics; partitionStatistics = m .partitionStatistics }
+ownLists m = record { schemas = m .schemas; orders = m .orders; statistics = m .statistics; partitionStatistics = m .partitionStatistics; specs = m .specs }
 
 abbrev pub filesIn : StatisticsTable → OwnLists → List plain.StatisticsFile
 filesIn Statistics l = l .statistics
@@ -160,6 +167,7 @@ abbrev pub laidOf : (o : OwnTable) → OwnLists → Slots o
 laidOf ofSchemas l = heldSchemas (l .schemas)
 laidOf ofOrders l = laidSortOrders (l .orders)
 laidOf (ofStatistics which) l = laidStatistics (filesIn which l)
+laidOf ofSpecs l = laidPartitionSpecs (l .specs)
 
 -- the tables are these, laid out
 pub record OwnLaid (m : OwnLists) (s : OwnTables) : Type 0 where
@@ -167,6 +175,7 @@ pub record OwnLaid (m : OwnLists) (s : OwnTables) : Type 0 where
   pub orders : s .orders ≡ laidSortOrders (m .orders)
   pub statistics : s .statistics ≡ laidStatistics (m .statistics)
   pub partitionStatistics : s .partitionStatistics ≡ laidStatistics (m .partitionStatistics)
+  pub specs : s .specs ≡ laidPartitionSpecs (m .specs)
 
 -- the builder and the tables are those of the state, laid out
 pub record Tables (st : State) (h : Held) : Type 0 where

@@ -5,7 +5,7 @@ use mathlib.Core.Bool.{Bool, true, false, cond}
 use mathlib.Core.List.{List, []}
 use lib.IntN.{pos}
 use lib.ListN.{length, getD}
-use Rattle.records.specs.Blanks.{noSnapshotId, noSnapshot, noReference, noSchemaId, noSchemaOffer}
+use Rattle.records.specs.Blanks.{noSnapshotId, noSnapshot, noReference, noSchemaId, noSchemaOffer, noSpecId}
 use Rattle.records.specs.declared.text.Text.{Text}
 use Rattle.records.specs.declared.update.TableUpdate.{TableUpdate}
 use Rattle.rules.specs.Words.{firstOf}
@@ -35,6 +35,7 @@ nothing =
       schemas = record { added = noSchemaOffer; chosen = noSchemaId; removed = record { items = []; count = 0 } };
       «sort_orders» = record { added = record { «order_id» = record { 0 = pos 0 }; items = []; count = 0 }; chosen = record { 0 = pos 0 } };
       statistics = record { file = record { «snapshot_id» = noSnapshotId; «statistics_path» = noBytes; «file_size_in_bytes» = record { 0 = pos 0 } }; removed = noSnapshotId };
+      «partition_specs» = record { added = record { «spec_id» = noSpecId; at = 0; count = 0; ids = [] }; chosen = noSpecId; removed = record { items = []; count = 0 } };
     }
 
 -- the update at a place

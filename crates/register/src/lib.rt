@@ -20,6 +20,8 @@ use close::files::surplus;
 use close::history::close_log;
 use formed::metadata::is_formed;
 use order_updates::family as order_family;
+use partitions::names::is_taken;
+use partitions::names::meets_partition;
 use primitives::limit::limit;
 use records::metadata::TableMetadata;
 use records::replies::ACCEPTED;
@@ -28,6 +30,7 @@ use records::run::Answer;
 use records::run::RunTerms;
 use records::update::ADD_SCHEMA;
 use records::update::ADD_SNAPSHOT;
+use records::update::REMOVE_PARTITION_STATISTICS;
 use records::update::REMOVE_REF;
 use records::update::REMOVE_SCHEMAS;
 use records::update::REMOVE_SNAPSHOTS;
@@ -47,6 +50,7 @@ use ref_updates::remove_ref;
 use ref_updates::set_ref;
 use schema_updates::add_schema;
 use schema_updates::keys::current_place;
+use schema_updates::keys::has_size;
 use schema_updates::keys::keys_at_start;
 use schema_updates::keys::keys_of;
 use schema_updates::keys::with_key;
@@ -57,6 +61,7 @@ use search::position;
 use search::position_ascending;
 use snapshot_updates::add_snapshot;
 use snapshot_updates::remove_snapshots;
+use spec_updates::family as spec_family;
 use start::refused;
 use start::start_number;
 use start::weight;
@@ -87,7 +92,7 @@ fn slot(spot: usize, held: usize) -> usize
 }
 
 // The loop decides an update, or one half of a branch commit, and in its next turn stores the decision. Entries, snapshots, their ids, the
-// snapshot log and schemas are stored in place, since a table that is handed over is copied; so the ids of the schemas are beside their table.
+// snapshot log and schemas are stored in place, since a table that is handed over is copied; so the ids and sizes of the schemas are beside their table.
 pub fn run(
     metadata: TableMetadata,
     updates: UpdateList,
@@ -119,6 +124,7 @@ pub fn run(
     let mut orders = metadata.sort_orders;
     let mut statistics = metadata.statistics;
     let mut partition_statistics = metadata.partition_statistics;
+    let mut specs = metadata.partition_specs;
     // The ids that the change log adds, and those to which it sets `main`.
     let mut added = [0i64; 64];
     let mut main_targets = [0i64; 64];
@@ -243,8 +249,16 @@ pub fn run(
         }
         if kind == ADD_SCHEMA {
             let offered = offers::schema(update.schemas.added, offers);
-            let equal = find_equal(schemas, offered.schema);
-            decision = add_schema(builder, keys, equal, offered, update);
+            let mut taken = meets_partition(offered.schema, specs);
+            if taken {
+                taken = is_taken(offered.schema, schemas, specs);
+            }
+            let size = offered.schema.count;
+            let mut equal = keys.count;
+            if has_size(keys, size) {
+                equal = find_equal(schemas, offered.schema);
+            }
+            decision = add_schema(builder, keys, equal, taken, offered, update);
             if !decision.grows {
                 continue;
             }
@@ -252,7 +266,7 @@ pub fn run(
             let free = schemas.count;
             schemas.items[free] = schema;
             schemas.count = free + 1;
-            keys = with_key(keys, schema.schema_id);
+            keys = with_key(keys, schema.schema_id, size);
             continue;
         }
         if kind == SET_CURRENT_SCHEMA {
@@ -277,8 +291,16 @@ pub fn run(
             statistics = statistics_family::after(statistics, update, decision);
             continue;
         }
-        decision = statistics_family::decide(builder, partition_statistics, update);
-        partition_statistics = statistics_family::after(partition_statistics, update, decision);
+        if kind <= REMOVE_PARTITION_STATISTICS {
+            decision = statistics_family::decide(builder, partition_statistics, update);
+            partition_statistics = statistics_family::after(partition_statistics, update, decision);
+            continue;
+        }
+        let at = current_place(builder, keys);
+        let schema = schemas.items[at];
+        let made = spec_family::decide(builder, schema, specs, offers, update);
+        decision = made.decision;
+        specs = made.table;
     }
     if number != ACCEPTED {
         return refused(metadata, number, place);
@@ -299,7 +321,7 @@ pub fn run(
     let overfull = is_overfull(stored, terms.has_file, gone);
     let at = current_place(builder, keys);
     let schema = schemas.items[at];
-    number = close_number(history, fields, refs, schema, orders, overfull);
+    number = close_number(history, fields, refs, schema, orders, specs, overfull);
     if number != ACCEPTED {
         return refused(metadata, number, listed);
     }
@@ -324,6 +346,7 @@ pub fn run(
         sort_orders: orders,
         statistics,
         partition_statistics,
+        partition_specs: specs,
     };
     let changes = UpdateList {
         items: entries,

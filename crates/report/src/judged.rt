@@ -29,6 +29,7 @@ fn slots_of(part: u8) -> usize {
         part::SCHEMAS => capacities::SCHEMAS,
         part::SORT_ORDERS => capacities::SORT_ORDERS,
         part::STATISTICS | part::PARTITION_STATISTICS => capacities::STATISTICS,
+        part::PARTITION_SPECS => capacities::PARTITION_SPECS,
         _ => 0,
     }
 }
@@ -91,7 +92,10 @@ fn say_difference(output: &mut Output, end: &mut usize, judged: Card) {
         |differs: sort orders\
         |differs: default sort order id\
         |differs: statistics\
-        |differs: partition statistics}?1{|, count|, record %0}";
+        |differs: partition statistics\
+        |differs: partition specs\
+        |differs: default partition spec id\
+        |differs: last partition id}?1{|, count|, record %0}";
     say_part(output, end, template, 0, 0, judged);
 }
 

@@ -2,16 +2,17 @@
 use Prim.Native.Nat.{ℕ, _<_}
 use native.Mathlib.Omega.{arith}
 use mathlib.Core.Path.{_≡_, refl}
-use mathlib.Core.Bool.{Bool, true, false, cond, _&&_, _||_, false≢true, true≢false}
+use mathlib.Core.Bool.{Bool, true, false, cond, not, _&&_, _||_, false≢true, true≢false}
 use mathlib.Core.List.{List, [], _∷_, _++_}
 use mathlib.Core.Option.{Option, none, some}
 use lib.Dec.{ltb, leb}
 use lib.ListN.{length}
-use borrow.Author.Tests.{ltb-true}
-use Rattle.rules.specs.Words.{all, unequalBy, sameBytes, unequal, firstOf, Check}
+use borrow.Author.Tests.{ltb-true, not-false}
+use Rattle.rules.specs.Words.{isSome, all, unequalBy, sameBytes, unequal, firstOf, Check}
 use Rattle.rules.specs.Capacities.{schemaFieldRoom}
-use Rattle.rules.specs.Register.{Schema}
-use Rattle.rules.specs.WellFormed.{fieldIds, fieldNames, schemaFieldFormed}
+use Rattle.rules.specs.Register.{Schema, PartitionField, PartitionSpec}
+use Rattle.rules.specs.Partitions.{isRedundant, partitionNames, partitionIds}
+use Rattle.rules.specs.WellFormed.{fieldIds, fieldNames, schemaFieldFormed, offeredSpecFormed, specFormed}
 
 -- ---- tests
 
@@ -81,6 +82,13 @@ whole a (b ∷ bs) k = whole (a && b) bs (both (k .0) (k .1 .0), k .1 .1)
 abbrev pub schemaTests : Schema → List Bool
 schemaTests s = leb (length (s .fields)) schemaFieldRoom ∷ all schemaFieldFormed (s .fields) ∷ unequal (fieldIds s) ∷ unequalBy sameBytes (fieldNames s) ∷ []
 
+-- what is asked of a spec that is held, beside what is asked of every one
+abbrev pub specTests : PartitionSpec → List Bool
+specTests s = all (λ (f : PartitionField). isSome (f .id)) (s .fields) ∷ unequalBy sameBytes (partitionNames s) ∷ unequal (partitionIds s) ∷ unequalBy isRedundant (s .fields) ∷ []
+
+pub offered-of : (s : PartitionSpec) → specFormed s ≡ true → offeredSpecFormed s ≡ true
+offered-of s e = parts (offeredSpecFormed s) (specTests s) e .0
+
 -- ---- checks in order
 
 -- no number is 0, so that 0 says that none failed
@@ -123,6 +131,17 @@ passed-after (c ∷ cs) ds p e = go (c .0) (passed-after cs ds (and-right (ltb 0
     go : (b : Bool) → (firstOf (cs ++ ds) ≡ 0 → firstOf ds ≡ 0) → cond b (c .1) (firstOf (cs ++ ds)) ≡ 0 → firstOf ds ≡ 0
     go true ih e = failed (c .1) (and-left (ltb 0 (c .1)) (numbered cs) p) e
     go false ih e = ih e
+
+-- the check of a form that comes first, and others after it
+module _ (formed : Bool) (n : ℕ) (p : ltb 0 n ≡ true) (cs : List Check) where
+  abbrev form-check : List Check
+  form-check = (not formed, n) ∷ []
+
+  pub form-passed : firstOf ((not formed, n) ∷ cs) ≡ 0 → formed ≡ true
+  form-passed e = not-false formed (passed form-check (rw p) (passed-before form-check cs e) .0)
+
+  pub form-after : firstOf ((not formed, n) ∷ cs) ≡ 0 → firstOf cs ≡ 0
+  form-after e = passed-after form-check cs (rw p) e
 
 -- the number of checks that fail, and of others after them
 pub first-before : (cs ds : List Check) → (firstOf cs ≡ 0 → ⊥) → firstOf (cs ++ ds) ≡ firstOf cs

@@ -3,9 +3,12 @@ pub mod Examples
 pub mod Checks
 pub mod Orders
 pub mod Tables
+pub mod Fresh
+pub mod Reuse
 pub mod Slots
 pub mod Sound
 pub mod Replay
 pub mod Rows
+pub mod FieldIds
 pub mod Answer
 pub mod History

@@ -10,6 +10,7 @@ pub mod Choices
 pub mod Schemas
 pub mod Orders
 pub mod Statistics
+pub mod Specs
 pub mod Close
 pub mod Run
 pub mod Suffices

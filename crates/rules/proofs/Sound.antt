@@ -6,6 +6,7 @@ pub mod Refs
 pub mod Schemas
 pub mod Orders
 pub mod Statistics
+pub mod Specs
 pub mod Updates
 pub mod Accepted
 pub mod Run

@@ -8,6 +8,8 @@ use lib.IntN.{ℤ, pos}
 use lib.ListN.{length, take, drop}
 use Rattle.records.specs.declared.counters.SnapshotId.{SnapshotId}
 use Rattle.records.specs.declared.counters.SchemaId.{SchemaId}
+use Rattle.records.specs.declared.counters.FieldId.{FieldId}
+use Rattle.records.specs.declared.counters.SpecId.{SpecId}
 use Rattle.records.specs.declared.text.Name.{Name}
 use Rattle.records.specs.declared.text.Text.{Text}
 use Rattle.records.specs.declared.snapshot.Snapshot.{Snapshot}
@@ -26,6 +28,11 @@ use Rattle.records.specs.declared.schema.SchemaIds.{SchemaIds}
 use Rattle.records.specs.declared.«sort_order».SortField.{SortField}
 use Rattle.records.specs.declared.«sort_order».SortOrder.{SortOrder}
 use Rattle.records.specs.declared.«sort_order».SortOrders.{SortOrders}
+use Rattle.records.specs.declared.partition.PartitionField.{PartitionField}
+use Rattle.records.specs.declared.partition.PartitionSpec.{PartitionSpec}
+use Rattle.records.specs.declared.partition.PartitionSpecs.{PartitionSpecs}
+use Rattle.records.specs.declared.partition.SpecOffer.{SpecOffer}
+use Rattle.records.specs.declared.partition.SpecIds.{SpecIds}
 use Rattle.records.specs.declared.statistics.StatisticsFile.{StatisticsFile}
 use Rattle.records.specs.declared.statistics.StatisticsFiles.{StatisticsFiles}
 use Rattle.records.specs.declared.metadata.MetadataLogEntry.{MetadataLogEntry}
@@ -33,7 +40,7 @@ use Rattle.records.specs.declared.metadata.MetadataLog.{MetadataLog}
 use Rattle.records.specs.declared.metadata.SingleFields.{SingleFields}
 use Rattle.records.specs.declared.metadata.TableMetadata.{TableMetadata}
 use Rattle.rules.specs.Words.{eqZ, all}
-use Rattle.rules.specs.Capacities.{snapshotRoom, refRoom, snapshotLogRoom, metadataLogRoom, schemaRoom, schemaFieldRoom, sortOrderRoom, sortFieldRoom, statisticsRoom, removalRoom, nameRoom, textRoom}
+use Rattle.rules.specs.Capacities.{snapshotRoom, refRoom, snapshotLogRoom, metadataLogRoom, schemaRoom, schemaFieldRoom, sortOrderRoom, sortFieldRoom, specRoom, partitionFieldRoom, statisticsRoom, removalRoom, nameRoom, textRoom}
 
 -- ---- numbers and slots
 
@@ -179,6 +186,47 @@ isBlankSortOrder o = isZeroZ (o .«order_id» .0) && noneUsed sortFieldRoom isBl
 unfoldable pub isTidySortOrders : SortOrders → Bool
 isTidySortOrders t = tidySlots sortOrderRoom isTidySortOrder isBlankSortOrder (t .items) (t .count)
 
+-- ---- partition specs
+
+unfoldable pub isTidyPartitionField : PartitionField → Bool
+isTidyPartitionField f = (f .«has_id» || isZeroZ (f .«field_id» .0)) && isTidyName (f .name)
+
+unfoldable pub isBlankPartitionField : PartitionField → Bool
+isBlankPartitionField f =
+    isZeroZ (f .«source_id» .0)
+    && isZeroZ (f .«field_id» .0)
+    && isZeroZ (f .buckets .0)
+    && isZero (f .transform)
+    && not (f .«has_id»)
+    && isBlankName (f .name)
+
+unfoldable pub isTidyPartitionSpec : PartitionSpec → Bool
+isTidyPartitionSpec s = tidySlots partitionFieldRoom isTidyPartitionField isBlankPartitionField (s .items) (s .count)
+
+unfoldable pub isBlankPartitionSpec : PartitionSpec → Bool
+isBlankPartitionSpec s = isZeroZ (s .«spec_id» .0) && noneUsed partitionFieldRoom isBlankPartitionField (s .items) (s .count)
+
+unfoldable pub isTidyPartitionSpecs : PartitionSpecs → Bool
+isTidyPartitionSpecs t = tidySlots specRoom isTidyPartitionSpec isBlankPartitionSpec (t .items) (t .count)
+
+abbrev pub isBlankFieldId : FieldId → Bool
+isBlankFieldId i = isZeroZ (i .0)
+
+unfoldable pub isTidySpecOffer : SpecOffer → Bool
+isTidySpecOffer o = restBlank partitionFieldRoom isBlankFieldId (o .ids) (o .count)
+
+unfoldable pub isBlankSpecOffer : SpecOffer → Bool
+isBlankSpecOffer o = isZeroZ (o .«spec_id» .0) && isZero (o .at) && noneUsed partitionFieldRoom isBlankFieldId (o .ids) (o .count)
+
+abbrev pub isBlankSpecId : SpecId → Bool
+isBlankSpecId i = isZeroZ (i .0)
+
+unfoldable pub isTidySpecIds : SpecIds → Bool
+isTidySpecIds t = restBlank removalRoom isBlankSpecId (t .items) (t .count)
+
+unfoldable pub isBlankSpecIds : SpecIds → Bool
+isBlankSpecIds t = noneUsed removalRoom isBlankSpecId (t .items) (t .count)
+
 -- ---- statistics files
 
 unfoldable pub isTidyStatisticsFile : StatisticsFile → Bool
@@ -215,4 +263,5 @@ isTidyMetadata m =
     && isTidySortOrders (m .«sort_orders»)
     && isTidyStatistics (m .statistics)
     && isTidyStatistics (m .«partition_statistics»)
+    && isTidyPartitionSpecs (m .«partition_specs»)
     && isTidyFields (m .fields)

@@ -26,6 +26,13 @@ sortOrderRoom = 16
 abbrev pub sortFieldRoom : ℕ
 sortFieldRoom = 8
 
+-- document 02, request (ix): "16 specs of 8 fields"
+abbrev pub specRoom : ℕ
+specRoom = 16
+
+abbrev pub partitionFieldRoom : ℕ
+partitionFieldRoom = 8
+
 -- document 02, request (ii): "32 records each"
 abbrev pub statisticsRoom : ℕ
 statisticsRoom = 32
@@ -55,6 +62,10 @@ listRoom = 64
 abbrev pub fieldBytes : ℕ
 fieldBytes = 38
 
+-- those in which a field of a partition spec is offered
+abbrev pub partitionBytes : ℕ
+partitionBytes = 42
+
 -- "2^64 - 1": the largest end of a row range, and the largest number of the limit text
 abbrev pub largestUnsigned : ℕ
 largestUnsigned = 18446744073709551615
@@ -66,6 +77,10 @@ largestSchemaId = pos 2147483647
 -- field ids are i32 too
 abbrev pub largestFieldId : ℕ
 largestFieldId = 2147483647
+
+-- and spec ids
+abbrev pub largestSpecId : ℤ
+largestSpecId = pos 2147483647
 
 abbrev pub largestSortOrderId : ℤ
 largestSortOrderId = pos 9223372036854775807

@@ -8,7 +8,7 @@ use lib.IntN.{ℤ}
 use Rattle.rules.specs.Words.{eqZ, isSome, orElse, someWith, any, collect}
 use Rattle.rules.specs.Names.{isMain}
 use Rattle.rules.specs.Register.{Snapshot, Update}
-use Rattle.rules.specs.Register.Update.{AssignUuid, UpgradeFormatVersion, SetLocation, AddSnapshot, SetBranchSnapshot, RemoveSnapshots, SetRef, RemoveRef, AddSchema, SetCurrentSchema, RemoveSchemas, AddSortOrder, SetDefaultSortOrder, SetStatistics, RemoveStatistics, NotFormed}
+use Rattle.rules.specs.Register.Update.{AssignUuid, UpgradeFormatVersion, SetLocation, AddSnapshot, SetBranchSnapshot, RemoveSnapshots, SetRef, RemoveRef, AddSchema, SetCurrentSchema, RemoveSchemas, AddSortOrder, SetDefaultSortOrder, SetStatistics, RemoveStatistics, AddPartitionSpec, SetDefaultPartitionSpec, RemovePartitionSpecs, NotFormed}
 
 -- ---- what one update says of snapshots
 
@@ -37,6 +37,9 @@ ofSnapshots (AddSortOrder o) = Nothing
 ofSnapshots (SetDefaultSortOrder id) = Nothing
 ofSnapshots (SetStatistics which f) = Nothing
 ofSnapshots (RemoveStatistics which id) = Nothing
+ofSnapshots (AddPartitionSpec o) = Nothing
+ofSnapshots (SetDefaultPartitionSpec id) = Nothing
+ofSnapshots (RemovePartitionSpecs ids) = Nothing
 ofSnapshots (NotFormed counts) = Nothing
 
 -- the snapshot that it adds; a log has no branch commits

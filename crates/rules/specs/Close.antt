@@ -1,4 +1,4 @@
--- The close of a run: document 01, "The close".
+-- The close of a run: document 01, "The close"; document 02, request (ix), on the default spec.
 use Prim.Native.Nat.{ℕ, _-_}
 use mathlib.Core.Bool.{Bool, cond, not, _&&_, _||_}
 use mathlib.Core.List.{List, [], _∷_, _++_}
@@ -7,15 +7,24 @@ use lib.Dec.{ltb}
 use lib.IntN.{ℤ}
 use lib.ListN.{length, take, drop}
 use Rattle.rules.specs.Words.{eqZ, orElse, ifSome, someWith, keep, first, lastOf, isEmpty, isIn, afterLast, Check}
-use Rattle.rules.specs.Replies.{defaultOrderUnfit, logEndsElsewhere, mainDisagrees, tooManyFiles}
+use Rattle.rules.specs.Replies.{defaultOrderUnfit, logEndsElsewhere, mainDisagrees, tooManyFiles, nameClash, sourceMisfit}
 use Rattle.rules.specs.Capacities.{metadataLogRoom}
 use Rattle.rules.specs.Limit.{limitGiven}
 use Rattle.rules.specs.Register.{LogEntry, FileEntry, SortOrder, Metadata, Update, Terms, State, withFields, withSnapshotLog, withMetadataLog, withLastUpdated}
 use Rattle.rules.specs.WellFormed.{holdsSnapshot, hasOrder, mainAgrees}
 use Rattle.rules.specs.ChangeLog.{logsAddition, logsMain, logsRemoval}
 use Rattle.rules.specs.OrderUpdates.{isUnfit}
+use Rattle.rules.specs.SpecUpdates.{currentFields, isClashing, ofHeldSpec, isHeldMisfit}
 
--- ---- the default order
+-- ---- the default spec and the default order
+
+-- 31: a name of the default spec clashes with the current schema, as the published `build` finds when it binds the spec again
+unfoldable pub isDefaultClashing : Metadata → Bool
+isDefaultClashing m = ofHeldSpec (isClashing (currentFields m)) (m .fields .defaultSpec) m
+
+-- 32: a source of the default spec is missing in it, or of the wrong type
+unfoldable pub isDefaultMisfit : Metadata → Bool
+isDefaultMisfit m = isHeldMisfit (m .fields .defaultSpec) m
 
 -- 20: "default order names a field not in the current schema"
 unfoldable pub isDefaultUnfit : Metadata → Bool
@@ -75,10 +84,12 @@ staying terms m = drop (surplus terms m) (joined terms m)
 
 -- ---- the close
 
--- 20, 21, 22, 23, in this order
+-- "at the close 32 stands before 20", and 31 before it; then 21, 22, 23
 unfoldable pub closeChecks : Terms → List Update → Metadata → List Check
 closeChecks terms log m =
-    (isDefaultUnfit m, defaultOrderUnfit)
+    (isDefaultClashing m, nameClash)
+    ∷ (isDefaultMisfit m, sourceMisfit)
+    ∷ (isDefaultUnfit m, defaultOrderUnfit)
     ∷ (endsElsewhere log m, logEndsElsewhere)
     ∷ (not (mainAgrees m), mainDisagrees)
     ∷ (ltb metadataLogRoom (length (staying terms m)), tooManyFiles)

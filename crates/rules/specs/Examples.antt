@@ -2,7 +2,7 @@
 -- and, each with a name, examples of clauses that no P shows; docs/RULES.md cites them by these names.
 -- That the rules give these replies is one statement over the list (`examples-hold`, in proofs/Examples).
 -- `tools/clauses` changes the rules one clause at a time and says which example then fails.
-use Prim.Native.Nat.{ℕ, zero, suc, _*_, _-_}
+use Prim.Native.Nat.{ℕ, zero, suc, _+_, _*_, _-_}
 use mathlib.Core.Bool.{Bool, true, false}
 use mathlib.Core.List.{List, [], _∷_, _++_, map}
 use mathlib.Core.Option.{Option, none, some}
@@ -13,19 +13,21 @@ use Rattle.records.specs.declared.counters.RowId.{RowId}
 use Rattle.rules.specs.Words.{eqZ, total}
 use Rattle.rules.specs.Names.{mainName}
 use Rattle.rules.specs.Window.{defaultTolerance}
-use Rattle.rules.specs.Register.{RowRange, Snapshot, Reference, NamedRef, LogEntry, FileEntry, SchemaField, Schema, SchemaOffer, SortField, SortOrder, StatisticsFile, StatisticsTable, Metadata, Update, Terms, Outcome, statisticsOf, withFields, withSnapshots, withRefs, withSnapshotLog, withMetadataLog, withSchemas, withOrders, withStatistics, withVersion, withLocation, withLastSequence, withCurrentSchema, withDefaultOrder}
+use Rattle.rules.specs.Register.{RowRange, Snapshot, Reference, NamedRef, LogEntry, FileEntry, SchemaField, Schema, SchemaOffer, SortField, SortOrder, PartitionField, PartitionSpec, SpecOffer, StatisticsFile, StatisticsTable, Metadata, Update, Terms, Outcome, statisticsOf, withFields, withSnapshots, withRefs, withSnapshotLog, withMetadataLog, withSchemas, withOrders, withStatistics, withSpecs, withVersion, withLocation, withLastSequence, withCurrentSchema, withDefaultOrder, withDefaultSpec, withLastPartition}
 use Rattle.rules.specs.Register.StatisticsTable.{Statistics, PartitionStatistics}
 use Rattle.rules.specs.Register.Outcome.{Refused, Accepted}
-use Rattle.rules.specs.Register.Update.{AssignUuid, UpgradeFormatVersion, SetLocation, AddSnapshot, SetBranchSnapshot, RemoveSnapshots, SetRef, RemoveRef, AddSchema, SetCurrentSchema, RemoveSchemas, AddSortOrder, SetDefaultSortOrder, SetStatistics, RemoveStatistics, NotFormed}
+use Rattle.rules.specs.Register.Update.{AssignUuid, UpgradeFormatVersion, SetLocation, AddSnapshot, SetBranchSnapshot, RemoveSnapshots, SetRef, RemoveRef, AddSchema, SetCurrentSchema, RemoveSchemas, AddSortOrder, SetDefaultSortOrder, SetStatistics, RemoveStatistics, AddPartitionSpec, SetDefaultPartitionSpec, RemovePartitionSpecs, NotFormed}
 use Rattle.rules.specs.Limit.{limitGiven}
 use Rattle.rules.specs.RowIds.{rowNumber, rowNext}
 use Rattle.rules.specs.Walk.{Walk, Listed, Twice, Bad, ancestors, recordAncestors, walkNumber, walkCount, walkBuffer}
+use Rattle.rules.specs.Partitions.{identity, year, month, day, bucket}
 use Rattle.rules.specs.WellFormed.{long, timestamp, metadataFormed, updateFormed}
-use Rattle.rules.specs.Capacities.{nameRoom, fieldBytes}
-use Rattle.rules.specs.Offers.{offerFormed}
+use Rattle.rules.specs.Capacities.{nameRoom, fieldBytes, partitionBytes}
+use Rattle.rules.specs.Offers.{offerFormed, specOfferFormed}
 use Rattle.rules.specs.Moment.{currentAt, entriesRead, isWhole, removesAndAdds}
 use Rattle.rules.specs.Run.{listSum, run}
 use Rattle.rules.specs.Rows.{newSnapshots, endOver, nextRowOf, hasRows, rangesOf, endOf, hasRow, climbs, isApart}
+use Rattle.rules.specs.FieldIds.{freshOver, isReached}
 use Rattle.rules.specs.Replay.{strip}
 use Rattle.rules.specs.Kinds.{kindWeight}
 
@@ -40,6 +42,8 @@ pub data Look : Type 0 where
   AtMoment : ℤ → Look
   -- a table of statistics files
   AtStatistics : StatisticsTable → Look
+  -- the partition specs, and last partition id
+  AtSpecs : Look
 
 pub data Question : Type 0 where
   -- a run
@@ -62,6 +66,7 @@ pub data Question : Type 0 where
   -- what a definition says of each of some
   OfTests : List Bool → Question
   OfNumbers : List ℕ → Question
+  OfIds : List ℤ → Question
 
 pub data Reply : Type 0 where
   -- number and place
@@ -89,6 +94,8 @@ pub data Reply : Type 0 where
   Rows : ℕ → RowId → Reply
   Tests : List Bool → Reply
   Numbers : List ℕ → Reply
+  Ids : List ℤ → Reply
+  Specs : List PartitionSpec → ℤ → Reply
 
 abbrev pub moment : ℤ → List LogEntry → Reply
 moment time log = Current (currentAt time log) (entriesRead time log)
@@ -108,6 +115,7 @@ look AtRemovedAndAdded (Accepted m log expired) = RemovedAndAdded (removesAndAdd
 look AtAll (Accepted m log expired) = Answered (Accepted m log expired)
 look (AtMoment time) (Accepted m log expired) = moment time (m .snapshotLog)
 look (AtStatistics which) (Accepted m log expired) = Attached (statisticsOf which m)
+look AtSpecs (Accepted m log expired) = Specs (m .specs) (m .fields .lastPartition)
 
 abbrev pub rerun : Terms → Metadata → Outcome → Outcome
 rerun terms m (Refused number place) = Refused number place
@@ -128,6 +136,7 @@ replyTo (OfBuffer buffer ids parents start excluded) = filled buffer (ancestors 
 replyTo (OfRows next first added) = Rows (rowNumber (record { 0 = next }) (record { 0 = first }) added) (rowNext (record { 0 = next }) (record { 0 = first }) added)
 replyTo (OfTests tests) = Tests tests
 replyTo (OfNumbers numbers) = Numbers numbers
+replyTo (OfIds ids) = Ids ids
 
 -- ---- what the examples are made of
 
@@ -199,8 +208,8 @@ longOffer id = offering id long (id ∷ [])
 
 -- 0 to 32: the longs 1 to 33; 33 on: 0, then 1 2 1 of unequal names, then 2 9 4, then 2 1; 42 on: the largest id, and one more than that.
 -- 44 on: field 1 a timestamp, of another name, and then 2 of that name; of the types 0 and 3; with no name, and with the longest; with one byte past no name, and with a length past the longest
-abbrev pub offers : List ℕ
-offers =
+abbrev pub schemaOffers : List ℕ
+schemaOffers =
     allOf (many 33 (λ (i : ℕ). longOffer (suc i)))
     ++ allOf (map longOffer (0 ∷ 1 ∷ 2 ∷ []))
     ++ offering 1 long (3 ∷ [])
@@ -216,6 +225,66 @@ offers =
     ++ offering 2 long (replicate 32 255)
     ++ fieldOffer (1 ∷ 0 ∷ 0 ∷ 0 ∷ []) long 0 (replicate 31 0 ++ (1 ∷ []))
     ++ fieldOffer (1 ∷ 0 ∷ 0 ∷ 0 ∷ []) long 33 (replicate 32 97)
+
+-- the bytes of a field of a spec: the four of its source's id, its transform, the four of its number, its name's length, and its name with what stands behind it
+abbrev pub partitionOffer : List ℕ → ℕ → List ℕ → ℕ → List ℕ → List ℕ
+partitionOffer source transform buckets len name = source ++ (transform ∷ []) ++ buckets ++ (len ∷ []) ++ name ++ replicate (nameRoom - length name) 0
+
+-- with a source and a number of one byte each
+abbrev pub splitting : ℕ → ℕ → ℕ → List ℕ → List ℕ
+splitting source transform buckets name = partitionOffer (source ∷ 0 ∷ 0 ∷ 0 ∷ []) transform (buckets ∷ 0 ∷ 0 ∷ 0 ∷ []) (length name) name
+
+-- 0 to 9: identity(1) `p`, year(2) `q`, identity(1) `r`, year(2) `y`, month(2) `m`, bucket 4 of 1 `b`, bucket 8 of 1 `c`, identity(1) `a`, bucket 4 of 2 `n`, identity(2) `a`.
+-- 10 to 21: year(2) `t`, identity(2) `z`, year(1) `u`, identity(9) `v`, identity(1) `s`, identity(2) `s`, identity(2) `w`, bucket 4 of 1 `d` and `e`, day(1) `f`, day(2) `g`, year(2) `h`.
+-- 22 on: the largest source with the longest name; a source past the largest, and 0; the transforms 0 and 6; the largest number of buckets, one past it, and 0; a year with a number;
+-- with no name, with a length past the longest, and with a byte past the name
+abbrev pub partitionOffers : List ℕ
+partitionOffers =
+    splitting 1 identity 0 (112 ∷ [])
+    ++ splitting 2 year 0 (113 ∷ [])
+    ++ splitting 1 identity 0 (114 ∷ [])
+    ++ splitting 2 year 0 (121 ∷ [])
+    ++ splitting 2 month 0 (109 ∷ [])
+    ++ splitting 1 bucket 4 (98 ∷ [])
+    ++ splitting 1 bucket 8 (99 ∷ [])
+    ++ splitting 1 identity 0 (97 ∷ [])
+    ++ splitting 2 bucket 4 (110 ∷ [])
+    ++ splitting 2 identity 0 (97 ∷ [])
+    ++ splitting 2 year 0 (116 ∷ [])
+    ++ splitting 2 identity 0 (122 ∷ [])
+    ++ splitting 1 year 0 (117 ∷ [])
+    ++ splitting 9 identity 0 (118 ∷ [])
+    ++ splitting 1 identity 0 (115 ∷ [])
+    ++ splitting 2 identity 0 (115 ∷ [])
+    ++ splitting 2 identity 0 (119 ∷ [])
+    ++ splitting 1 bucket 4 (100 ∷ [])
+    ++ splitting 1 bucket 4 (101 ∷ [])
+    ++ splitting 1 day 0 (102 ∷ [])
+    ++ splitting 2 day 0 (103 ∷ [])
+    ++ splitting 2 year 0 (104 ∷ [])
+    ++ partitionOffer (255 ∷ 255 ∷ 255 ∷ 127 ∷ []) identity (0 ∷ 0 ∷ 0 ∷ 0 ∷ []) 32 (replicate 32 255)
+    ++ partitionOffer (0 ∷ 0 ∷ 0 ∷ 128 ∷ []) identity (0 ∷ 0 ∷ 0 ∷ 0 ∷ []) 1 (112 ∷ [])
+    ++ splitting 0 identity 0 (112 ∷ [])
+    ++ splitting 1 0 0 (112 ∷ [])
+    ++ splitting 1 6 0 (112 ∷ [])
+    ++ partitionOffer (1 ∷ 0 ∷ 0 ∷ 0 ∷ []) bucket (255 ∷ 255 ∷ 255 ∷ 127 ∷ []) 1 (112 ∷ [])
+    ++ partitionOffer (1 ∷ 0 ∷ 0 ∷ 0 ∷ []) bucket (0 ∷ 0 ∷ 0 ∷ 128 ∷ []) 1 (112 ∷ [])
+    ++ splitting 1 bucket 0 (112 ∷ [])
+    ++ splitting 2 year 1 (112 ∷ [])
+    ++ splitting 1 identity 0 []
+    ++ partitionOffer (1 ∷ 0 ∷ 0 ∷ 0 ∷ []) identity (0 ∷ 0 ∷ 0 ∷ 0 ∷ []) 33 (replicate 32 97)
+    ++ partitionOffer (1 ∷ 0 ∷ 0 ∷ 0 ∷ []) identity (0 ∷ 0 ∷ 0 ∷ 0 ∷ []) 1 (112 ∷ replicate 30 0 ++ (1 ∷ []))
+
+abbrev pub offers : List ℕ
+offers = schemaOffers ++ partitionOffers
+
+-- fields of a spec with these ids, from one on, counted from 0, behind the 53 fields of schemas
+abbrev pub specFrom : ℕ → List (Option ℤ) → ℕ → SpecOffer
+specFrom first ids id = record { id = pos id; at = 53 * fieldBytes + first * partitionBytes; ids = ids }
+
+-- so many of them, each without an id
+abbrev pub addingSpec : ℕ → ℕ → ℕ → Update
+addingSpec first count id = AddPartitionSpec (specFrom first (replicate count none) id)
 
 -- so many of these fields, from one on, counted from 0
 abbrev pub offerFrom : ℕ → ℕ → ℕ → SchemaOffer
@@ -246,7 +315,31 @@ terms = tolerating defaultTolerance
 abbrev pub fileTerms : Terms
 fileTerms = record { clock = pos 500000; tolerance = defaultTolerance; file = some (100 ∷ []); limit = some (50 ∷ []); offers = offers }
 
--- one schema with field 1, and the order of no fields
+-- a field of a spec: its source, its id, its transform and number, its name
+abbrev pub partition : ℕ → ℕ → ℕ → ℕ → List ℕ → PartitionField
+partition source id transform buckets name = record { source = pos source; id = some (pos id); transform = transform; buckets = pos buckets; name = name }
+
+abbrev pub specOf : ℕ → List PartitionField → PartitionSpec
+specOf id fields = record { id = pos id; fields = fields }
+
+abbrev pub unpartitioned : PartitionSpec
+unpartitioned = specOf 0 []
+
+-- a column with a name of one byte
+abbrev pub column : ℕ → ℕ → ℕ → SchemaField
+column id type name = record { id = pos id; fieldType = type; name = name ∷ [] }
+
+-- `a`, a long; with `t`, a timestamp; with `y`, a long; each with a schema's id
+abbrev pub ofA : ℕ → Schema
+ofA id = record { id = pos id; fields = column 1 long 97 ∷ [] }
+
+abbrev pub ofAT : ℕ → Schema
+ofAT id = record { id = pos id; fields = column 1 long 97 ∷ column 2 timestamp 116 ∷ [] }
+
+abbrev pub ofATY : ℕ → Schema
+ofATY id = record { id = pos id; fields = column 1 long 97 ∷ column 2 timestamp 116 ∷ column 3 long 121 ∷ [] }
+
+-- one schema with field 1, the order of no fields, and the spec of none
 abbrev pub register : ℕ → ℕ → ℕ → ℤ → List Snapshot → Option ℤ → List NamedRef → List LogEntry → List FileEntry → Metadata
 register version sequence next updated snapshots current refs log files =
     record {
@@ -261,6 +354,8 @@ register version sequence next updated snapshots current refs log files =
         current = current;
         currentSchema = pos 0;
         defaultOrder = pos 0;
+        defaultSpec = pos 0;
+        lastPartition = pos 999;
       };
       snapshots = snapshots;
       refs = refs;
@@ -270,6 +365,7 @@ register version sequence next updated snapshots current refs log files =
       orders = record { id = pos 0; fields = [] } ∷ [];
       statistics = [];
       partitionStatistics = [];
+      specs = unpartitioned ∷ [];
     }
 
 -- `main` at a snapshot
@@ -295,6 +391,34 @@ holed = atThree (snap 1 none 1 (pos 100000) ∷ snap 3 (some (pos 2)) 5 (pos 300
 -- no snapshots yet: the version, the next row id, the last update, the metadata log
 abbrev pub empty : ℕ → ℕ → ℤ → List FileEntry → Metadata
 empty version next updated files = register version 0 next updated [] none [] [] files
+
+-- no snapshots: the version, the schemas, the specs, last partition id; schema 0 is the current one and spec 0 the default one
+abbrev pub partitioned : ℕ → List Schema → List PartitionSpec → ℕ → Metadata
+partitioned version schemas specs last =
+    withSchemas schemas (withSpecs specs (withFields (withLastPartition (pos last) (empty version 0 (pos 0) [] .fields)) (empty version 0 (pos 0) [])))
+
+-- with `a` and `t`, and the spec of no fields before these
+abbrev pub dated : ℕ → List PartitionSpec → ℕ → Metadata
+dated version specs last = partitioned version (ofAT 0 ∷ []) (unpartitioned ∷ specs) last
+
+-- specs of one field: identity(1) `p` and year(2) `q`, with the field's id and the spec's
+abbrev pub byP : ℕ → ℕ → PartitionSpec
+byP field id = specOf id (partition 1 field identity 0 (112 ∷ []) ∷ [])
+
+abbrev pub byQ : ℕ → ℕ → PartitionSpec
+byQ field id = specOf id (partition 2 field year 0 (113 ∷ []) ∷ [])
+
+-- year(2) `y`
+abbrev pub byY : ℕ → ℕ → PartitionSpec
+byY field id = specOf id (partition 2 field year 0 (121 ∷ []) ∷ [])
+
+-- metadata with another default spec
+abbrev pub defaultAt : ℕ → Metadata → Metadata
+defaultAt id m = withFields (withDefaultSpec (pos id) (m .fields)) m
+
+-- the change log of the addition of some spec alone, as it is logged
+abbrev pub logsSpec : ℕ → List (Option ℤ) → ℕ → Reply
+logsSpec first ids id = Log (AddPartitionSpec (specFrom first ids id) ∷ [])
 
 -- 4 and 5 are added, and 4 is `main` on the way to 5
 abbrev pub overFour : List Update
@@ -399,6 +523,8 @@ stocked =
         current = some (pos 1);
         currentSchema = pos 1;
         defaultOrder = pos 1;
+        defaultSpec = pos 1;
+        lastPartition = pos 1000;
       };
       snapshots = snap 1 none 1 (pos 100000) ∷ snap 2 none 2 (pos 200000) ∷ [];
       refs = named draft ∷ named mainName ∷ [];
@@ -408,6 +534,7 @@ stocked =
       orders = unordered 0 ∷ orderOf 2 1 ∷ orderBy 2 (by (pos 2) 1 0 ∷ []) ∷ [];
       statistics = attached 1 1 ∷ [];
       partitionStatistics = attached 2 2 ∷ [];
+      specs = unpartitioned ∷ specOf 1 (partition 2 1000 identity 0 (112 ∷ []) ∷ []) ∷ specOf 2 [] ∷ [];
     }
 
 -- updates of every part and table but the statistics files that are there, in such a way that their order changes nothing
@@ -424,6 +551,9 @@ restocking =
     ∷ SetDefaultSortOrder (pos 2)
     ∷ attaching 3 3
     ∷ partitionFile 3 4
+    ∷ AddPartitionSpec (specFrom 16 (some (pos 1000) ∷ []) 3)
+    ∷ SetDefaultPartitionSpec (pos 2)
+    ∷ RemovePartitionSpecs (pos 0 ∷ [])
     ∷ []
 
 -- what they make of it, with the current file `d`
@@ -441,6 +571,8 @@ restocked =
         current = some (pos 2);
         currentSchema = pos 2;
         defaultOrder = pos 2;
+        defaultSpec = pos 2;
+        lastPartition = pos 1000;
       };
       snapshots = snap 1 none 1 (pos 100000) ∷ snap 2 none 2 (pos 200000) ∷ snap 6 none 6 (pos 500000) ∷ [];
       refs = named draft ∷ record { name = mainName; reference = branchTo 2 } ∷ [];
@@ -450,6 +582,7 @@ restocked =
       orders = unordered 0 ∷ orderOf 2 1 ∷ orderBy 2 (by (pos 2) 1 0 ∷ []) ∷ orderBy 3 (by (pos 2) 0 1 ∷ []) ∷ [];
       statistics = attached 1 1 ∷ attached 3 3 ∷ [];
       partitionStatistics = attached 2 2 ∷ attached 3 4 ∷ [];
+      specs = specOf 1 (partition 2 1000 identity 0 (112 ∷ []) ∷ []) ∷ specOf 2 [] ∷ specOf 3 (partition 2 1000 identity 0 (119 ∷ []) ∷ []) ∷ [];
     }
 
 -- the order of no fields under id 0, and else one of so many
@@ -488,6 +621,9 @@ oneOfEach =
     ∷ SetDefaultSortOrder (pos 0)
     ∷ attaching 1 1
     ∷ RemoveStatistics PartitionStatistics (pos 1)
+    ∷ addingSpec 0 1 0
+    ∷ SetDefaultPartitionSpec (pos 0)
+    ∷ RemovePartitionSpecs []
     ∷ NotFormed 5
     ∷ []
 
@@ -796,6 +932,190 @@ examples =
     -- 32 each: a full table of one kind leaves room in the other
     ∷ (OfRun AtLog terms (crowded 1 0 0 0 1 1 1 1 32 0) (partitionFile 40 1 ∷ []) gives Log (partitionFile 40 1 ∷ []))
     ∷ (OfRun AtLog terms (crowded 1 0 0 0 1 1 1 1 0 32) (partitionFile 40 1 ∷ []) gives Refusal 19 0)
+    -- Document 02, request (ix), by name. `a` is field 1, a long, `t` field 2, a timestamp, and `y` field 3, a long; year(2) `y` is a field with source 2, transform year and name `y`.
+    -- new spec: it gets the id after the highest, its fields the ids after last partition id; it is logged with its id and without these, and its log adds it again
+    ∷ (OfRun AtSpecs terms (dated 2 [] 999) (addingSpec 0 2 7 ∷ []) gives Specs (unpartitioned ∷ specOf 1 (partition 1 1000 identity 0 (112 ∷ []) ∷ partition 2 1001 year 0 (113 ∷ []) ∷ []) ∷ []) (pos 1001))
+    ∷ (OfRun AtLog terms (dated 2 (byP 1000 5 ∷ []) 1000) (addingSpec 3 1 7 ∷ []) gives logsSpec 3 (none ∷ []) 6)
+    ∷ (OfReplay AtSpecs terms (dated 2 [] 999) (addingSpec 0 2 7 ∷ []) gives Specs (unpartitioned ∷ specOf 1 (partition 1 1000 identity 0 (112 ∷ []) ∷ partition 2 1001 year 0 (113 ∷ []) ∷ []) ∷ []) (pos 1001))
+    -- fresh ids: they pass over ids of their own spec, wherever these stand; a higher one raises the number, a lower one leaves it
+    ∷ (OfRun AtSpecs terms (dated 2 [] 999) (AddPartitionSpec (specFrom 0 (none ∷ some (pos 1000) ∷ []) 0) ∷ []) gives Specs (unpartitioned ∷ specOf 1 (partition 1 1001 identity 0 (112 ∷ []) ∷ partition 2 1000 year 0 (113 ∷ []) ∷ []) ∷ []) (pos 1001))
+    ∷ (OfRun AtSpecs terms (dated 2 [] 999) (AddPartitionSpec (specFrom 0 (some (pos 5000) ∷ none ∷ []) 0) ∷ []) gives Specs (unpartitioned ∷ specOf 1 (partition 1 5000 identity 0 (112 ∷ []) ∷ partition 2 5001 year 0 (113 ∷ []) ∷ []) ∷ []) (pos 5001))
+    ∷ (OfRun AtSpecs terms (dated 2 [] 999) (AddPartitionSpec (specFrom 4 (none ∷ some (pos 1001) ∷ some (pos 1000) ∷ []) 0) ∷ [])
+    gives Specs (unpartitioned ∷ specOf 1 (partition 2 1002 month 0 (109 ∷ []) ∷ partition 1 1001 bucket 4 (98 ∷ []) ∷ partition 1 1000 bucket 8 (99 ∷ []) ∷ []) ∷ []) (pos 1002))
+    ∷ (OfRun AtSpecs terms (dated 2 [] 999) (AddPartitionSpec (specFrom 4 (some (pos 5000) ∷ some (pos 1000) ∷ none ∷ []) 0) ∷ [])
+    gives Specs (unpartitioned ∷ specOf 1 (partition 2 5000 month 0 (109 ∷ []) ∷ partition 1 1000 bucket 4 (98 ∷ []) ∷ partition 1 5001 bucket 8 (99 ∷ []) ∷ []) ∷ []) (pos 5001))
+    ∷ (OfRun AtSpecs terms (dated 2 [] 999) (addingSpec 4 3 0 ∷ [])
+    gives Specs (unpartitioned ∷ specOf 1 (partition 2 1000 month 0 (109 ∷ []) ∷ partition 1 1001 bucket 4 (98 ∷ []) ∷ partition 1 1002 bucket 8 (99 ∷ []) ∷ []) ∷ []) (pos 1002))
+    -- another spec's id: a fresh id passes over none of these, where last partition id stands below them
+    ∷ (OfRun AtSpecs terms (dated 2 (byP 1000 1 ∷ []) 999) (addingSpec 1 1 0 ∷ []) gives Specs (unpartitioned ∷ byP 1000 1 ∷ byQ 1000 2 ∷ []) (pos 1000))
+    -- reused ids: a field takes the smallest id of the old ones with its source and transform, in any spec, and is logged with it; the log takes the same again
+    ∷ (OfRun AtSpecs terms (dated 2 (byP 1002 1 ∷ byQ 1000 2 ∷ specOf 3 (partition 1 1001 identity 0 (120 ∷ []) ∷ []) ∷ specOf 4 (partition 1 1003 identity 0 (122 ∷ []) ∷ []) ∷ []) 1003) (addingSpec 2 1 0 ∷ [])
+    gives Specs (unpartitioned ∷ byP 1002 1 ∷ byQ 1000 2 ∷ specOf 3 (partition 1 1001 identity 0 (120 ∷ []) ∷ []) ∷ specOf 4 (partition 1 1003 identity 0 (122 ∷ []) ∷ []) ∷ specOf 5 (partition 1 1001 identity 0 (114 ∷ []) ∷ []) ∷ []) (pos 1003))
+    ∷ (OfRun AtLog terms (dated 2 (byP 1001 1 ∷ specOf 2 (partition 1 1000 identity 0 (122 ∷ []) ∷ []) ∷ []) 1001) (addingSpec 2 1 0 ∷ []) gives logsSpec 2 (some (pos 1000) ∷ []) 3)
+    ∷ (OfReplay AtLog terms (dated 2 (byP 1001 1 ∷ specOf 2 (partition 1 1000 identity 0 (122 ∷ []) ∷ []) ∷ []) 1001) (addingSpec 2 1 0 ∷ []) gives logsSpec 2 (some (pos 1000) ∷ []) 3)
+    -- not reused: by another source, another transform or another number of buckets
+    ∷ (OfRun AtLog terms (dated 2 (byP 1000 1 ∷ []) 1000) (addingSpec 16 1 0 ∷ []) gives logsSpec 16 (none ∷ []) 2)
+    ∷ (OfRun AtLog terms (dated 2 (byQ 1000 1 ∷ []) 1000) (addingSpec 4 1 0 ∷ []) gives logsSpec 4 (none ∷ []) 2)
+    ∷ (OfRun AtLog terms (dated 2 (specOf 1 (partition 1 1000 bucket 4 (98 ∷ []) ∷ []) ∷ []) 1000) (addingSpec 6 1 0 ∷ []) gives logsSpec 6 (none ∷ []) 2)
+    ∷ (OfRun AtLog terms (dated 2 (specOf 1 (partition 1 1000 bucket 4 (98 ∷ []) ∷ []) ∷ []) 1000) (addingSpec 17 1 0 ∷ []) gives logsSpec 17 (some (pos 1000) ∷ []) 2)
+    -- given id: it is kept, also where an old field has another, and where it is another field's in another spec; both fields in one spec then have one id
+    ∷ (OfRun AtLog terms (dated 2 (byP 1000 1 ∷ []) 1000) (AddPartitionSpec (specFrom 2 (some (pos 1007) ∷ []) 0) ∷ []) gives logsSpec 2 (some (pos 1007) ∷ []) 2)
+    ∷ (OfRun AtLog terms (dated 2 (byP 1000 1 ∷ []) 1000) (AddPartitionSpec (specFrom 1 (some (pos 1000) ∷ []) 0) ∷ []) gives logsSpec 1 (some (pos 1000) ∷ []) 2)
+    ∷ (OfRun AtLog terms (dated 2 (byP 1000 1 ∷ []) 1000) (AddPartitionSpec (specFrom 1 (some (pos 1000) ∷ []) 0) ∷ addingSpec 0 2 0 ∷ []) gives Refusal 31 1)
+    -- name clash: with a column of the current schema, unless it is that column as it is; a name that another schema has is free
+    ∷ (OfRun AtLog terms (dated 2 [] 999) (addingSpec 9 1 0 ∷ []) gives Refusal 31 0)
+    ∷ (OfRun AtLog terms (dated 2 [] 999) (addingSpec 10 1 0 ∷ []) gives Refusal 31 0)
+    ∷ (OfRun AtLog terms (dated 2 [] 999) (addingSpec 8 2 0 ∷ []) gives Refusal 31 0)
+    ∷ (OfRun AtLog terms (dated 2 [] 999) (addingSpec 7 1 0 ∷ []) gives logsSpec 7 (none ∷ []) 1)
+    ∷ (OfRun AtLog terms (partitioned 2 (ofATY 0 ∷ []) (unpartitioned ∷ []) 999) (addingSpec 3 1 0 ∷ []) gives Refusal 31 0)
+    ∷ (OfRun AtLog terms (partitioned 2 (ofAT 0 ∷ ofATY 1 ∷ []) (unpartitioned ∷ []) 999) (addingSpec 3 1 0 ∷ []) gives logsSpec 3 (none ∷ []) 1)
+    -- repeated: two names, or two given ids, that are equal; a redundant field, by one transform or by two of year, month and day; buckets of two numbers are not redundant
+    ∷ (OfRun AtLog terms (dated 2 [] 999) (addingSpec 14 2 0 ∷ []) gives Refusal 31 0)
+    ∷ (OfRun AtLog terms (dated 2 [] 999) (AddPartitionSpec (specFrom 0 (some (pos 1000) ∷ some (pos 1000) ∷ []) 0) ∷ []) gives Refusal 31 0)
+    ∷ (OfRun AtLog terms (dated 2 [] 999) (addingSpec 15 2 0 ∷ []) gives Refusal 31 0)
+    ∷ (OfRun AtLog terms (dated 2 [] 999) (addingSpec 3 2 0 ∷ []) gives Refusal 31 0)
+    ∷ (OfRun AtLog terms (dated 2 [] 999) (addingSpec 20 2 0 ∷ []) gives Refusal 31 0)
+    ∷ (OfRun AtLog terms (dated 2 [] 999) (addingSpec 17 2 0 ∷ []) gives Refusal 31 0)
+    ∷ (OfRun AtLog terms (dated 2 [] 999) (addingSpec 5 2 0 ∷ []) gives logsSpec 5 (none ∷ none ∷ []) 1)
+    -- source: missing, or a long for a year or a day, also of a second field; 31 comes before 32
+    ∷ (OfRun AtLog terms (dated 2 [] 999) (addingSpec 13 1 0 ∷ []) gives Refusal 32 0)
+    ∷ (OfRun AtLog terms (dated 2 [] 999) (addingSpec 11 2 0 ∷ []) gives Refusal 32 0)
+    ∷ (OfRun AtLog terms (dated 2 [] 999) (addingSpec 19 1 0 ∷ []) gives Refusal 32 0)
+    ∷ (OfRun AtLog terms (dated 2 [] 999) (addingSpec 4 1 0 ∷ []) gives logsSpec 4 (none ∷ []) 1)
+    ∷ (OfRun AtLog terms (partitioned 2 (ofA 0 ∷ []) (unpartitioned ∷ []) 999) (addingSpec 9 1 0 ∷ []) gives Refusal 31 0)
+    -- equal spec: the smallest id of those with the same source, transform and name, whatever their ids; logged with that id and the given ids, not while it is the last added, and -1 stands for it
+    ∷ (OfRun AtLog terms (dated 2 (byP 1000 1 ∷ byP 2000 2 ∷ []) 2000) (AddPartitionSpec (specFrom 0 (some (pos 3000) ∷ []) 9) ∷ addingSpec 0 1 9 ∷ SetDefaultPartitionSpec (negsuc 0) ∷ [])
+    gives Log (AddPartitionSpec (specFrom 0 (some (pos 3000) ∷ []) 1) ∷ SetDefaultPartitionSpec (negsuc 0) ∷ []))
+    ∷ (OfRun AtSpecs terms (dated 2 (byP 1000 1 ∷ byP 2000 2 ∷ []) 2000) (AddPartitionSpec (specFrom 0 (some (pos 3000) ∷ []) 9) ∷ []) gives Specs (unpartitioned ∷ byP 1000 1 ∷ byP 2000 2 ∷ []) (pos 2000))
+    ∷ (OfRun AtLog terms (dated 2 (byP 1000 1 ∷ []) 1000) (addingSpec 0 1 9 ∷ []) gives logsSpec 0 (some (pos 1000) ∷ []) 1)
+    -- unequal specs: of another source or transform, the fields in another order, or some of them
+    ∷ (OfRun AtLog terms (dated 2 (specOf 1 (partition 2 1000 identity 0 (114 ∷ []) ∷ []) ∷ specOf 2 (partition 2 1001 month 0 (113 ∷ []) ∷ []) ∷ []) 1001) (addingSpec 2 1 0 ∷ addingSpec 1 1 0 ∷ []) gives Log (addingSpec 2 1 3 ∷ addingSpec 1 1 4 ∷ []))
+    ∷ (OfRun AtLog terms (dated 2 (specOf 1 (partition 1 1000 identity 0 (114 ∷ []) ∷ partition 2 1001 year 0 (113 ∷ []) ∷ []) ∷ []) 1001) (addingSpec 1 2 0 ∷ addingSpec 2 1 0 ∷ [])
+    gives Log (AddPartitionSpec (specFrom 1 (some (pos 1001) ∷ some (pos 1000) ∷ []) 2) ∷ AddPartitionSpec (specFrom 2 (some (pos 1000) ∷ []) 3) ∷ []))
+    -- an equal spec is checked: 32 comes before it, and 18, 33 and 19 do not come up
+    ∷ (OfRun AtLog terms (partitioned 2 (ofA 0 ∷ []) (unpartitioned ∷ byQ 1000 1 ∷ []) 1000) (addingSpec 1 1 0 ∷ []) gives Refusal 32 0)
+    ∷ (OfRun AtLog terms (dated 1 (many 14 (λ (i : ℕ). specOf (suc i) []) ++ (byP 1007 2147483647 ∷ [])) 2147483647) (addingSpec 0 1 0 ∷ []) gives logsSpec 0 (some (pos 1007) ∷ []) 2147483647)
+    -- largest spec id: 2147483647 may be given; then 18, before 33
+    ∷ (OfRun AtLog terms (dated 2 (byP 1000 2147483646 ∷ []) 1000) (addingSpec 1 1 0 ∷ []) gives logsSpec 1 (none ∷ []) 2147483647)
+    ∷ (OfRun AtLog terms (dated 1 (byP 1000 2147483647 ∷ []) 1000) (addingSpec 1 1 0 ∷ []) gives Refusal 18 0)
+    -- largest field id: a fresh id may be 2147483647, and not more; one that is given, or reused, does not count
+    ∷ (OfRun AtLog terms (dated 2 [] 2147483646) (addingSpec 0 1 0 ∷ []) gives logsSpec 0 (none ∷ []) 1)
+    ∷ (OfRun AtLog terms (dated 2 [] 2147483646) (addingSpec 0 2 0 ∷ []) gives Refusal 18 0)
+    ∷ (OfRun AtLog terms (dated 2 [] 2147483647) (AddPartitionSpec (specFrom 0 (some (pos 2147483647) ∷ []) 0) ∷ []) gives logsSpec 0 (some (pos 2147483647) ∷ []) 1)
+    -- sequential: at version 1 a new spec has the field ids 1000, 1001 and so on in order, reused or fresh; from version 2 on this is not asked
+    ∷ (OfRun AtLog terms (dated 1 [] 999) (addingSpec 0 2 0 ∷ addingSpec 0 0 0 ∷ []) gives Log (addingSpec 0 2 1 ∷ addingSpec 0 0 0 ∷ []))
+    ∷ (OfRun AtLog terms (dated 1 (byY 1000 1 ∷ []) 1000) (addingSpec 0 1 0 ∷ []) gives Refusal 33 0)
+    ∷ (OfRun AtLog terms (dated 1 (byY 1000 1 ∷ []) 1000) (addingSpec 1 2 0 ∷ []) gives logsSpec 1 (some (pos 1000) ∷ none ∷ []) 2)
+    ∷ (OfRun AtLog terms (dated 1 (byY 1000 1 ∷ []) 1000) (UpgradeFormatVersion 2 ∷ addingSpec 0 1 0 ∷ []) gives Log (UpgradeFormatVersion 2 ∷ addingSpec 0 1 2 ∷ []))
+    ∷ (OfRun AtLog terms (dated 1 [] 999) (AddPartitionSpec (specFrom 0 (some (pos 1001) ∷ some (pos 1000) ∷ []) 0) ∷ []) gives Refusal 33 0)
+    ∷ (OfRun AtLog terms (dated 1 [] 999) (AddPartitionSpec (specFrom 0 (some (pos 1000) ∷ some (pos 1002) ∷ []) 0) ∷ []) gives Refusal 33 0)
+    -- full of specs: 15 leave room for one, 16 do not; 33 comes before 19
+    ∷ (OfRun AtLog terms (dated 2 (many 14 (λ (i : ℕ). specOf (suc i) [])) 999) (addingSpec 0 1 0 ∷ []) gives logsSpec 0 (none ∷ []) 15)
+    ∷ (OfRun AtLog terms (dated 2 (many 15 (λ (i : ℕ). specOf (suc i) [])) 999) (addingSpec 0 1 0 ∷ []) gives Refusal 19 0)
+    ∷ (OfRun AtLog terms (dated 1 (many 15 (λ (i : ℕ). specOf (suc i) [])) 1004) (addingSpec 0 1 0 ∷ []) gives Refusal 33 0)
+    -- last partition: raised to a new spec's highest field id, and not lowered; a spec of no fields raises it to 999, and gets an id as others do
+    ∷ (OfRun AtSpecs terms (dated 2 [] 999) (AddPartitionSpec (specFrom 0 (some (pos 1007) ∷ some (pos 1003) ∷ []) 0) ∷ []) gives Specs (unpartitioned ∷ specOf 1 (partition 1 1007 identity 0 (112 ∷ []) ∷ partition 2 1003 year 0 (113 ∷ []) ∷ []) ∷ []) (pos 1007))
+    ∷ (OfRun AtSpecs terms (dated 2 [] 999) (AddPartitionSpec (specFrom 0 (some (pos 5) ∷ []) 0) ∷ []) gives Specs (unpartitioned ∷ byP 5 1 ∷ []) (pos 999))
+    ∷ (OfRun AtSpecs terms (dated 2 [] 5) (AddPartitionSpec (specFrom 0 (some (pos 7) ∷ []) 0) ∷ []) gives Specs (unpartitioned ∷ byP 7 1 ∷ []) (pos 7))
+    ∷ (OfRun AtSpecs terms (partitioned 2 (ofAT 0 ∷ []) (byP 5 0 ∷ []) 5) (addingSpec 0 0 0 ∷ []) gives Specs (byP 5 0 ∷ specOf 1 [] ∷ []) (pos 999))
+    ∷ (OfRun AtSpecs terms (partitioned 2 (ofAT 0 ∷ []) (byP 5 0 ∷ []) 1500) (addingSpec 0 0 0 ∷ []) gives Specs (byP 5 0 ∷ specOf 1 [] ∷ []) (pos 1500))
+    -- default spec: -1 stands for the last added and nothing else, an equal one changes nothing, one that is not held is 15; logged as -1 for the last added, else by id
+    ∷ (OfRun AtLog terms (dated 2 (byP 1000 1 ∷ []) 1000) (SetDefaultPartitionSpec (negsuc 0) ∷ []) gives Refusal 14 0)
+    ∷ (OfRun AtLog terms (dated 2 (byP 1000 1 ∷ []) 1000) (SetDefaultPartitionSpec (pos 7) ∷ []) gives Refusal 15 0)
+    ∷ (OfRun AtLog terms (dated 2 (byP 1000 1 ∷ []) 1000) (SetDefaultPartitionSpec (pos 0) ∷ SetDefaultPartitionSpec (pos 1) ∷ SetDefaultPartitionSpec (pos 1) ∷ []) gives Log (SetDefaultPartitionSpec (pos 1) ∷ []))
+    ∷ (OfRun AtLog terms (dated 2 (byP 1000 1 ∷ []) 1000) (addingSpec 3 1 0 ∷ SetDefaultPartitionSpec (pos 2) ∷ SetDefaultPartitionSpec (pos 1) ∷ []) gives Log (addingSpec 3 1 2 ∷ SetDefaultPartitionSpec (negsuc 0) ∷ SetDefaultPartitionSpec (pos 1) ∷ []))
+    -- last added spec: a schema and an order leave it, and it leaves theirs
+    ∷ (OfRun AtLog terms (dated 2 [] 999) (addingSpec 0 1 1 ∷ AddSchema (offerOf 2 1) ∷ AddSortOrder (orderOf 1 1) ∷ SetDefaultPartitionSpec (negsuc 0) ∷ []) gives Log (addingSpec 0 1 1 ∷ AddSchema (offerOf 2 1) ∷ AddSortOrder (orderOf 1 1) ∷ SetDefaultPartitionSpec (negsuc 0) ∷ []))
+    ∷ (OfRun AtLog terms (dated 2 [] 999) (AddSchema (offerOf 1 1) ∷ AddSortOrder (orderOf 1 1) ∷ addingSpec 0 1 1 ∷ SetCurrentSchema (negsuc 0) ∷ SetDefaultSortOrder (negsuc 0) ∷ []) gives Log (AddSchema (offerOf 1 1) ∷ AddSortOrder (orderOf 1 1) ∷ addingSpec 0 1 1 ∷ SetCurrentSchema (negsuc 0) ∷ SetDefaultSortOrder (negsuc 0) ∷ []))
+    -- default that misfits: 32 in setting it, though a later update would mend it; an equal one is not asked, nor is a clash
+    ∷ (OfRun AtLog terms (partitioned 2 (ofA 0 ∷ ofAT 1 ∷ []) (unpartitioned ∷ byQ 1000 1 ∷ []) 1000) (SetDefaultPartitionSpec (pos 1) ∷ SetCurrentSchema (pos 1) ∷ []) gives Refusal 32 0)
+    ∷ (OfRun AtLog terms (defaultAt 1 (partitioned 2 (ofA 0 ∷ ofAT 1 ∷ []) (unpartitioned ∷ byQ 1000 1 ∷ []) 1000)) (SetDefaultPartitionSpec (pos 1) ∷ SetCurrentSchema (pos 1) ∷ []) gives Log (SetCurrentSchema (pos 1) ∷ []))
+    ∷ (OfRun AtLog terms (partitioned 2 (ofATY 0 ∷ ofAT 1 ∷ []) (unpartitioned ∷ byY 1000 1 ∷ []) 1000) (SetDefaultPartitionSpec (pos 1) ∷ SetCurrentSchema (pos 1) ∷ []) gives Log (SetDefaultPartitionSpec (pos 1) ∷ SetCurrentSchema (pos 1) ∷ []))
+    -- specs removed: those that are held, logged in the order of the table and only if there is one; last partition id stays
+    ∷ (OfRun AtLog terms (dated 2 (byP 1000 1 ∷ byQ 1001 2 ∷ byY 1001 3 ∷ []) 1001) (RemovePartitionSpecs (pos 7 ∷ []) ∷ RemovePartitionSpecs (pos 3 ∷ pos 7 ∷ pos 1 ∷ []) ∷ []) gives Log (RemovePartitionSpecs (pos 1 ∷ pos 3 ∷ []) ∷ []))
+    ∷ (OfRun AtSpecs terms (dated 2 (byP 1000 1 ∷ byQ 1001 2 ∷ []) 1001) (RemovePartitionSpecs (pos 2 ∷ []) ∷ []) gives Specs (unpartitioned ∷ byP 1000 1 ∷ []) (pos 1001))
+    -- default spec removed: a removal list that names it is refused, also after another
+    ∷ (OfRun AtLog terms (dated 2 (byP 1000 1 ∷ []) 1000) (RemovePartitionSpecs (pos 1 ∷ pos 0 ∷ []) ∷ []) gives Refusal 34 0)
+    -- removed last added: -1 still stands for it, and it is not held
+    ∷ (OfRun AtLog terms (dated 2 [] 999) (addingSpec 0 1 0 ∷ RemovePartitionSpecs (pos 1 ∷ []) ∷ SetDefaultPartitionSpec (negsuc 0) ∷ []) gives Refusal 15 2)
+    -- close: the default spec clashes with the schema that is then current, or misfits it; also of an empty list; another spec may do either
+    ∷ (OfRun AtLog terms (partitioned 2 (ofAT 0 ∷ ofATY 1 ∷ []) (unpartitioned ∷ []) 999) (addingSpec 3 1 0 ∷ SetDefaultPartitionSpec (negsuc 0) ∷ SetCurrentSchema (pos 1) ∷ []) gives Refusal 31 3)
+    ∷ (OfRun AtLog terms (partitioned 2 (ofAT 0 ∷ ofA 1 ∷ []) (unpartitioned ∷ []) 999) (addingSpec 1 1 0 ∷ SetDefaultPartitionSpec (negsuc 0) ∷ SetCurrentSchema (pos 1) ∷ []) gives Refusal 32 3)
+    ∷ (OfRun AtLog terms (defaultAt 1 (partitioned 2 (ofATY 0 ∷ []) (unpartitioned ∷ byY 1000 1 ∷ []) 1000)) [] gives Refusal 31 0)
+    ∷ (OfRun AtLog terms (defaultAt 1 (partitioned 2 (ofA 0 ∷ []) (unpartitioned ∷ byQ 1000 1 ∷ []) 1000)) [] gives Refusal 32 0)
+    ∷ (OfRun AtLog terms (partitioned 2 (ofATY 0 ∷ []) (unpartitioned ∷ byY 1000 1 ∷ specOf 2 (partition 9 1001 identity 0 (112 ∷ []) ∷ []) ∷ []) 1001) [] gives Log [])
+    -- order at the close: 31, 32, 20
+    ∷ (OfRun AtLog terms (defaultAt 1 (partitioned 2 (ofA 0 ∷ []) (specOf 0 [] ∷ specOf 1 (partition 9 1000 identity 0 (97 ∷ []) ∷ []) ∷ []) 1000)) [] gives Refusal 31 0)
+    ∷ (OfRun AtLog terms (defaultAt 1 (withFields (withDefaultOrder (pos 1) (dated 2 [] 999 .fields)) (withOrders (unordered 0 ∷ orderOf 9 1 ∷ []) (partitioned 2 (ofA 0 ∷ []) (unpartitioned ∷ byQ 1000 1 ∷ []) 1000)))) [] gives Refusal 32 0)
+    -- schema's names: a name of a held spec, and of no held schema, is refused in a new schema, also of its second field; before 18
+    ∷ (OfRun AtLog terms (withSpecs (unpartitioned ∷ specOf 1 (partition 1 1000 identity 0 (97 ∷ []) ∷ []) ∷ []) three) (AddSchema (offerFrom 45 1 0) ∷ []) gives Refusal 31 0)
+    ∷ (OfRun AtLog terms (withSpecs (unpartitioned ∷ specOf 1 (partition 1 1000 identity 0 (112 ∷ []) ∷ partition 1 1001 bucket 4 (2 ∷ []) ∷ []) ∷ []) three) (AddSchema (offerFrom 0 2 0) ∷ []) gives Refusal 31 0)
+    ∷ (OfRun AtLog terms (withSchemas (schemaOf 1 0 ∷ ofA 1 ∷ []) (withSpecs (unpartitioned ∷ specOf 1 (partition 1 1000 identity 0 (97 ∷ []) ∷ []) ∷ []) three)) (AddSchema (offerFrom 46 1 0) ∷ AddSchema (offerOf 1 9) ∷ []) gives Log (AddSchema (offerFrom 46 1 2) ∷ AddSchema (offerOf 1 9) ∷ []))
+    ∷ (OfRun AtLog terms (withSchemas (schemaOf 1 0 ∷ schemaOf 1 2147483647 ∷ []) (withSpecs (unpartitioned ∷ specOf 1 (partition 1 1000 identity 0 (97 ∷ []) ∷ []) ∷ []) three)) (AddSchema (offerFrom 45 1 0) ∷ []) gives Refusal 31 0)
+    -- offered specs: as many fields as there may be, the largest source with the longest name, the most buckets, no field, none past the last byte; and a byte that is not there, one field more,
+    -- a source past the largest or 0, the transforms 0 and 6, too many buckets, none, a number with a year, no name, a length past the longest, a byte past the name, an id of 0, a spec id below 0
+    ∷ (OfTests (map (specOfferFormed offers) (specFrom 0 (replicate 8 none) 0 ∷ specFrom 22 (none ∷ []) 0 ∷ specFrom 27 (some (pos 1) ∷ []) 0 ∷ specFrom 5 [] 0 ∷ specFrom 34 [] 0 ∷ specFrom 14 (none ∷ none ∷ []) 0 ∷ []))
+    gives Tests (replicate 6 true))
+    ∷ (OfTests (map (specOfferFormed offers)
+    (specFrom 34 (none ∷ []) 0
+    ∷ specFrom 35 [] 0
+    ∷ specFrom 0 (replicate 9 none) 0
+    ∷ specFrom 23 (none ∷ []) 0
+    ∷ specFrom 24 (none ∷ []) 0
+    ∷ specFrom 25 (none ∷ []) 0
+    ∷ specFrom 26 (none ∷ []) 0
+    ∷ specFrom 28 (none ∷ []) 0
+    ∷ specFrom 29 (none ∷ []) 0
+    ∷ specFrom 30 (none ∷ []) 0
+    ∷ specFrom 31 (none ∷ []) 0
+    ∷ specFrom 32 (none ∷ []) 0
+    ∷ specFrom 33 (none ∷ []) 0
+    ∷ specFrom 0 (some (pos 0) ∷ []) 0
+    ∷ record { id = negsuc 0; at = 0; ids = [] }
+    ∷ []))
+    gives Tests (replicate 15 false))
+    ∷ (OfRun AtLog terms (dated 2 [] 999) (addingSpec 24 1 0 ∷ []) gives Refusal 3 0)
+    -- specs in tables: 16 of 8 fields are well formed; one more of either, descending or equal ids, an id below 0, and fields that are not well formed or stand twice are not
+    ∷ (OfTests (map metadataFormed
+    (dated 2 (many 15 (λ (i : ℕ). specOf (suc i) (many 8 (λ (k : ℕ). partition (suc k) (suc k) identity 0 (k ∷ []))))) 0
+    ∷ dated 2 (specOf 1 (partition 1 1 day 0 (replicate 32 255) ∷ partition 2 2 bucket 1 (113 ∷ []) ∷ partition 2 3 year 0 (112 ∷ []) ∷ partition 2 4 bucket 2147483647 (114 ∷ []) ∷ []) ∷ []) 0
+    ∷ []))
+    gives Tests (true ∷ true ∷ []))
+    ∷ (OfTests (map metadataFormed
+    (dated 2 (many 16 (λ (i : ℕ). specOf (suc i) [])) 0
+    ∷ dated 2 (specOf 1 (many 9 (λ (k : ℕ). partition (suc k) (suc k) identity 0 (k ∷ []))) ∷ []) 0
+    ∷ dated 2 (specOf 2 [] ∷ specOf 1 [] ∷ []) 0
+    ∷ dated 2 (specOf 0 [] ∷ []) 0
+    ∷ withSpecs (record { id = negsuc 0; fields = [] } ∷ unpartitioned ∷ []) first
+    ∷ dated 2 (specOf 1 (partition 0 1 identity 0 (112 ∷ []) ∷ []) ∷ []) 0
+    ∷ dated 2 (specOf 1 (partition 1 0 identity 0 (112 ∷ []) ∷ []) ∷ []) 0
+    ∷ dated 2 (specOf 1 (partition 1 1 0 0 (112 ∷ []) ∷ []) ∷ []) 0
+    ∷ dated 2 (specOf 1 (partition 1 1 6 0 (112 ∷ []) ∷ []) ∷ []) 0
+    ∷ dated 2 (specOf 1 (partition 1 1 identity 1 (112 ∷ []) ∷ []) ∷ []) 0
+    ∷ dated 2 (specOf 1 (partition 1 1 bucket 0 (112 ∷ []) ∷ []) ∷ []) 0
+    ∷ dated 2 (specOf 1 (partition 1 1 identity 0 [] ∷ []) ∷ []) 0
+    ∷ dated 2 (specOf 1 (partition 1 1 identity 0 (replicate 33 112) ∷ []) ∷ []) 0
+    ∷ dated 2 (specOf 1 (record { source = pos 1; id = none; transform = identity; buckets = pos 0; name = 112 ∷ [] } ∷ []) ∷ []) 0
+    ∷ dated 2 (specOf 1 (partition 1 1 identity 0 (112 ∷ []) ∷ partition 2 2 identity 0 (112 ∷ []) ∷ []) ∷ []) 0
+    ∷ dated 2 (specOf 1 (partition 1 1 identity 0 (112 ∷ []) ∷ partition 2 1 identity 0 (113 ∷ []) ∷ []) ∷ []) 0
+    ∷ dated 2 (specOf 1 (partition 1 1 identity 0 (112 ∷ []) ∷ partition 1 2 identity 0 (113 ∷ []) ∷ []) ∷ []) 0
+    ∷ dated 2 (specOf 1 (partition 1 1 year 0 (112 ∷ []) ∷ partition 1 2 day 0 (113 ∷ []) ∷ []) ∷ []) 0
+    ∷ []))
+    gives Tests (replicate 18 false))
+    -- fresh over runs: of three runs the second is refused; an equal spec gets none, nor does a field that reuses an id
+    ∷ (OfIds (freshOver (dated 2 [] 999)
+    (record { terms = terms; updates = addingSpec 0 2 0 ∷ addingSpec 0 2 0 ∷ addingSpec 2 1 0 ∷ [] }
+    ∷ record { terms = terms; updates = addingSpec 4 1 0 ∷ addingSpec 9 1 0 ∷ [] }
+    ∷ record { terms = terms; updates = AddPartitionSpec (specFrom 4 (none ∷ some (pos 1007) ∷ none ∷ []) 0) ∷ AddPartitionSpec (specFrom 7 (some (pos 7) ∷ none ∷ []) 0) ∷ RemovePartitionSpecs (pos 3 ∷ []) ∷ addingSpec 4 1 0 ∷ [] }
+    ∷ []))
+    gives Ids (pos 1000 ∷ pos 1001 ∷ pos 1002 ∷ pos 1008 ∷ pos 1009 ∷ pos 1010 ∷ []))
+    -- reached: last partition id is at least every field id that is held, of every spec and field
+    ∷ (OfTests (map isReached
+    (dated 2 (byP 1000 1 ∷ []) 1000
+    ∷ dated 2 (byP 1000 1 ∷ byQ 1001 2 ∷ []) 1000
+    ∷ dated 2 (byP 1000 1 ∷ specOf 2 (partition 2 7 year 0 (112 ∷ []) ∷ partition 1 1001 bucket 4 (113 ∷ []) ∷ []) ∷ []) 1000
+    ∷ []))
+    gives Tests (true ∷ false ∷ false ∷ []))
     -- Clauses in which no example above fails, by name, in the order of document 01.
     -- everything: a run touches every part, in one order of its updates and in the other; the answer is this, and nothing of another part is lost
     ∷ (OfRun AtAll fileTerms stocked restocking gives Answered (Accepted restocked restocking []))
@@ -857,21 +1177,24 @@ examples =
     ∷ []))
     gives Tests (replicate 5 false ++ (true ∷ true ∷ [])))
     ∷ (OfRun AtLog terms (withSchemas (schemaWith (longField 1 ∷ second long (1 ∷ []) ∷ []) 0 ∷ []) three) [] gives Refusal 1 0)
-    -- single fields: version 0 and 4, a location of 97 bytes, a last sequence number below 0
+    -- single fields: version 0 and 4, a location of 97 bytes, a last sequence number and a last partition id below 0; a last partition id of 0 is well formed
     ∷ (OfTests (map metadataFormed
     (withFields (withVersion 0 (record { 0 = 0 }) (first .fields)) first
     ∷ withFields (withVersion 4 (record { 0 = 0 }) (first .fields)) first
     ∷ withFields (withLocation (replicate 97 116) (first .fields)) first
     ∷ withFields (withLastSequence (record { 0 = negsuc 0 }) (record { 0 = 0 }) (first .fields)) first
+    ∷ withFields (withLastPartition (negsuc 0) (first .fields)) first
+    ∷ withFields (withLastPartition (pos 0) (first .fields)) first
     ∷ []))
-    gives Tests (replicate 4 false))
-    -- what is named: a ref to a snapshot that is not held, a current schema and a default order that are not held
+    gives Tests (replicate 5 false ++ (true ∷ [])))
+    -- what is named: a ref to a snapshot that is not held, a current schema, a default order and a default spec that are not held
     ∷ (OfTests (map metadataFormed
     (withRefs (record { name = draft; reference = branchTo 9 } ∷ named mainName ∷ []) first
     ∷ withFields (withCurrentSchema (pos 9) (first .fields)) first
     ∷ withFields (withDefaultOrder (pos 9) (first .fields)) first
+    ∷ defaultAt 9 first
     ∷ []))
-    gives Tests (replicate 3 false))
+    gives Tests (replicate 4 false))
     -- bounds: the largest and the smallest that an update may have, of each length and each number
     ∷ (OfTests (map updateFormed
     (UpgradeFormatVersion 1
@@ -891,14 +1214,17 @@ examples =
     ∷ SetDefaultSortOrder (negsuc 0)
     ∷ SetStatistics Statistics (record { snapshot = pos 0; path = replicate 96 112; size = pos 0 })
     ∷ RemoveStatistics Statistics (pos 0)
+    ∷ AddPartitionSpec (specFrom 0 (some (pos 1) ∷ replicate 7 none) 0)
+    ∷ SetDefaultPartitionSpec (negsuc 0)
+    ∷ RemovePartitionSpecs (replicate 16 (pos 0))
     ∷ []))
-    gives Tests (replicate 17 true))
+    gives Tests (replicate 20 true))
     -- offers: as many fields as there may be, the largest id, no field, none past the last byte; and one more field, no id, an id twice, an id past the largest, a byte that is not there, a schema id below 0
-    ∷ (OfTests (map (offerFormed offers) (offerFrom 0 32 0 ∷ offerFrom 42 1 0 ∷ offerFrom 53 0 0 ∷ offerFrom 40 2 7 ∷ [])) gives Tests (replicate 4 true))
-    ∷ (OfTests (map (offerFormed offers) (offerFrom 0 33 0 ∷ offerFrom 33 1 0 ∷ offerFrom 34 3 0 ∷ offerFrom 43 1 0 ∷ offerFrom 53 1 0 ∷ offerFrom 54 0 0 ∷ record { id = negsuc 0; at = 0; count = 1 } ∷ [])) gives Tests (replicate 7 false))
+    ∷ (OfTests (map (offerFormed schemaOffers) (offerFrom 0 32 0 ∷ offerFrom 42 1 0 ∷ offerFrom 53 0 0 ∷ offerFrom 40 2 7 ∷ [])) gives Tests (replicate 4 true))
+    ∷ (OfTests (map (offerFormed schemaOffers) (offerFrom 0 33 0 ∷ offerFrom 33 1 0 ∷ offerFrom 34 3 0 ∷ offerFrom 43 1 0 ∷ offerFrom 53 1 0 ∷ offerFrom 54 0 0 ∷ record { id = negsuc 0; at = 0; count = 1 } ∷ [])) gives Tests (replicate 7 false))
     -- offered names and types: a timestamp, a name that an older schema has, no name beside the longest; and a name twice, the types 0 and 3, a byte past the name, a length past the longest, which are 3
-    ∷ (OfTests (map (offerFormed offers) (offerFrom 44 1 0 ∷ offerFrom 45 1 0 ∷ offerFrom 46 1 0 ∷ offerFrom 49 2 0 ∷ [])) gives Tests (replicate 4 true))
-    ∷ (OfTests (map (offerFormed offers) (offerFrom 45 2 0 ∷ offerFrom 47 1 0 ∷ offerFrom 48 1 0 ∷ offerFrom 51 1 0 ∷ offerFrom 52 1 0 ∷ [])) gives Tests (replicate 5 false))
+    ∷ (OfTests (map (offerFormed schemaOffers) (offerFrom 44 1 0 ∷ offerFrom 45 1 0 ∷ offerFrom 46 1 0 ∷ offerFrom 49 2 0 ∷ [])) gives Tests (replicate 4 true))
+    ∷ (OfTests (map (offerFormed schemaOffers) (offerFrom 45 2 0 ∷ offerFrom 47 1 0 ∷ offerFrom 48 1 0 ∷ offerFrom 51 1 0 ∷ offerFrom 52 1 0 ∷ [])) gives Tests (replicate 5 false))
     ∷ (OfRun AtLog terms three (AddSchema (offerFrom 45 2 0) ∷ []) gives Refusal 3 0)
     -- an offered id of four bytes
     ∷ (OfRun AtColumn terms three (AddSchema (offerFrom 42 1 0) ∷ []) gives Column (pos 2147483647))
@@ -935,11 +1261,18 @@ examples =
     ∷ AddSortOrder (orderBy 0 (by (pos 1) 2 0 ∷ []))
     ∷ AddSortOrder (orderBy 0 (by (pos 1) 0 2 ∷ []))
     ∷ SetDefaultSortOrder (negsuc 1)
+    ∷ AddPartitionSpec (record { id = negsuc 0; at = 0; ids = [] })
+    ∷ AddPartitionSpec (specFrom 0 (replicate 9 none) 0)
+    ∷ AddPartitionSpec (specFrom 0 (none ∷ some (pos 0) ∷ []) 0)
+    ∷ AddPartitionSpec (specFrom 0 (some (negsuc 0) ∷ none ∷ []) 0)
+    ∷ SetDefaultPartitionSpec (negsuc 1)
+    ∷ RemovePartitionSpecs (replicate 17 (pos 0))
+    ∷ RemovePartitionSpecs (negsuc 0 ∷ [])
     ∷ NotFormed 1
     ∷ []))
-    gives Tests (replicate 30 false))
+    gives Tests (replicate 37 false))
     -- weights: one of each kind, of which the branch commit counts 2 and one that is not formed 5; and by the kind alone
-    ∷ (OfNumbers (listSum oneOfEach ∷ total kindWeight (4 ∷ 5 ∷ 6 ∷ []) ∷ []) gives Numbers (21 ∷ 4 ∷ []))
+    ∷ (OfNumbers (listSum oneOfEach ∷ total kindWeight (4 ∷ 5 ∷ 6 ∷ []) ∷ []) gives Numbers (24 ∷ 4 ∷ []))
     -- file's name: 96 bytes pass, 97 are 1
     ∷ (OfRun AtUpdated (fileNamed (replicate 96 97)) three [] gives Updated (pos 500000))
     ∷ (OfRun AtUpdated (fileNamed (replicate 97 97)) three [] gives Refusal 1 0)
@@ -1010,8 +1343,8 @@ examples =
     ∷ (OfRun AtLog terms (withOrders (many 16 (λ (i : ℕ). orderOf 1 (suc i))) (withFields (withDefaultOrder (pos 1) (three .fields)) three)) (AddSortOrder (unordered 0) ∷ []) gives Refusal 19 0)
     -- other order unfit: one that is not the default may name a field that the current schema has not
     ∷ (OfRun AtLog terms three (AddSortOrder (orderOf 1 1) ∷ AddSchema (offerOf 2 1) ∷ SetCurrentSchema (negsuc 0) ∷ []) gives Log (AddSortOrder (orderOf 1 1) ∷ AddSchema (offerOf 2 1) ∷ SetCurrentSchema (negsuc 0) ∷ []))
-    -- other removals: of schemas, of a ref and of statistics; none of them is one of snapshots, so the log stays
-    ∷ (OfRun AtHistory terms gapped (RemoveSchemas (pos 7 ∷ []) ∷ toDraft 1 ∷ RemoveRef draft ∷ attaching 9 1 ∷ RemoveStatistics Statistics (pos 9) ∷ []) gives History (entry 2 50000 ∷ entry 1 100000 ∷ []))
+    -- other removals: of schemas, of a ref, of statistics and of a spec; none of them is one of snapshots, so the log stays
+    ∷ (OfRun AtHistory terms gapped (RemoveSchemas (pos 7 ∷ []) ∷ toDraft 1 ∷ RemoveRef draft ∷ attaching 9 1 ∷ RemoveStatistics Statistics (pos 9) ∷ addingSpec 0 1 0 ∷ RemovePartitionSpecs (pos 1 ∷ []) ∷ []) gives History (entry 2 50000 ∷ entry 1 100000 ∷ []))
     -- removed intermediate: 4 was `main` on the way to 5 and is removed, so the history begins after its entry
     ∷ (OfRun AtHistory terms three (adding 4 400000 ∷ toMain 4 ∷ adding 5 410000 ∷ toMain 5 ∷ RemoveSnapshots (pos 4 ∷ []) ∷ []) gives History (entry 5 410000 ∷ []))
     -- too many files: 127 and one that joins may stay, 128 and one may not, unless the limit lets some expire; 22 comes before 23
@@ -1058,8 +1391,8 @@ examples =
     gives Tests (true ∷ true ∷ true ∷ false ∷ []))
     -- removed among others: one of the snapshots that are removed is added; a removed schema of the same id is none
     ∷ (OfTests (removesAndAdds (adding 4 0 ∷ RemoveSnapshots (pos 2 ∷ pos 4 ∷ []) ∷ []) ∷ removesAndAdds (adding 4 0 ∷ RemoveSchemas (pos 4 ∷ []) ∷ []) ∷ []) gives Tests (true ∷ false ∷ []))
-    -- left out: of a log, removals that name no schema; not one that names one, nor a removal of no snapshots
-    ∷ (OfNumbers (length (strip (RemoveSchemas [] ∷ RemoveSchemas (pos 1 ∷ []) ∷ RemoveSnapshots [] ∷ [])) ∷ []) gives Numbers (2 ∷ []))
+    -- left out: of a log, removals that name no schema; not one that names one, nor a removal of no snapshots or specs
+    ∷ (OfNumbers (length (strip (RemoveSchemas [] ∷ RemoveSchemas (pos 1 ∷ []) ∷ RemoveSnapshots [] ∷ RemovePartitionSpecs [] ∷ [])) ∷ []) gives Numbers (3 ∷ []))
     -- signs: a number below 0 is not one that is not
     ∷ (OfTests (eqZ (negsuc 0) (pos 0) ∷ eqZ (pos 0) (negsuc 0) ∷ eqZ (negsuc 0) (negsuc 0) ∷ []) gives Tests (false ∷ false ∷ true ∷ []))
     ∷ []

@@ -5,7 +5,7 @@ use mathlib.Core.Bool.{Bool, cond, _&&_, _||_}
 use mathlib.Core.List.{List, [], _∷_, map}
 use lib.Dec.{eqb}
 use lib.ListN.{length}
-use Rattle.records.specs.Blanks.{noFieldsPart, noSnapshotsPart, noRef, noSchemasPart, noSortOrdersPart, noStatisticsPart, noUpdate}
+use Rattle.records.specs.Blanks.{noFieldsPart, noSnapshotsPart, noRef, noSchemasPart, noSortOrdersPart, noStatisticsPart, noPartitionSpecsPart, noUpdate}
 use Rattle.records.specs.declared.update.TableUpdate.{TableUpdate}
 use Rattle.records.specs.declared.update.UpdateList.{UpdateList}
 use Rattle.records.specs.declared.part.FieldsPart.{FieldsPart}
@@ -13,9 +13,11 @@ use Rattle.records.specs.declared.part.SnapshotsPart.{SnapshotsPart}
 use Rattle.records.specs.declared.part.SchemasPart.{SchemasPart}
 use Rattle.records.specs.declared.part.SortOrdersPart.{SortOrdersPart}
 use Rattle.records.specs.declared.part.StatisticsPart.{StatisticsPart}
+use Rattle.records.specs.declared.part.PartitionSpecsPart.{PartitionSpecsPart}
 use Rattle.records.specs.declared.counters.SchemaId.{SchemaId}
 use Rattle.records.specs.declared.counters.SnapshotId.{SnapshotId}
 use Rattle.records.specs.declared.counters.SortOrderId.{SortOrderId}
+use Rattle.records.specs.declared.counters.SpecId.{SpecId}
 use Rattle.records.specs.declared.text.Text.{Text}
 use Rattle.records.specs.declared.text.Name.{Name}
 use Rattle.records.specs.declared.snapshot.Snapshot.{Snapshot}
@@ -26,13 +28,15 @@ use Rattle.records.specs.declared.schema.SchemaOffer.{SchemaOffer}
 use Rattle.records.specs.declared.schema.SchemaIds.{SchemaIds}
 use Rattle.records.specs.declared.«sort_order».SortOrder.{SortOrder}
 use Rattle.records.specs.declared.statistics.StatisticsFile.{StatisticsFile}
+use Rattle.records.specs.declared.partition.SpecOffer.{SpecOffer}
+use Rattle.records.specs.declared.partition.SpecIds.{SpecIds}
 use Rattle.rules.specs.Words.{any}
 use Rattle.rules.specs.Capacities.{listRoom}
 use Rattle.rules.specs.Register.{StatisticsTable, Update}
 use Rattle.rules.specs.Register.StatisticsTable.{Statistics, PartitionStatistics}
-use Rattle.rules.specs.Register.Update.{AssignUuid, UpgradeFormatVersion, SetLocation, AddSnapshot, SetBranchSnapshot, RemoveSnapshots, SetRef, RemoveRef, AddSchema, SetCurrentSchema, RemoveSchemas, AddSortOrder, SetDefaultSortOrder, SetStatistics, RemoveStatistics, NotFormed}
-use Rattle.rules.specs.Blanks.{isZero, isZeroZ, isBlankUuid, isTidyText, isBlankText, isTidySnapshot, isBlankSnapshot, isTidySnapshotIds, isBlankSnapshotIds, isTidyName, isBlankName, isTidyReference, isBlankReference, isBlankSchemaOffer, isTidySchemaIds, isBlankSchemaIds, isTidySortOrder, isBlankSortOrder, isTidyStatisticsFile, isBlankStatisticsFile}
-use Rattle.rules.specs.Layout.{counted, pad, readName, laidName, readText, laidText, readSnapshot, laidSnapshot, readSnapshotIds, laidSnapshotIds, readReference, laidReference, readSchemaOffer, laidSchemaOffer, readSchemaIds, laidSchemaIds, readSortOrder, laidSortOrder, readStatisticsFile, laidStatisticsFile}
+use Rattle.rules.specs.Register.Update.{AssignUuid, UpgradeFormatVersion, SetLocation, AddSnapshot, SetBranchSnapshot, RemoveSnapshots, SetRef, RemoveRef, AddSchema, SetCurrentSchema, RemoveSchemas, AddSortOrder, SetDefaultSortOrder, SetStatistics, RemoveStatistics, AddPartitionSpec, SetDefaultPartitionSpec, RemovePartitionSpecs, NotFormed}
+use Rattle.rules.specs.Blanks.{isZero, isZeroZ, isBlankUuid, isTidyText, isBlankText, isTidySnapshot, isBlankSnapshot, isTidySnapshotIds, isBlankSnapshotIds, isTidyName, isBlankName, isTidyReference, isBlankReference, isBlankSchemaOffer, isTidySchemaIds, isBlankSchemaIds, isTidySortOrder, isBlankSortOrder, isTidyStatisticsFile, isBlankStatisticsFile, isTidySpecOffer, isBlankSpecOffer, isTidySpecIds, isBlankSpecIds}
+use Rattle.rules.specs.Layout.{counted, pad, readName, laidName, readText, laidText, readSnapshot, laidSnapshot, readSnapshotIds, laidSnapshotIds, readReference, laidReference, readSchemaOffer, laidSchemaOffer, readSchemaIds, laidSchemaIds, readSortOrder, laidSortOrder, readStatisticsFile, laidStatisticsFile, readSpecOffer, laidSpecOffer, readSpecIds, laidSpecIds}
 
 -- ---- the kinds, in the order of a table's life
 
@@ -86,6 +90,15 @@ setPartitionStatisticsKind = 16
 
 abbrev pub removePartitionStatisticsKind : ℕ
 removePartitionStatisticsKind = 17
+
+abbrev pub addPartitionSpecKind : ℕ
+addPartitionSpecKind = 18
+
+abbrev pub setDefaultPartitionSpecKind : ℕ
+setDefaultPartitionSpecKind = 19
+
+abbrev pub removePartitionSpecsKind : ℕ
+removePartitionSpecsKind = 20
 
 -- ---- what a kind uses
 
@@ -173,6 +186,21 @@ isTidyStatisticsPart kind p =
     fitsKinds statisticsFileKinds kind (isBlankStatisticsFile (p .file)) (isTidyStatisticsFile (p .file))
     && usedBy statisticsIdKinds kind (isZeroZ (p .removed .0))
 
+abbrev pub specKinds : List ℕ
+specKinds = addPartitionSpecKind ∷ []
+
+abbrev pub specIdKinds : List ℕ
+specIdKinds = setDefaultPartitionSpecKind ∷ []
+
+abbrev pub specIdsKinds : List ℕ
+specIdsKinds = removePartitionSpecsKind ∷ []
+
+unfoldable pub isTidyPartitionSpecsPart : ℕ → PartitionSpecsPart → Bool
+isTidyPartitionSpecsPart kind p =
+    fitsKinds specKinds kind (isBlankSpecOffer (p .added)) (isTidySpecOffer (p .added))
+    && usedBy specIdKinds kind (isZeroZ (p .chosen .0))
+    && fitsKinds specIdsKinds kind (isBlankSpecIds (p .removed)) (isTidySpecIds (p .removed))
+
 abbrev pub isTidyUpdate : TableUpdate → Bool
 isTidyUpdate u =
     isTidyFieldsPart (u .kind) (u .fields)
@@ -181,6 +209,7 @@ isTidyUpdate u =
     && isTidySchemasPart (u .kind) (u .schemas)
     && isTidySortOrdersPart (u .kind) (u .«sort_orders»)
     && isTidyStatisticsPart (u .kind) (u .statistics)
+    && isTidyPartitionSpecsPart (u .kind) (u .«partition_specs»)
 
 -- ---- reading
 
@@ -213,6 +242,9 @@ readings u =
     ∷ (removeStatisticsKind, RemoveStatistics Statistics (u .statistics .removed .0))
     ∷ (setPartitionStatisticsKind, SetStatistics PartitionStatistics (readStatisticsFile (u .statistics .file)))
     ∷ (removePartitionStatisticsKind, RemoveStatistics PartitionStatistics (u .statistics .removed .0))
+    ∷ (addPartitionSpecKind, AddPartitionSpec (readSpecOffer (u .«partition_specs» .added)))
+    ∷ (setDefaultPartitionSpecKind, SetDefaultPartitionSpec (u .«partition_specs» .chosen .0))
+    ∷ (removePartitionSpecsKind, RemovePartitionSpecs (readSpecIds (u .«partition_specs» .removed)))
     ∷ []
 
 abbrev pub readKind : TableUpdate → Update
@@ -228,25 +260,28 @@ readUpdates t = map readUpdate (counted noUpdate (t .items) (t .count))
 -- ---- laying out: a blank update of a kind, with the records that the kind uses
 
 abbrev pub ofKind : ℕ → TableUpdate
-ofKind kind = record { kind = kind; fields = noFieldsPart; snapshots = noSnapshotsPart; refs = noRef; schemas = noSchemasPart; «sort_orders» = noSortOrdersPart; statistics = noStatisticsPart }
+ofKind kind = record { kind = kind; fields = noFieldsPart; snapshots = noSnapshotsPart; refs = noRef; schemas = noSchemasPart; «sort_orders» = noSortOrdersPart; statistics = noStatisticsPart; «partition_specs» = noPartitionSpecsPart }
 
 abbrev pub withFieldsPart : FieldsPart → TableUpdate → TableUpdate
-withFieldsPart x u = record { kind = u .kind; fields = x; snapshots = u .snapshots; refs = u .refs; schemas = u .schemas; «sort_orders» = u .«sort_orders»; statistics = u .statistics }
+withFieldsPart x u = record { kind = u .kind; fields = x; snapshots = u .snapshots; refs = u .refs; schemas = u .schemas; «sort_orders» = u .«sort_orders»; statistics = u .statistics; «partition_specs» = u .«partition_specs» }
 
 abbrev pub withSnapshotsPart : SnapshotsPart → TableUpdate → TableUpdate
-withSnapshotsPart x u = record { kind = u .kind; fields = u .fields; snapshots = x; refs = u .refs; schemas = u .schemas; «sort_orders» = u .«sort_orders»; statistics = u .statistics }
+withSnapshotsPart x u = record { kind = u .kind; fields = u .fields; snapshots = x; refs = u .refs; schemas = u .schemas; «sort_orders» = u .«sort_orders»; statistics = u .statistics; «partition_specs» = u .«partition_specs» }
 
 abbrev pub withRefsPart : NamedRef → TableUpdate → TableUpdate
-withRefsPart x u = record { kind = u .kind; fields = u .fields; snapshots = u .snapshots; refs = x; schemas = u .schemas; «sort_orders» = u .«sort_orders»; statistics = u .statistics }
+withRefsPart x u = record { kind = u .kind; fields = u .fields; snapshots = u .snapshots; refs = x; schemas = u .schemas; «sort_orders» = u .«sort_orders»; statistics = u .statistics; «partition_specs» = u .«partition_specs» }
 
 abbrev pub withSchemasPart : SchemasPart → TableUpdate → TableUpdate
-withSchemasPart x u = record { kind = u .kind; fields = u .fields; snapshots = u .snapshots; refs = u .refs; schemas = x; «sort_orders» = u .«sort_orders»; statistics = u .statistics }
+withSchemasPart x u = record { kind = u .kind; fields = u .fields; snapshots = u .snapshots; refs = u .refs; schemas = x; «sort_orders» = u .«sort_orders»; statistics = u .statistics; «partition_specs» = u .«partition_specs» }
 
 abbrev pub withSortOrdersPart : SortOrdersPart → TableUpdate → TableUpdate
-withSortOrdersPart x u = record { kind = u .kind; fields = u .fields; snapshots = u .snapshots; refs = u .refs; schemas = u .schemas; «sort_orders» = x; statistics = u .statistics }
+withSortOrdersPart x u = record { kind = u .kind; fields = u .fields; snapshots = u .snapshots; refs = u .refs; schemas = u .schemas; «sort_orders» = x; statistics = u .statistics; «partition_specs» = u .«partition_specs» }
 
 abbrev pub withStatisticsPart : StatisticsPart → TableUpdate → TableUpdate
-withStatisticsPart x u = record { kind = u .kind; fields = u .fields; snapshots = u .snapshots; refs = u .refs; schemas = u .schemas; «sort_orders» = u .«sort_orders»; statistics = x }
+withStatisticsPart x u = record { kind = u .kind; fields = u .fields; snapshots = u .snapshots; refs = u .refs; schemas = u .schemas; «sort_orders» = u .«sort_orders»; statistics = x; «partition_specs» = u .«partition_specs» }
+
+abbrev pub withPartitionSpecsPart : PartitionSpecsPart → TableUpdate → TableUpdate
+withPartitionSpecsPart x u = record { kind = u .kind; fields = u .fields; snapshots = u .snapshots; refs = u .refs; schemas = u .schemas; «sort_orders» = u .«sort_orders»; statistics = u .statistics; «partition_specs» = x }
 
 -- ---- a part with another record
 
@@ -292,6 +327,15 @@ withStatisticsFile x p = record { file = x; removed = p .removed }
 abbrev pub withStatisticsId : SnapshotId → StatisticsPart → StatisticsPart
 withStatisticsId x p = record { file = p .file; removed = x }
 
+abbrev pub withSpecOffer : SpecOffer → PartitionSpecsPart → PartitionSpecsPart
+withSpecOffer x p = record { added = x; chosen = p .chosen; removed = p .removed }
+
+abbrev pub withSpecId : SpecId → PartitionSpecsPart → PartitionSpecsPart
+withSpecId x p = record { added = p .added; chosen = x; removed = p .removed }
+
+abbrev pub withSpecIds : SpecIds → PartitionSpecsPart → PartitionSpecsPart
+withSpecIds x p = record { added = p .added; chosen = p .chosen; removed = x }
+
 -- ---- an update laid out
 
 -- the kinds of the two tables
@@ -319,6 +363,9 @@ laidUpdate (AddSortOrder o) = withSortOrdersPart (withSortOrder (laidSortOrder o
 laidUpdate (SetDefaultSortOrder id) = withSortOrdersPart (withSortOrderId (record { 0 = id }) noSortOrdersPart) (ofKind setDefaultSortOrderKind)
 laidUpdate (SetStatistics which f) = withStatisticsPart (withStatisticsFile (laidStatisticsFile f) noStatisticsPart) (ofKind (settingKind which))
 laidUpdate (RemoveStatistics which id) = withStatisticsPart (withStatisticsId (record { 0 = id }) noStatisticsPart) (ofKind (removingKind which))
+laidUpdate (AddPartitionSpec o) = withPartitionSpecsPart (withSpecOffer (laidSpecOffer o) noPartitionSpecsPart) (ofKind addPartitionSpecKind)
+laidUpdate (SetDefaultPartitionSpec id) = withPartitionSpecsPart (withSpecId (record { 0 = id }) noPartitionSpecsPart) (ofKind setDefaultPartitionSpecKind)
+laidUpdate (RemovePartitionSpecs ids) = withPartitionSpecsPart (withSpecIds (laidSpecIds ids) noPartitionSpecsPart) (ofKind removePartitionSpecsKind)
 laidUpdate (NotFormed counts) = noUpdate
 
 unfoldable pub laidUpdates : List Update → UpdateList

@@ -2,15 +2,17 @@
 -- count says: a slot that is not there reads as blank, so nothing is lost of a count above the capacity. Laying pads with blanks.
 -- For well-formed metadata going there and back changes nothing (`relaid`, in proofs/Relaid).
 use Prim.Native.Nat.{ℕ, _-_}
-use mathlib.Core.Bool.{Bool, true, false}
+use mathlib.Core.Bool.{Bool, true, false, not}
 use mathlib.Core.List.{List, _++_, map}
 use mathlib.Core.Option.{Option, none, some}
 use lib.IntN.{ℤ, pos}
 use lib.ListN.{length, take, replicate}
-use Rattle.records.specs.Blanks.{noSnapshotId, noSnapshot, noLogEntry, noRef, noSchemaField, noSchema, noSchemaId, noSortField, noSortOrder, noStatisticsFile, noMetadataLogEntry}
+use Rattle.records.specs.Blanks.{noSnapshotId, noSnapshot, noLogEntry, noRef, noSchemaField, noSchema, noSchemaId, noSortField, noSortOrder, noPartitionField, noPartitionSpec, noFieldId, noSpecId, noStatisticsFile, noMetadataLogEntry}
 use Rattle.records.specs.declared.counters.RowId.{RowId}
 use Rattle.records.specs.declared.counters.SnapshotId.{SnapshotId}
 use Rattle.records.specs.declared.counters.SchemaId.{SchemaId}
+use Rattle.records.specs.declared.counters.FieldId.{FieldId}
+use Rattle.records.specs.declared.counters.SpecId.{SpecId}
 use Rattle.records.specs.declared.text.Name.{Name}
 use Rattle.records.specs.declared.text.Text.{Text}
 use Rattle.records.specs.declared.snapshot.Snapshot.{Snapshot}
@@ -29,6 +31,11 @@ use Rattle.records.specs.declared.schema.SchemaIds.{SchemaIds}
 use Rattle.records.specs.declared.«sort_order».SortField.{SortField}
 use Rattle.records.specs.declared.«sort_order».SortOrder.{SortOrder}
 use Rattle.records.specs.declared.«sort_order».SortOrders.{SortOrders}
+use Rattle.records.specs.declared.partition.PartitionField.{PartitionField}
+use Rattle.records.specs.declared.partition.PartitionSpec.{PartitionSpec}
+use Rattle.records.specs.declared.partition.PartitionSpecs.{PartitionSpecs}
+use Rattle.records.specs.declared.partition.SpecOffer.{SpecOffer}
+use Rattle.records.specs.declared.partition.SpecIds.{SpecIds}
 use Rattle.records.specs.declared.statistics.StatisticsFile.{StatisticsFile}
 use Rattle.records.specs.declared.statistics.StatisticsFiles.{StatisticsFiles}
 use Rattle.records.specs.declared.metadata.MetadataLogEntry.{MetadataLogEntry}
@@ -36,7 +43,8 @@ use Rattle.records.specs.declared.metadata.MetadataLog.{MetadataLog}
 use Rattle.records.specs.declared.metadata.SingleFields.{SingleFields}
 use Rattle.records.specs.declared.metadata.TableMetadata.{TableMetadata}
 use Rattle.rules.specs.Words.{isSome, orElse}
-use Rattle.rules.specs.Capacities.{snapshotRoom, refRoom, snapshotLogRoom, metadataLogRoom, schemaRoom, schemaFieldRoom, sortOrderRoom, sortFieldRoom, statisticsRoom, removalRoom, nameRoom, textRoom}
+use Rattle.rules.specs.Capacities.{snapshotRoom, refRoom, snapshotLogRoom, metadataLogRoom, schemaRoom, schemaFieldRoom, sortOrderRoom, sortFieldRoom, specRoom, partitionFieldRoom, statisticsRoom, removalRoom, nameRoom, textRoom}
+use Rattle.rules.specs.Blanks.{isBlankFieldId}
 use Rattle.rules.specs.Register as plain
 
 -- ---- slots and flags
@@ -215,6 +223,60 @@ readSortOrders t = map readSortOrder (counted noSortOrder (t .items) (t .count))
 unfoldable pub laidSortOrders : List plain.SortOrder → SortOrders
 laidSortOrders l = record { items = pad sortOrderRoom noSortOrder (map laidSortOrder l); count = length l }
 
+-- ---- partition specs
+
+abbrev pub readPartitionField : PartitionField → plain.PartitionField
+readPartitionField f =
+    record {
+      source = f .«source_id» .0;
+      id = given (f .«has_id») (f .«field_id» .0);
+      transform = f .transform;
+      buckets = f .buckets .0;
+      name = readName (f .name);
+    }
+
+unfoldable pub laidPartitionField : plain.PartitionField → PartitionField
+laidPartitionField f =
+    record {
+      «source_id» = record { 0 = f .source };
+      «field_id» = record { 0 = orElse (f .id) (pos 0) };
+      buckets = record { 0 = f .buckets };
+      transform = f .transform;
+      «has_id» = isSome (f .id);
+      name = laidName (f .name);
+    }
+
+abbrev pub readPartitionSpec : PartitionSpec → plain.PartitionSpec
+readPartitionSpec s = record { id = s .«spec_id» .0; fields = map readPartitionField (counted noPartitionField (s .items) (s .count)) }
+
+unfoldable pub laidPartitionSpec : plain.PartitionSpec → PartitionSpec
+laidPartitionSpec s = record { «spec_id» = record { 0 = s .id }; items = pad partitionFieldRoom noPartitionField (map laidPartitionField (s .fields)); count = length (s .fields) }
+
+abbrev pub readPartitionSpecs : PartitionSpecs → List plain.PartitionSpec
+readPartitionSpecs t = map readPartitionSpec (counted noPartitionSpec (t .items) (t .count))
+
+unfoldable pub laidPartitionSpecs : List plain.PartitionSpec → PartitionSpecs
+laidPartitionSpecs l = record { items = pad specRoom noPartitionSpec (map laidPartitionSpec l); count = length l }
+
+-- an id of 0 stands for one that is left out
+abbrev pub readFieldId : FieldId → Option ℤ
+readFieldId i = given (not (isBlankFieldId i)) (i .0)
+
+abbrev pub laidFieldId : Option ℤ → FieldId
+laidFieldId id = record { 0 = orElse id (pos 0) }
+
+abbrev pub readSpecOffer : SpecOffer → plain.SpecOffer
+readSpecOffer o = record { id = o .«spec_id» .0; at = o .at; ids = map readFieldId (counted noFieldId (o .ids) (o .count)) }
+
+unfoldable pub laidSpecOffer : plain.SpecOffer → SpecOffer
+laidSpecOffer o = record { «spec_id» = record { 0 = o .id }; at = o .at; count = length (o .ids); ids = pad partitionFieldRoom noFieldId (map laidFieldId (o .ids)) }
+
+abbrev pub readSpecIds : SpecIds → List ℤ
+readSpecIds t = map (λ (i : SpecId). i .0) (counted noSpecId (t .items) (t .count))
+
+unfoldable pub laidSpecIds : List ℤ → SpecIds
+laidSpecIds l = record { items = pad removalRoom noSpecId (map (λ (z : ℤ). record { 0 = z }) l); count = length l }
+
 -- ---- statistics files
 
 abbrev pub readStatisticsFile : StatisticsFile → plain.StatisticsFile
@@ -256,6 +318,8 @@ readFields f =
       current = given (f .«has_current») (f .«current_snapshot_id» .0);
       currentSchema = f .«current_schema_id» .0;
       defaultOrder = f .«default_sort_order_id» .0;
+      defaultSpec = f .«default_spec_id» .0;
+      lastPartition = f .«last_partition_id» .0;
     }
 
 unfoldable pub laidFields : plain.SingleFields → SingleFields
@@ -272,6 +336,8 @@ laidFields f =
       «current_snapshot_id» = record { 0 = orElse (f .current) (pos 0) };
       «current_schema_id» = record { 0 = f .currentSchema };
       «default_sort_order_id» = record { 0 = f .defaultOrder };
+      «default_spec_id» = record { 0 = f .defaultSpec };
+      «last_partition_id» = record { 0 = f .lastPartition };
     }
 
 abbrev pub readMetadata : TableMetadata → plain.Metadata
@@ -286,6 +352,7 @@ readMetadata m =
       orders = readSortOrders (m .«sort_orders»);
       statistics = readStatistics (m .statistics);
       partitionStatistics = readStatistics (m .«partition_statistics»);
+      specs = readPartitionSpecs (m .«partition_specs»);
     }
 
 unfoldable pub laidMetadata : plain.Metadata → TableMetadata
@@ -300,4 +367,5 @@ laidMetadata m =
       «sort_orders» = laidSortOrders (m .orders);
       statistics = laidStatistics (m .statistics);
       «partition_statistics» = laidStatistics (m .partitionStatistics);
+      «partition_specs» = laidPartitionSpecs (m .specs);
     }

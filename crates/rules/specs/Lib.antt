@@ -1,5 +1,5 @@
--- Document 01, in the order in which it is read: words, records, leaves, well-formed records, what updates offer, updates, the close, the run, the layout of records;
--- and what document 02 adds: statistics files (StatisticsUpdates), which snapshot was current at a time (Moment), row ids over a sequence of runs (Rows). During is this project's own.
+-- Document 01, in the order in which it is read: words, records, leaves, partition fields, well-formed records, what updates offer, updates, the close, the run, the layout of records;
+-- and what document 02 adds: statistics files (StatisticsUpdates), partition specs (Partitions, SpecUpdates), which snapshot was current at a time (Moment), row ids over a sequence of runs (Rows). During and FieldIds are this project's own.
 pub mod Words
 pub mod Replies
 pub mod Capacities
@@ -9,6 +9,7 @@ pub mod Window
 pub mod RowIds
 pub mod Names
 pub mod Walk
+pub mod Partitions
 pub mod WellFormed
 pub mod Offers
 pub mod ChangeLog
@@ -18,12 +19,14 @@ pub mod RefUpdates
 pub mod SchemaUpdates
 pub mod OrderUpdates
 pub mod StatisticsUpdates
+pub mod SpecUpdates
 pub mod Updates
 pub mod Close
 pub mod Run
 pub mod Moment
 pub mod During
 pub mod Rows
+pub mod FieldIds
 pub mod Replay
 pub mod Promises
 pub mod Blanks

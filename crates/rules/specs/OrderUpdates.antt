@@ -30,7 +30,7 @@ abbrev pub newOrderId : SortOrder → List SortOrder → ℤ
 newOrderId o l = cond (isEmpty (o .fields)) (pos 0) (sucℤ (highest (orderIds l)))
 
 abbrev pub addedOrder : ℤ → State → State
-addedOrder id st = withAdded (record { schema = st .added .schema; order = some id }) st
+addedOrder id st = withAdded (record { schema = st .added .schema; order = some id; spec = st .added .spec }) st
 
 -- the field ids of the current schema
 abbrev pub currentFieldIds : Metadata → List ℤ

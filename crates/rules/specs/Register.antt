@@ -1,5 +1,5 @@
 -- What the register holds, over plain lists and whole numbers: metadata, updates, what a run is given, its state and its outcome.
--- Document 01, "What is carried over", and the public table format, "Table Metadata", "Snapshots", "Snapshot References", "Sort Orders".
+-- Document 01, "What is carried over", and the public table format, "Table Metadata", "Snapshots", "Snapshot References", "Sort Orders", "Partitioning".
 use Prim.Native.Nat.{ℕ}
 use mathlib.Core.List.{List, [], _∷_, _++_}
 use mathlib.Core.Option.{Option}
@@ -68,6 +68,25 @@ pub record SortOrder : Type 0 where
   pub id : ℤ
   pub fields : List SortField
 
+-- a field of a partition spec: the field of a schema that it is made from, and how. Its transform is 1 identity, 2 year, 3 month, 4 day or 5 bucket, and
+-- the number of buckets is 0 with every other one. One that is held has an id; one that is offered may leave it out.
+pub record PartitionField : Type 0 where
+  pub source : ℤ
+  pub id : Option ℤ
+  pub transform : ℕ
+  pub buckets : ℤ
+  pub name : List ℕ
+
+pub record PartitionSpec : Type 0 where
+  pub id : ℤ
+  pub fields : List PartitionField
+
+-- a spec as an update offers it: its id, where its fields stand among the offers of the run, and of each field the id, where it does not leave it out
+pub record SpecOffer : Type 0 where
+  pub id : ℤ
+  pub at : ℕ
+  pub ids : List (Option ℤ)
+
 -- document 02, request (ii): "snapshot id, path up to 96 bytes, size"
 pub record StatisticsFile : Type 0 where
   pub snapshot : ℤ
@@ -87,6 +106,8 @@ pub record SingleFields : Type 0 where
   pub current : Option ℤ
   pub currentSchema : ℤ
   pub defaultOrder : ℤ
+  pub defaultSpec : ℤ
+  pub lastPartition : ℤ
 
 pub record Metadata : Type 0 where
   pub fields : SingleFields
@@ -98,6 +119,7 @@ pub record Metadata : Type 0 where
   pub orders : List SortOrder
   pub statistics : List StatisticsFile
   pub partitionStatistics : List StatisticsFile
+  pub specs : List PartitionSpec
 
 -- which of the two tables of statistics files
 pub data StatisticsTable : Type 0 where
@@ -121,6 +143,9 @@ pub data Update : Type 0 where
   SetDefaultSortOrder : ℤ → Update
   SetStatistics : StatisticsTable → StatisticsFile → Update
   RemoveStatistics : StatisticsTable → ℤ → Update
+  AddPartitionSpec : SpecOffer → Update
+  SetDefaultPartitionSpec : ℤ → Update
+  RemovePartitionSpecs : List ℤ → Update
   -- a record of unknown kind, or with an unused place that is not blank; the number is what it counts
   NotFormed : ℕ → Update
 
@@ -139,6 +164,7 @@ pub record Terms : Type 0 where
 pub record LastAdded : Type 0 where
   pub schema : Option ℤ
   pub order : Option ℤ
+  pub spec : Option ℤ
 
 -- own: the run's own last update, where it has one yet
 pub record State : Type 0 where
@@ -155,60 +181,69 @@ pub data Outcome : Type 0 where
 -- ---- one part changed, the others kept
 
 abbrev pub withFields : SingleFields → Metadata → Metadata
-withFields f m = record { fields = f; snapshots = m .snapshots; refs = m .refs; snapshotLog = m .snapshotLog; metadataLog = m .metadataLog; schemas = m .schemas; orders = m .orders; statistics = m .statistics; partitionStatistics = m .partitionStatistics }
+withFields f m = record { fields = f; snapshots = m .snapshots; refs = m .refs; snapshotLog = m .snapshotLog; metadataLog = m .metadataLog; schemas = m .schemas; orders = m .orders; statistics = m .statistics; partitionStatistics = m .partitionStatistics; specs = m .specs }
 
 abbrev pub withSnapshots : List Snapshot → Metadata → Metadata
-withSnapshots l m = record { fields = m .fields; snapshots = l; refs = m .refs; snapshotLog = m .snapshotLog; metadataLog = m .metadataLog; schemas = m .schemas; orders = m .orders; statistics = m .statistics; partitionStatistics = m .partitionStatistics }
+withSnapshots l m = record { fields = m .fields; snapshots = l; refs = m .refs; snapshotLog = m .snapshotLog; metadataLog = m .metadataLog; schemas = m .schemas; orders = m .orders; statistics = m .statistics; partitionStatistics = m .partitionStatistics; specs = m .specs }
 
 abbrev pub withRefs : List NamedRef → Metadata → Metadata
-withRefs l m = record { fields = m .fields; snapshots = m .snapshots; refs = l; snapshotLog = m .snapshotLog; metadataLog = m .metadataLog; schemas = m .schemas; orders = m .orders; statistics = m .statistics; partitionStatistics = m .partitionStatistics }
+withRefs l m = record { fields = m .fields; snapshots = m .snapshots; refs = l; snapshotLog = m .snapshotLog; metadataLog = m .metadataLog; schemas = m .schemas; orders = m .orders; statistics = m .statistics; partitionStatistics = m .partitionStatistics; specs = m .specs }
 
 abbrev pub withSnapshotLog : List LogEntry → Metadata → Metadata
-withSnapshotLog l m = record { fields = m .fields; snapshots = m .snapshots; refs = m .refs; snapshotLog = l; metadataLog = m .metadataLog; schemas = m .schemas; orders = m .orders; statistics = m .statistics; partitionStatistics = m .partitionStatistics }
+withSnapshotLog l m = record { fields = m .fields; snapshots = m .snapshots; refs = m .refs; snapshotLog = l; metadataLog = m .metadataLog; schemas = m .schemas; orders = m .orders; statistics = m .statistics; partitionStatistics = m .partitionStatistics; specs = m .specs }
 
 abbrev pub withMetadataLog : List FileEntry → Metadata → Metadata
-withMetadataLog l m = record { fields = m .fields; snapshots = m .snapshots; refs = m .refs; snapshotLog = m .snapshotLog; metadataLog = l; schemas = m .schemas; orders = m .orders; statistics = m .statistics; partitionStatistics = m .partitionStatistics }
+withMetadataLog l m = record { fields = m .fields; snapshots = m .snapshots; refs = m .refs; snapshotLog = m .snapshotLog; metadataLog = l; schemas = m .schemas; orders = m .orders; statistics = m .statistics; partitionStatistics = m .partitionStatistics; specs = m .specs }
 
 abbrev pub withSchemas : List Schema → Metadata → Metadata
-withSchemas l m = record { fields = m .fields; snapshots = m .snapshots; refs = m .refs; snapshotLog = m .snapshotLog; metadataLog = m .metadataLog; schemas = l; orders = m .orders; statistics = m .statistics; partitionStatistics = m .partitionStatistics }
+withSchemas l m = record { fields = m .fields; snapshots = m .snapshots; refs = m .refs; snapshotLog = m .snapshotLog; metadataLog = m .metadataLog; schemas = l; orders = m .orders; statistics = m .statistics; partitionStatistics = m .partitionStatistics; specs = m .specs }
 
 abbrev pub withOrders : List SortOrder → Metadata → Metadata
-withOrders l m = record { fields = m .fields; snapshots = m .snapshots; refs = m .refs; snapshotLog = m .snapshotLog; metadataLog = m .metadataLog; schemas = m .schemas; orders = l; statistics = m .statistics; partitionStatistics = m .partitionStatistics }
+withOrders l m = record { fields = m .fields; snapshots = m .snapshots; refs = m .refs; snapshotLog = m .snapshotLog; metadataLog = m .metadataLog; schemas = m .schemas; orders = l; statistics = m .statistics; partitionStatistics = m .partitionStatistics; specs = m .specs }
 
 abbrev pub statisticsOf : StatisticsTable → Metadata → List StatisticsFile
 statisticsOf Statistics m = m .statistics
 statisticsOf PartitionStatistics m = m .partitionStatistics
 
 abbrev pub withStatistics : StatisticsTable → List StatisticsFile → Metadata → Metadata
-withStatistics Statistics l m = record { fields = m .fields; snapshots = m .snapshots; refs = m .refs; snapshotLog = m .snapshotLog; metadataLog = m .metadataLog; schemas = m .schemas; orders = m .orders; statistics = l; partitionStatistics = m .partitionStatistics }
-withStatistics PartitionStatistics l m = record { fields = m .fields; snapshots = m .snapshots; refs = m .refs; snapshotLog = m .snapshotLog; metadataLog = m .metadataLog; schemas = m .schemas; orders = m .orders; statistics = m .statistics; partitionStatistics = l }
+withStatistics Statistics l m = record { fields = m .fields; snapshots = m .snapshots; refs = m .refs; snapshotLog = m .snapshotLog; metadataLog = m .metadataLog; schemas = m .schemas; orders = m .orders; statistics = l; partitionStatistics = m .partitionStatistics; specs = m .specs }
+withStatistics PartitionStatistics l m = record { fields = m .fields; snapshots = m .snapshots; refs = m .refs; snapshotLog = m .snapshotLog; metadataLog = m .metadataLog; schemas = m .schemas; orders = m .orders; statistics = m .statistics; partitionStatistics = l; specs = m .specs }
+
+abbrev pub withSpecs : List PartitionSpec → Metadata → Metadata
+withSpecs l m = record { fields = m .fields; snapshots = m .snapshots; refs = m .refs; snapshotLog = m .snapshotLog; metadataLog = m .metadataLog; schemas = m .schemas; orders = m .orders; statistics = m .statistics; partitionStatistics = m .partitionStatistics; specs = l }
 
 abbrev pub withUuid : List ℕ → SingleFields → SingleFields
-withUuid uuid f = record { version = f .version; uuid = uuid; location = f .location; lastUpdated = f .lastUpdated; lastSequence = f .lastSequence; nextRow = f .nextRow; lastColumn = f .lastColumn; current = f .current; currentSchema = f .currentSchema; defaultOrder = f .defaultOrder }
+withUuid uuid f = record { version = f .version; uuid = uuid; location = f .location; lastUpdated = f .lastUpdated; lastSequence = f .lastSequence; nextRow = f .nextRow; lastColumn = f .lastColumn; current = f .current; currentSchema = f .currentSchema; defaultOrder = f .defaultOrder; defaultSpec = f .defaultSpec; lastPartition = f .lastPartition }
 
 abbrev pub withVersion : ℕ → RowId → SingleFields → SingleFields
-withVersion v next f = record { version = v; uuid = f .uuid; location = f .location; lastUpdated = f .lastUpdated; lastSequence = f .lastSequence; nextRow = next; lastColumn = f .lastColumn; current = f .current; currentSchema = f .currentSchema; defaultOrder = f .defaultOrder }
+withVersion v next f = record { version = v; uuid = f .uuid; location = f .location; lastUpdated = f .lastUpdated; lastSequence = f .lastSequence; nextRow = next; lastColumn = f .lastColumn; current = f .current; currentSchema = f .currentSchema; defaultOrder = f .defaultOrder; defaultSpec = f .defaultSpec; lastPartition = f .lastPartition }
 
 abbrev pub withLocation : List ℕ → SingleFields → SingleFields
-withLocation location f = record { version = f .version; uuid = f .uuid; location = location; lastUpdated = f .lastUpdated; lastSequence = f .lastSequence; nextRow = f .nextRow; lastColumn = f .lastColumn; current = f .current; currentSchema = f .currentSchema; defaultOrder = f .defaultOrder }
+withLocation location f = record { version = f .version; uuid = f .uuid; location = location; lastUpdated = f .lastUpdated; lastSequence = f .lastSequence; nextRow = f .nextRow; lastColumn = f .lastColumn; current = f .current; currentSchema = f .currentSchema; defaultOrder = f .defaultOrder; defaultSpec = f .defaultSpec; lastPartition = f .lastPartition }
 
 abbrev pub withLastUpdated : ℤ → SingleFields → SingleFields
-withLastUpdated time f = record { version = f .version; uuid = f .uuid; location = f .location; lastUpdated = time; lastSequence = f .lastSequence; nextRow = f .nextRow; lastColumn = f .lastColumn; current = f .current; currentSchema = f .currentSchema; defaultOrder = f .defaultOrder }
+withLastUpdated time f = record { version = f .version; uuid = f .uuid; location = f .location; lastUpdated = time; lastSequence = f .lastSequence; nextRow = f .nextRow; lastColumn = f .lastColumn; current = f .current; currentSchema = f .currentSchema; defaultOrder = f .defaultOrder; defaultSpec = f .defaultSpec; lastPartition = f .lastPartition }
 
 abbrev pub withLastSequence : SequenceNumber → RowId → SingleFields → SingleFields
-withLastSequence sequence next f = record { version = f .version; uuid = f .uuid; location = f .location; lastUpdated = f .lastUpdated; lastSequence = sequence; nextRow = next; lastColumn = f .lastColumn; current = f .current; currentSchema = f .currentSchema; defaultOrder = f .defaultOrder }
+withLastSequence sequence next f = record { version = f .version; uuid = f .uuid; location = f .location; lastUpdated = f .lastUpdated; lastSequence = sequence; nextRow = next; lastColumn = f .lastColumn; current = f .current; currentSchema = f .currentSchema; defaultOrder = f .defaultOrder; defaultSpec = f .defaultSpec; lastPartition = f .lastPartition }
 
 abbrev pub withCurrent : Option ℤ → SingleFields → SingleFields
-withCurrent current f = record { version = f .version; uuid = f .uuid; location = f .location; lastUpdated = f .lastUpdated; lastSequence = f .lastSequence; nextRow = f .nextRow; lastColumn = f .lastColumn; current = current; currentSchema = f .currentSchema; defaultOrder = f .defaultOrder }
+withCurrent current f = record { version = f .version; uuid = f .uuid; location = f .location; lastUpdated = f .lastUpdated; lastSequence = f .lastSequence; nextRow = f .nextRow; lastColumn = f .lastColumn; current = current; currentSchema = f .currentSchema; defaultOrder = f .defaultOrder; defaultSpec = f .defaultSpec; lastPartition = f .lastPartition }
 
 abbrev pub withLastColumn : ℤ → SingleFields → SingleFields
-withLastColumn column f = record { version = f .version; uuid = f .uuid; location = f .location; lastUpdated = f .lastUpdated; lastSequence = f .lastSequence; nextRow = f .nextRow; lastColumn = column; current = f .current; currentSchema = f .currentSchema; defaultOrder = f .defaultOrder }
+withLastColumn column f = record { version = f .version; uuid = f .uuid; location = f .location; lastUpdated = f .lastUpdated; lastSequence = f .lastSequence; nextRow = f .nextRow; lastColumn = column; current = f .current; currentSchema = f .currentSchema; defaultOrder = f .defaultOrder; defaultSpec = f .defaultSpec; lastPartition = f .lastPartition }
 
 abbrev pub withCurrentSchema : ℤ → SingleFields → SingleFields
-withCurrentSchema id f = record { version = f .version; uuid = f .uuid; location = f .location; lastUpdated = f .lastUpdated; lastSequence = f .lastSequence; nextRow = f .nextRow; lastColumn = f .lastColumn; current = f .current; currentSchema = id; defaultOrder = f .defaultOrder }
+withCurrentSchema id f = record { version = f .version; uuid = f .uuid; location = f .location; lastUpdated = f .lastUpdated; lastSequence = f .lastSequence; nextRow = f .nextRow; lastColumn = f .lastColumn; current = f .current; currentSchema = id; defaultOrder = f .defaultOrder; defaultSpec = f .defaultSpec; lastPartition = f .lastPartition }
 
 abbrev pub withDefaultOrder : ℤ → SingleFields → SingleFields
-withDefaultOrder id f = record { version = f .version; uuid = f .uuid; location = f .location; lastUpdated = f .lastUpdated; lastSequence = f .lastSequence; nextRow = f .nextRow; lastColumn = f .lastColumn; current = f .current; currentSchema = f .currentSchema; defaultOrder = id }
+withDefaultOrder id f = record { version = f .version; uuid = f .uuid; location = f .location; lastUpdated = f .lastUpdated; lastSequence = f .lastSequence; nextRow = f .nextRow; lastColumn = f .lastColumn; current = f .current; currentSchema = f .currentSchema; defaultOrder = id; defaultSpec = f .defaultSpec; lastPartition = f .lastPartition }
+
+abbrev pub withDefaultSpec : ℤ → SingleFields → SingleFields
+withDefaultSpec id f = record { version = f .version; uuid = f .uuid; location = f .location; lastUpdated = f .lastUpdated; lastSequence = f .lastSequence; nextRow = f .nextRow; lastColumn = f .lastColumn; current = f .current; currentSchema = f .currentSchema; defaultOrder = f .defaultOrder; defaultSpec = id; lastPartition = f .lastPartition }
+
+abbrev pub withLastPartition : ℤ → SingleFields → SingleFields
+withLastPartition id f = record { version = f .version; uuid = f .uuid; location = f .location; lastUpdated = f .lastUpdated; lastSequence = f .lastSequence; nextRow = f .nextRow; lastColumn = f .lastColumn; current = f .current; currentSchema = f .currentSchema; defaultOrder = f .defaultOrder; defaultSpec = f .defaultSpec; lastPartition = id }
 
 abbrev pub withMetadata : Metadata → State → State
 withMetadata m st = record { metadata = m; own = st .own; added = st .added; log = st .log }

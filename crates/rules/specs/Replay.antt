@@ -3,7 +3,7 @@ use mathlib.Core.Bool.{Bool, false, not}
 use mathlib.Core.List.{List}
 use Rattle.rules.specs.Words.{keep, isEmpty}
 use Rattle.rules.specs.Register.{Update}
-use Rattle.rules.specs.Register.Update.{AssignUuid, UpgradeFormatVersion, SetLocation, AddSnapshot, SetBranchSnapshot, RemoveSnapshots, SetRef, RemoveRef, AddSchema, SetCurrentSchema, RemoveSchemas, AddSortOrder, SetDefaultSortOrder, SetStatistics, RemoveStatistics, NotFormed}
+use Rattle.rules.specs.Register.Update.{AssignUuid, UpgradeFormatVersion, SetLocation, AddSnapshot, SetBranchSnapshot, RemoveSnapshots, SetRef, RemoveRef, AddSchema, SetCurrentSchema, RemoveSchemas, AddSortOrder, SetDefaultSortOrder, SetStatistics, RemoveStatistics, AddPartitionSpec, SetDefaultPartitionSpec, RemovePartitionSpecs, NotFormed}
 
 -- it removes schemas, and names none
 abbrev pub isEmptySchemaRemoval : Update → Bool
@@ -22,6 +22,9 @@ isEmptySchemaRemoval (AddSortOrder o) = false
 isEmptySchemaRemoval (SetDefaultSortOrder id) = false
 isEmptySchemaRemoval (SetStatistics which f) = false
 isEmptySchemaRemoval (RemoveStatistics which id) = false
+isEmptySchemaRemoval (AddPartitionSpec o) = false
+isEmptySchemaRemoval (SetDefaultPartitionSpec id) = false
+isEmptySchemaRemoval (RemovePartitionSpecs ids) = false
 isEmptySchemaRemoval (NotFormed counts) = false
 
 -- the log without its schema removals that name no schema

@@ -1,4 +1,4 @@
--- The numbers of the replies: document 01, "Numbers of the replies".
+-- The numbers of the replies: document 01, "Numbers of the replies", and those that document 02 adds.
 use Prim.Native.Nat.{ℕ}
 
 abbrev pub accepted : ℕ
@@ -83,3 +83,19 @@ bufferTooShort = 25
 -- document 02, request (v): "a tolerance outside the range"
 abbrev pub toleranceOutside : ℕ
 toleranceOutside = 26
+
+-- document 02, request (ix): "31 name clash .., redundant field or one field id twice in a spec"
+abbrev pub nameClash : ℕ
+nameClash = 31
+
+-- "32 source missing or of the wrong type"
+abbrev pub sourceMisfit : ℕ
+sourceMisfit = 32
+
+-- "33 ids not sequential"
+abbrev pub idsNotSequential : ℕ
+idsNotSequential = 33
+
+-- "34 default spec removed"
+abbrev pub defaultSpecRemoved : ℕ
+defaultSpecRemoved = 34

@@ -12,7 +12,7 @@ use Rattle.rules.specs.Capacities.{listRoom}
 use Rattle.rules.specs.Window.{isOutside}
 use Rattle.rules.specs.Register.{Metadata, Update, Terms, State, Outcome}
 use Rattle.rules.specs.Register.Outcome.{Refused, Accepted}
-use Rattle.rules.specs.Register.Update.{AssignUuid, UpgradeFormatVersion, SetLocation, AddSnapshot, SetBranchSnapshot, RemoveSnapshots, SetRef, RemoveRef, AddSchema, SetCurrentSchema, RemoveSchemas, AddSortOrder, SetDefaultSortOrder, SetStatistics, RemoveStatistics, NotFormed}
+use Rattle.rules.specs.Register.Update.{AssignUuid, UpgradeFormatVersion, SetLocation, AddSnapshot, SetBranchSnapshot, RemoveSnapshots, SetRef, RemoveRef, AddSchema, SetCurrentSchema, RemoveSchemas, AddSortOrder, SetDefaultSortOrder, SetStatistics, RemoveStatistics, AddPartitionSpec, SetDefaultPartitionSpec, RemovePartitionSpecs, NotFormed}
 use Rattle.rules.specs.WellFormed.{metadataFormed, fileNameFormed}
 use Rattle.rules.specs.Updates.{updateNumber, effect}
 use Rattle.rules.specs.Close.{closeChecks, closed, expired}
@@ -34,6 +34,9 @@ weight (AddSortOrder o) = 1
 weight (SetDefaultSortOrder id) = 1
 weight (SetStatistics which f) = 1
 weight (RemoveStatistics which id) = 1
+weight (AddPartitionSpec o) = 1
+weight (SetDefaultPartitionSpec id) = 1
+weight (RemovePartitionSpecs ids) = 1
 weight (NotFormed counts) = counts
 
 -- "the sum is at most 64"
@@ -55,7 +58,7 @@ runFrom terms (u ∷ us) place st =
 
 -- nothing changed, nothing added, nothing logged yet
 abbrev pub started : Metadata → State
-started m = record { metadata = m; own = none; added = record { schema = none; order = none }; log = [] }
+started m = record { metadata = m; own = none; added = record { schema = none; order = none; spec = none }; log = [] }
 
 -- the close of a state, by what a change log says of snapshots
 unfoldable pub close : Terms → ℕ → List Update → State → Outcome

@@ -1,5 +1,6 @@
--- Schemas: document 01, "Rules for each update", **Add schema**, **Set schema** and **Remove schemas**.
+-- Schemas: document 01, "Rules for each update", **Add schema**, **Set schema** and **Remove schemas**; document 02, request (ix), on adding one.
 -- Each update has its checks, in 01's order, and its effect, which counts where no check fails.
+use Prim.Native.Nat.{ℕ}
 use mathlib.Core.Bool.{Bool, cond, not, _&&_}
 use mathlib.Core.List.{List, [], _∷_, map}
 use mathlib.Core.Option.{Option, none, some}
@@ -7,9 +8,9 @@ use lib.Dec.{eqb, leb}
 use lib.IntN.{ℤ, sucℤ}
 use lib.ListN.{length}
 use Rattle.rules.specs.Words.{eqZ, larger, isSome, orElse, someWith, any, keep, first, isEmpty, sameList, sameBytes, isIn, highest, put, Check}
-use Rattle.rules.specs.Replies.{nothingAdded, unknownId, currentSchemaRemoved, idsExhausted, tableFull}
+use Rattle.rules.specs.Replies.{nothingAdded, unknownId, currentSchemaRemoved, idsExhausted, tableFull, nameClash}
 use Rattle.rules.specs.Capacities.{schemaRoom, largestSchemaId}
-use Rattle.rules.specs.Register.{SchemaField, Schema, SchemaOffer, State, withSchemas, withMetadata, withAdded, withLastColumn, withCurrentSchema, onFields, logged, lastAdded}
+use Rattle.rules.specs.Register.{SchemaField, Schema, SchemaOffer, PartitionField, PartitionSpec, State, withSchemas, withMetadata, withAdded, withLastColumn, withCurrentSchema, onFields, logged, lastAdded}
 use Rattle.rules.specs.Register.Update.{AddSchema, SetCurrentSchema, RemoveSchemas}
 use Rattle.rules.specs.WellFormed.{fieldIds, schemaBelow, hasSchema}
 
@@ -27,16 +28,32 @@ abbrev pub schemaIds : List Schema → List ℤ
 schemaIds l = map (λ (s : Schema). s .id) l
 
 abbrev pub addedSchema : ℤ → State → State
-addedSchema id st = withAdded (record { schema = some id; order = st .added .order }) st
+addedSchema id st = withAdded (record { schema = some id; order = st .added .order; spec = st .added .spec }) st
+
+-- a field of a held schema has the name
+abbrev pub namesColumn : List Schema → List ℕ → Bool
+namesColumn l name = any (λ (s : Schema). any (λ (f : SchemaField). sameBytes (f .name) name) (s .fields)) l
+
+-- a field of a held spec has the name
+abbrev pub namesPartition : List PartitionSpec → List ℕ → Bool
+namesPartition l name = any (λ (s : PartitionSpec). any (λ (f : PartitionField). sameBytes (f .name) name) (s .fields)) l
+
+-- "Name clashes follow `validate_schema_field_names`": a name of the new schema is the name of a partition, and no schema had it before
+unfoldable pub isTaken : Schema → List Schema → List PartitionSpec → Bool
+isTaken s schemas specs = any (λ (f : SchemaField). namesPartition specs (f .name) && not (namesColumn schemas (f .name))) (s .fields)
 
 -- "else highest + 1 (18, 19)"
+abbrev pub newSchemaChecks : State → List Check
+newSchemaChecks st =
+    (eqZ (highest (schemaIds (st .metadata .schemas))) largestSchemaId, idsExhausted)
+    ∷ (leb schemaRoom (length (st .metadata .schemas)), tableFull)
+    ∷ []
+
+-- "31 name clash (also in adding a schema, before 18)"
 unfoldable pub addSchemaChecks : Schema → State → List Check
 addSchemaChecks s st =
-    cond (isSome (reusedSchema s (st .metadata .schemas)))
-    []
-    ((eqZ (highest (schemaIds (st .metadata .schemas))) largestSchemaId, idsExhausted)
-    ∷ (leb schemaRoom (length (st .metadata .schemas)), tableFull)
-    ∷ [])
+    (isTaken s (st .metadata .schemas) (st .metadata .specs), nameClash)
+    ∷ cond (isSome (reusedSchema s (st .metadata .schemas))) [] (newSchemaChecks st)
 
 -- "Reuse is logged, as offered, only if that id is not already the last added; either way it becomes so."
 abbrev pub reuseSchema : SchemaOffer → ℤ → State → State

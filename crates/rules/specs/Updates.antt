@@ -5,15 +5,16 @@ use mathlib.Core.List.{List, [], _∷_}
 use Rattle.rules.specs.Words.{firstOf, Check}
 use Rattle.rules.specs.Replies.{updateNotFormed}
 use Rattle.rules.specs.Register.{Update, Terms, State}
-use Rattle.rules.specs.Register.Update.{AssignUuid, UpgradeFormatVersion, SetLocation, AddSnapshot, SetBranchSnapshot, RemoveSnapshots, SetRef, RemoveRef, AddSchema, SetCurrentSchema, RemoveSchemas, AddSortOrder, SetDefaultSortOrder, SetStatistics, RemoveStatistics, NotFormed}
+use Rattle.rules.specs.Register.Update.{AssignUuid, UpgradeFormatVersion, SetLocation, AddSnapshot, SetBranchSnapshot, RemoveSnapshots, SetRef, RemoveRef, AddSchema, SetCurrentSchema, RemoveSchemas, AddSortOrder, SetDefaultSortOrder, SetStatistics, RemoveStatistics, AddPartitionSpec, SetDefaultPartitionSpec, RemovePartitionSpecs, NotFormed}
 use Rattle.rules.specs.WellFormed.{updateFormed}
-use Rattle.rules.specs.Offers.{offeredSchema, offerFormed}
+use Rattle.rules.specs.Offers.{offeredSchema, offerFormed, offeredSpec, specOfferFormed}
 use Rattle.rules.specs.SingleUpdates.{assignUuid, upgradeFormatVersionChecks, upgradeFormatVersion, setLocation}
 use Rattle.rules.specs.SnapshotUpdates.{addSnapshotChecks, addSnapshot, removeSnapshots}
 use Rattle.rules.specs.RefUpdates.{setRefChecks, setRef, setBranchSnapshotChecks, setBranchSnapshot, removeRef}
 use Rattle.rules.specs.SchemaUpdates.{addSchemaChecks, addSchema, setCurrentSchemaChecks, setCurrentSchema, removeSchemasChecks, removeSchemas}
 use Rattle.rules.specs.OrderUpdates.{addSortOrderChecks, addSortOrder, setDefaultSortOrderChecks, setDefaultSortOrder}
 use Rattle.rules.specs.StatisticsUpdates.{setStatisticsChecks, setStatistics, removeStatistics}
+use Rattle.rules.specs.SpecUpdates.{addPartitionSpecChecks, addPartitionSpec, setDefaultPartitionSpecChecks, setDefaultPartitionSpec, removePartitionSpecsChecks, removePartitionSpecs}
 
 -- the checks of an update beside its own form; what it offers has its form in the offers, which is asked first
 unfoldable pub checks : Terms → Update → State → List Check
@@ -32,6 +33,9 @@ checks terms (AddSortOrder o) st = addSortOrderChecks o st
 checks terms (SetDefaultSortOrder id) st = setDefaultSortOrderChecks id st
 checks terms (SetStatistics which f) st = setStatisticsChecks which f st
 checks terms (RemoveStatistics which id) st = []
+checks terms (AddPartitionSpec o) st = (not (specOfferFormed (terms .offers) o), updateNotFormed) ∷ addPartitionSpecChecks (offeredSpec (terms .offers) o) st
+checks terms (SetDefaultPartitionSpec id) st = setDefaultPartitionSpecChecks id st
+checks terms (RemovePartitionSpecs ids) st = removePartitionSpecsChecks ids st
 checks terms (NotFormed counts) st = []
 
 -- "3 comes first within an update."
@@ -55,4 +59,7 @@ effect terms (AddSortOrder o) st = addSortOrder o st
 effect terms (SetDefaultSortOrder id) st = setDefaultSortOrder id st
 effect terms (SetStatistics which f) st = setStatistics which f st
 effect terms (RemoveStatistics which id) st = removeStatistics which id st
+effect terms (AddPartitionSpec o) st = addPartitionSpec o (offeredSpec (terms .offers) o) st
+effect terms (SetDefaultPartitionSpec id) st = setDefaultPartitionSpec id st
+effect terms (RemovePartitionSpecs ids) st = removePartitionSpecs ids st
 effect terms (NotFormed counts) st = st

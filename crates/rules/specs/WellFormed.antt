@@ -10,10 +10,11 @@ use lib.IntN.{ℤ, pos}
 use lib.Signed.{ltZ, leZ, nonNeg}
 use lib.ListN.{length}
 use Rattle.rules.specs.Words.{eqZ, isSome, ifSome, sameOption, all, any, first, isEmpty, unequalBy, sameBytes, unequal, ascending}
-use Rattle.rules.specs.Capacities.{snapshotRoom, refRoom, snapshotLogRoom, metadataLogRoom, schemaRoom, schemaFieldRoom, sortOrderRoom, sortFieldRoom, statisticsRoom, removalRoom, nameRoom, locationRoom, fileNameRoom}
+use Rattle.rules.specs.Capacities.{snapshotRoom, refRoom, snapshotLogRoom, metadataLogRoom, schemaRoom, schemaFieldRoom, sortOrderRoom, sortFieldRoom, specRoom, partitionFieldRoom, statisticsRoom, removalRoom, nameRoom, locationRoom, fileNameRoom}
 use Rattle.rules.specs.Names.{nameBelow, isMain}
-use Rattle.rules.specs.Register.{Snapshot, Reference, NamedRef, LogEntry, FileEntry, SchemaField, Schema, SortField, SortOrder, StatisticsFile, SingleFields, Metadata, Update, lastAdded}
-use Rattle.rules.specs.Register.Update.{AssignUuid, UpgradeFormatVersion, SetLocation, AddSnapshot, SetBranchSnapshot, RemoveSnapshots, SetRef, RemoveRef, AddSchema, SetCurrentSchema, RemoveSchemas, AddSortOrder, SetDefaultSortOrder, SetStatistics, RemoveStatistics, NotFormed}
+use Rattle.rules.specs.Register.{Snapshot, Reference, NamedRef, LogEntry, FileEntry, SchemaField, Schema, SortField, SortOrder, PartitionField, PartitionSpec, SpecOffer, StatisticsFile, SingleFields, Metadata, Update, lastAdded}
+use Rattle.rules.specs.Register.Update.{AssignUuid, UpgradeFormatVersion, SetLocation, AddSnapshot, SetBranchSnapshot, RemoveSnapshots, SetRef, RemoveRef, AddSchema, SetCurrentSchema, RemoveSchemas, AddSortOrder, SetDefaultSortOrder, SetStatistics, RemoveStatistics, AddPartitionSpec, SetDefaultPartitionSpec, RemovePartitionSpecs, NotFormed}
+use Rattle.rules.specs.Partitions.{identity, day, bucket, isRedundant, partitionNames, partitionIds}
 
 -- ---- the bounds that records and updates share
 
@@ -97,6 +98,32 @@ offeredOrderFormed o = nonNeg (o .id) && leb (length (o .fields)) sortFieldRoom 
 abbrev pub orderFormed : SortOrder → Bool
 orderFormed o = offeredOrderFormed o && Bool·beq (isEmpty (o .fields)) (eqZ (o .id) (pos 0))
 
+-- a bucket has a number of at least 1, and no other transform has one
+abbrev pub transformFormed : ℕ → ℤ → Bool
+transformFormed t buckets = (leb identity t && leb t day && eqZ buckets (pos 0)) || (eqb t bucket && atLeastOne buckets)
+
+-- field ids are at least 1, and a partition has a name
+abbrev pub partitionFieldFormed : PartitionField → Bool
+partitionFieldFormed f =
+    atLeastOne (f .source)
+    && ifSome atLeastOne (f .id)
+    && transformFormed (f .transform) (f .buckets)
+    && leb 1 (length (f .name))
+    && nameFormed (f .name)
+
+-- a spec that is offered
+abbrev pub offeredSpecFormed : PartitionSpec → Bool
+offeredSpecFormed s = nonNeg (s .id) && leb (length (s .fields)) partitionFieldRoom && all partitionFieldFormed (s .fields)
+
+-- one that is held: every field has an id, and what 31 refuses in adding a spec does not stand in it: two equal names, one field id twice, a redundant field
+abbrev pub specFormed : PartitionSpec → Bool
+specFormed s =
+    offeredSpecFormed s
+    && all (λ (f : PartitionField). isSome (f .id)) (s .fields)
+    && unequalBy sameBytes (partitionNames s)
+    && unequal (partitionIds s)
+    && unequalBy isRedundant (s .fields)
+
 -- a statistics file: "snapshot id, path up to 96 bytes, size", and neither number is below 0
 abbrev pub statisticsFileFormed : StatisticsFile → Bool
 statisticsFileFormed f = nonNeg (f .snapshot) && fileNameFormed (f .path) && nonNeg (f .size)
@@ -118,6 +145,9 @@ orderBelow a b = ltZ (a .id) (b .id)
 abbrev pub statisticsBelow : StatisticsFile → StatisticsFile → Bool
 statisticsBelow a b = ltZ (a .snapshot) (b .snapshot)
 
+abbrev pub specBelow : PartitionSpec → PartitionSpec → Bool
+specBelow a b = ltZ (a .id) (b .id)
+
 unfoldable pub snapshotsFormed : List Snapshot → Bool
 snapshotsFormed l = leb (length l) snapshotRoom && all snapshotFormed l && ascending snapshotBelow l
 
@@ -138,6 +168,9 @@ ordersFormed l = leb (length l) sortOrderRoom && all orderFormed l && ascending 
 
 unfoldable pub statisticsFormed : List StatisticsFile → Bool
 statisticsFormed l = leb (length l) statisticsRoom && all statisticsFileFormed l && ascending statisticsBelow l
+
+unfoldable pub specsFormed : List PartitionSpec → Bool
+specsFormed l = leb (length l) specRoom && all specFormed l && ascending specBelow l
 
 -- ---- what metadata says of itself
 
@@ -171,6 +204,9 @@ hasSchema id s = eqZ (s .id) id
 abbrev pub hasOrder : ℤ → SortOrder → Bool
 hasOrder id o = eqZ (o .id) id
 
+abbrev pub hasSpec : ℤ → PartitionSpec → Bool
+hasSpec id s = eqZ (s .id) id
+
 -- "The current schema and default order exist."
 unfoldable pub currentSchemaHeld : Metadata → Bool
 currentSchemaHeld m = any (hasSchema (m .fields .currentSchema)) (m .schemas)
@@ -178,9 +214,13 @@ currentSchemaHeld m = any (hasSchema (m .fields .currentSchema)) (m .schemas)
 unfoldable pub defaultOrderHeld : Metadata → Bool
 defaultOrderHeld m = any (hasOrder (m .fields .defaultOrder)) (m .orders)
 
--- the single fields by themselves; sequence numbers "are at least 0"
+-- so does the default spec
+unfoldable pub defaultSpecHeld : Metadata → Bool
+defaultSpecHeld m = any (hasSpec (m .fields .defaultSpec)) (m .specs)
+
+-- the single fields by themselves; sequence numbers "are at least 0", and so is the last partition id
 unfoldable pub fieldsFormed : SingleFields → Bool
-fieldsFormed f = versionFormed (f .version) && locationFormed (f .location) && nonNeg (f .lastSequence .0)
+fieldsFormed f = versionFormed (f .version) && locationFormed (f .location) && nonNeg (f .lastSequence .0) && nonNeg (f .lastPartition)
 
 -- every part, in the order of the tables
 unfoldable pub metadataFormed : Metadata → Bool
@@ -193,17 +233,23 @@ metadataFormed m =
     && ordersFormed (m .orders)
     && statisticsFormed (m .statistics)
     && statisticsFormed (m .partitionStatistics)
+    && specsFormed (m .specs)
     && fieldsFormed (m .fields)
     && refsHeld m
     && mainAgrees m
     && currentSchemaHeld m
     && defaultOrderHeld m
+    && defaultSpecHeld m
 
 -- ---- updates
 
 -- "ids in one removal 16"
 abbrev pub removalFormed : List ℤ → Bool
 removalFormed ids = leb (length ids) removalRoom && all nonNeg ids
+
+-- what is asked of an offered spec before its fields are read: its "own id need only be at least 0", and a field id that is there is at least 1
+abbrev pub offeredIdsFormed : SpecOffer → Bool
+offeredIdsFormed o = nonNeg (o .id) && leb (length (o .ids)) partitionFieldRoom && all (ifSome atLeastOne) (o .ids)
 
 -- "-1 stands for last added only in setting the schema or default order"
 abbrev pub choiceFormed : ℤ → Bool
@@ -226,4 +272,7 @@ updateFormed (AddSortOrder o) = offeredOrderFormed o
 updateFormed (SetDefaultSortOrder id) = choiceFormed id
 updateFormed (SetStatistics which f) = statisticsFileFormed f
 updateFormed (RemoveStatistics which id) = nonNeg id
+updateFormed (AddPartitionSpec o) = offeredIdsFormed o
+updateFormed (SetDefaultPartitionSpec id) = choiceFormed id
+updateFormed (RemovePartitionSpecs ids) = removalFormed ids
 updateFormed (NotFormed counts) = false

@@ -110,6 +110,12 @@ abbrev pub collect : {A B : Type 0} → (A → Option B) → List A → List B
 collect f [] = []
 collect f (x ∷ xs) = elim (f x) [ none ↦ collect f xs | some y ↦ y ∷ collect f xs ]
 
+-- what each of a list makes with the one that stands at its place in another
+abbrev pub pairUp : {A B C : Type 0} → (A → B → C) → List A → List B → List C
+pairUp f [] ys = []
+pairUp f (x ∷ xs) [] = []
+pairUp f (x ∷ xs) (y ∷ ys) = f x y ∷ pairUp f xs ys
+
 -- the same bytes
 abbrev pub sameBytes : List ℕ → List ℕ → Bool
 sameBytes = sameList eqb
@@ -126,6 +132,17 @@ unequal = unequalBy eqZ
 abbrev pub highest : List ℤ → ℤ
 highest [] = pos 0
 highest (x ∷ xs) = larger x (highest xs)
+
+-- the smaller of two numbers where both are there, else the one that is
+abbrev pub lesser : Option ℤ → Option ℤ → Option ℤ
+lesser none b = b
+lesser (some a) none = some a
+lesser (some a) (some b) = some (cond (ltZ b a) b a)
+
+-- the smallest number of a list, where it has one
+abbrev pub smallest : List ℤ → Option ℤ
+smallest [] = none
+smallest (x ∷ xs) = lesser (some x) (smallest xs)
 
 -- ---- tables by key: below says which of two elements comes first, so neither is below the other exactly if their keys are equal
 

@@ -1,3 +1,2 @@
 -- What the proofs of the updates of schemas together cite.
 mod Lent
-mod Last

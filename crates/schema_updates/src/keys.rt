@@ -1,7 +1,10 @@
-// The ids of the schemas, as a run holds them beside the table: the table is large, and what is handed over is copied.
+// The ids of the schemas and how many fields each has, as a run holds them beside the table: the table is large, and what is handed over is copied.
 ghost use mathlib.Core.Path.{_≡_};
 ghost use mathlib.Core.List.{List, [], _∷_, _++_};
 ghost use Prim.Native.Nat.{_<_};
+ghost use lib.Dec.{eqb};
+ghost use lib.ListN.{length};
+ghost use Rattle.rules.specs.Words.{any};
 ghost use Rattle.rules.specs.Capacities.{schemaRoom};
 ghost use Rattle.rules.specs.Register as plain;
 ghost use Rattle.rules.specs.WellFormed.{hasSchema};
@@ -16,12 +19,42 @@ use records::replies::ACCEPTED;
 use records::schema::Schemas;
 use search::position;
 use tables::keys::schema_key;
-use tables::schemas::ids_of;
 
 // In table order, and zeros after them.
 pub struct SchemaKeys {
     pub items: [i64; SCHEMAS],
+    pub sizes: [usize; SCHEMAS],
     pub count: usize,
+}
+
+fn no_keys() -> SchemaKeys
+    ensures { λ r. ⌜ KeysFit r ⌝ }
+    ensures { λ r. ⌜ r ≡ laidKeys [] ⌝ }
+{
+    let items = [0i64; SCHEMAS];
+    let sizes = [0usize; SCHEMAS];
+    SchemaKeys {
+        items,
+        sizes,
+        count: 0,
+    }
+}
+
+// One schema more at the end of the table.
+pub fn with_key(keys: SchemaKeys, id: SchemaId, size: usize) -> SchemaKeys
+    requires { ⌜ KeysFit keys ⌝ }
+    requires { ⌜ keys .count < schemaRoom ⌝ }
+    ensures { λ r. ⌜ KeysFit r ⌝ }
+    ensures { λ r. ⌜ ((l : List plain.Schema) (s : plain.Schema) → keys ≡ laidKeys l → s .id ≡ id .0 → length (s .fields) ≡ size → r ≡ laidKeys (l ++ (s ∷ []))) ⌝ }
+{
+    let n = keys.count;
+    let k = schema_key(id);
+    let x = k.0;
+    let mut r = keys;
+    r.items[n] = x;
+    r.sizes[n] = size;
+    r.count = n + 1;
+    r
 }
 
 pub fn keys_of(t: Schemas) -> SchemaKeys
@@ -29,9 +62,15 @@ pub fn keys_of(t: Schemas) -> SchemaKeys
     ensures { λ r. ⌜ KeysFit r ⌝ }
     ensures { λ r. ⌜ r ≡ laidKeys (readSchemas t) ⌝ }
 {
-    let count = t.count;
-    let items = ids_of(t);
-    SchemaKeys { items, count }
+    let n = t.count;
+    let mut r = no_keys();
+    let mut i = 0;
+    while i < n {
+        let s = t.items[i];
+        r = with_key(r, s.schema_id, s.count);
+        i += 1;
+    }
+    r
 }
 
 // Those of metadata that the start of a run accepts; none where it is refused.
@@ -43,24 +82,7 @@ pub fn keys_at_start(t: Schemas, number: u8) -> SchemaKeys
     if number == ACCEPTED {
         return keys_of(t);
     }
-    let items = [0i64; SCHEMAS];
-    SchemaKeys { items, count: 0 }
-}
-
-// One schema more at the end of the table.
-pub fn with_key(keys: SchemaKeys, id: SchemaId) -> SchemaKeys
-    requires { ⌜ KeysFit keys ⌝ }
-    requires { ⌜ keys .count < schemaRoom ⌝ }
-    ensures { λ r. ⌜ KeysFit r ⌝ }
-    ensures { λ r. ⌜ ((l : List plain.Schema) (s : plain.Schema) → keys ≡ laidKeys l → s .id ≡ id .0 → r ≡ laidKeys (l ++ (s ∷ []))) ⌝ }
-{
-    let n = keys.count;
-    let k = schema_key(id);
-    let x = k.0;
-    let mut r = keys;
-    r.items[n] = x;
-    r.count = n + 1;
-    r
+    no_keys()
 }
 
 // Where the current schema stands in the table.
@@ -73,4 +95,20 @@ pub fn current_place(b: TableMetadataBuilder, keys: SchemaKeys) -> usize
     let f = b.fields;
     let k = schema_key(f.current_schema_id);
     position(&ids[..n], k.0)
+}
+
+// A schema has so many fields.
+pub fn has_size(keys: SchemaKeys, size: usize) -> bool
+    requires { ⌜ KeysFit keys ⌝ }
+    ensures { λ r. ⌜ ((l : List plain.Schema) → keys ≡ laidKeys l → r ≡ any (λ s. eqb (length (s .fields)) size) l) ⌝ }
+{
+    let n = keys.count;
+    let mut found = false;
+    let mut i = 0;
+    while i < n {
+        let k = keys.sizes[i];
+        found = found | (k == size);
+        i += 1;
+    }
+    found
 }

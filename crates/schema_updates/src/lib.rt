@@ -1,5 +1,5 @@
 // Schemas: adding, choosing the current one, removing.
-// Document 01, "Rules for each update", as the crate `rules` writes it in SchemaUpdates.
+// Document 01, "Rules for each update", and of names that are taken document 02, request (ix), as the crate `rules` writes it in SchemaUpdates.
 ghost use mathlib.Core.Path.{_≡_};
 ghost use mathlib.Core.Bool.{true};
 ghost use lib.Dec.{ltb};
@@ -33,6 +33,7 @@ use records::counters::SchemaId;
 use records::replies::ACCEPTED;
 use records::replies::CURRENT_SCHEMA_REMOVED;
 use records::replies::IDS_EXHAUSTED;
+use records::replies::NAME_CLASH;
 use records::replies::TABLE_FULL;
 use records::replies::UPDATE_NOT_FORMED;
 use records::schema::Schema;
@@ -106,6 +107,7 @@ pub struct SchemaAdded {
     pub builder: TableMetadataBuilder,
 }
 
+// Of a schema none of whose names is taken.
 fn schema_addition(
     b: TableMetadataBuilder,
     keys: SchemaKeys,
@@ -208,12 +210,13 @@ fn held(keys: SchemaKeys, named: SchemaIds) -> SchemaIds
 
 // ---- the updates of a list
 
-// An offer that is not well formed is 3. The entry has the offer, under the id that a new schema gets. The first schema with its fields stands at `equal`;
-// none does where that is the number of schemas.
+// An offer that is not well formed is 3, and one with a name that is taken is 31. The entry has the offer, under the id that a new schema gets. The first
+// schema with its fields stands at `equal`; none does where that is the number of schemas.
 pub fn add_schema(
     b: TableMetadataBuilder,
     keys: SchemaKeys,
     equal: usize,
+    taken: bool,
     offered: OfferedSchema,
     u: TableUpdate,
 ) -> Decision
@@ -221,10 +224,13 @@ pub fn add_schema(
     requires { ⌜ LaidSchema (offered .schema) ⌝ }
     requires { ⌜ isTidyUpdate u ≡ true ⌝ }
     requires { ⌜ u .kind ≡ addSchemaKind ⌝ }
-    ensures { λ r. ⌜ SchemaDecided b keys equal offered u r ⌝ }
+    ensures { λ r. ⌜ SchemaDecided b keys equal taken offered u r ⌝ }
 {
     if !offered.formed {
         return decided(UPDATE_NOT_FORMED, false, b, u);
+    }
+    if taken {
+        return decided(NAME_CLASH, false, b, u);
     }
     let x = schema_addition(b, keys, equal, offered.schema);
     let c = x.builder;

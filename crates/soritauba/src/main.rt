@@ -1,7 +1,6 @@
 // soritauba COMMAND WORDS: the program. What a command has to say is in what it prints: it has no status of its own.
 // The crate `commands` goes through the words, the files and the pieces, and says what came of them; here stand the calls of the run.
 use case_reader::limit_text::LimitText;
-use case_reader::run::Run;
 use case_reader::run::read_ending;
 use case_reader::run::read_run;
 use commands::advance;
@@ -73,54 +72,40 @@ fn run_times(
     answer
 }
 
-fn ask(run: Run, offers: &[u8]) -> Answer {
-    let text = run.limit;
+// The run is handed on in its parts, and not whole, so that less stack is needed: each function that gets a record copies it.
+fn ask(
+    text: LimitText,
+    m: TableMetadata,
+    us: UpdateList,
+    terms: RunTerms,
+    offers: &[u8],
+) -> Answer {
     let bytes = text.bytes;
     let slots: &[u8] = &bytes;
     let len = lent(slots, text.len);
-    register::run(run.metadata, run.updates, run.terms, &slots[..len], offers)
+    register::run(m, us, terms, &slots[..len], offers)
 }
 
 // The run, or the close by itself, again and again.
-fn ask_again(wanted: usize, times: u64, run: Run, offers: &[u8]) -> Answer {
-    let text = run.limit;
+fn ask_again(
+    turn: Turn,
+    text: LimitText,
+    m: TableMetadata,
+    us: UpdateList,
+    terms: RunTerms,
+    offers: &[u8],
+) -> Answer {
     let bytes = text.bytes;
     let slots: &[u8] = &bytes;
     let len = lent(slots, text.len);
-    if wanted == CLOSED {
-        return close_alone::close(times, run.metadata, run.terms, &slots[..len]);
+    if turn.wanted == CLOSED {
+        return close_alone::close(turn.times, m, terms, &slots[..len]);
     }
-    run_times(
-        times,
-        run.metadata,
-        run.updates,
-        run.terms,
-        &slots[..len],
-        offers,
-    )
+    run_times(turn.times, m, us, terms, &slots[..len], offers)
 }
 
-// One run is asked apart from many, so that less stack is needed.
-fn put_run(turn: Turn, run: Run, offers: &[u8], output: &mut Output, end: &mut usize) {
-    if turn.times == 1 && turn.wanted == ASKED {
-        put_answer_of(output, end, run.given, ask(run, offers), offers);
-    } else {
-        put_answer_of(
-            output,
-            end,
-            run.given,
-            ask_again(turn.wanted, turn.times, run, offers),
-            offers,
-        );
-    }
-}
-
-fn say_run(number: usize, run: Run, offers: &[u8], output: &mut Output, end: &mut usize) {
-    say_asked(output, end, number, run, offers);
-    say_answer(output, end, run.terms, ask(run, offers), offers);
-}
-
-// Nothing is said before the whole run is read, so that no part of its answer stands above `bad input`.
+// Nothing is said before the whole run is read, so that no part of its answer stands above `bad input`. One run is asked apart from many, so that
+// less stack is needed.
 fn run(
     turn: Turn,
     input: &mut Input,
@@ -132,32 +117,52 @@ fn run(
     let run = read_run(turn.first, input, place, offers);
     if is_good(place) {
         if turn.command == RUN {
-            say_run(piece_of(place), run, &offers[..], output, end);
+            say_asked(output, end, piece_of(place), run, &offers[..]);
+            let answer = ask(run.limit, run.metadata, run.updates, run.terms, &offers[..]);
+            say_answer(output, end, run.terms, answer, &offers[..]);
+        } else if turn.times == 1 && turn.wanted == ASKED {
+            let answer = ask(run.limit, run.metadata, run.updates, run.terms, &offers[..]);
+            put_answer_of(output, end, run.given, answer, &offers[..]);
         } else {
-            put_run(turn, run, &offers[..], output, end);
+            let answer = ask_again(
+                turn,
+                run.limit,
+                run.metadata,
+                run.updates,
+                run.terms,
+                &offers[..],
+            );
+            put_answer_of(output, end, run.given, answer, &offers[..]);
         }
     }
 }
 
-fn judge(text: LimitText, run: Run, offers: &[u8], ending: TableMetadata) -> Verdict {
+fn judge(
+    text: LimitText,
+    m: TableMetadata,
+    us: UpdateList,
+    terms: RunTerms,
+    offers: &[u8],
+    ending: TableMetadata,
+) -> Verdict {
     let bytes = text.bytes;
     let slots: &[u8] = &bytes;
     let len = lent(slots, text.len);
-    verdict::judge(
-        run.metadata,
-        run.updates,
-        run.terms,
-        &slots[..len],
-        offers,
-        ending,
-    )
+    verdict::judge(m, us, terms, &slots[..len], offers, ending)
 }
 
 // What was read of a bad question is judged too, and its verdict is not said.
 fn read_judged(first: u64, input: &mut Input, place: &mut Place, offers: &mut [u8]) -> Judged {
     let run = read_run(first, input, place, offers);
     let ending = read_ending(run.given, input, place);
-    let verdict = judge(run.limit, run, &offers[..], ending);
+    let verdict = judge(
+        run.limit,
+        run.metadata,
+        run.updates,
+        run.terms,
+        &offers[..],
+        ending,
+    );
     let fault = fault_of(verdict.number, run.metadata, run.terms);
     let difference = verdict.difference;
     let tolerance_ms = run.terms.tolerance_ms;
@@ -184,19 +189,25 @@ fn replay(
     }
 }
 
-// Of P10 the changes of the run are run too. No example offers anything.
-fn answer_of(step: usize) -> Answer {
-    let mut run = run_of(step);
-    if form_of(step) == CHANGES_OF_REPLAY {
-        let first = ask(run, b"");
-        let changes = first.changes;
-        run.updates = changes;
-    }
-    ask(run, b"")
+// What a run logs. No example offers anything.
+fn changes_of(m: TableMetadata, us: UpdateList, terms: RunTerms, limit: &[u8]) -> UpdateList {
+    let answer = register::run(m, us, terms, limit, b"");
+    answer.changes
 }
 
+// Of P10 the changes of the run are run too. Of that run the changes alone are kept, and not its answer beside the other, so that less stack is needed.
 fn show(step: usize, output: &mut Output, end: &mut usize) {
-    say_shown(output, end, form_of(step), answer_of(step));
+    let form = form_of(step);
+    let mut run = run_of(step);
+    let text = run.limit;
+    let bytes = text.bytes;
+    let slots: &[u8] = &bytes;
+    let len = lent(slots, text.len);
+    if form == CHANGES_OF_REPLAY {
+        run.updates = changes_of(run.metadata, run.updates, run.terms, &slots[..len]);
+    }
+    let answer = register::run(run.metadata, run.updates, run.terms, &slots[..len], b"");
+    say_shown(output, end, form, answer);
 }
 
 // What a step wants of the run.

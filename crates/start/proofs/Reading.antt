@@ -19,7 +19,7 @@ use Rattle.rules.specs.Register.Update.{AddSnapshot, SetBranchSnapshot, RemoveS
 use Rattle.rules.specs.WellFormed.{updateFormed}
 use Rattle.rules.specs.Run.{weight}
 use Rattle.rules.specs.Layout.{counted, readName, readSnapshot, readReference, readSnapshotIds}
-use Rattle.rules.specs.Kinds.{isTidyUpdate, kindWeight, atKind, readings, readKind, readUpdate, readUpdates, assignUuidKind, upgradeFormatVersionKind, setLocationKind, addSnapshotKind, setBranchSnapshotKind, removeSnapshotsKind, setRefKind, removeRefKind, addSchemaKind, setCurrentSchemaKind, removeSchemasKind, addSortOrderKind, setDefaultSortOrderKind, setStatisticsKind, removeStatisticsKind, setPartitionStatisticsKind, removePartitionStatisticsKind}
+use Rattle.rules.specs.Kinds.{isTidyUpdate, kindWeight, atKind, readings, readKind, readUpdate, readUpdates, assignUuidKind, upgradeFormatVersionKind, setLocationKind, addSnapshotKind, setBranchSnapshotKind, removeSnapshotsKind, setRefKind, removeRefKind, addSchemaKind, setCurrentSchemaKind, removeSchemasKind, addSortOrderKind, setDefaultSortOrderKind, setStatisticsKind, removeStatisticsKind, setPartitionStatisticsKind, removePartitionStatisticsKind, addPartitionSpecKind, setDefaultPartitionSpecKind, removePartitionSpecsKind}
 use Rattle.rules.proofs.Checks.{and-left, and-right, by-either, neither, by-test}
 use Rattle.rules.proofs.Slots.Relaid.{counted-take, length-counted}
 
@@ -39,7 +39,7 @@ read-tidy u t = rw t
 
 -- the kinds of updates
 abbrev pub kinds : List ℕ
-kinds = assignUuidKind ∷ upgradeFormatVersionKind ∷ setLocationKind ∷ addSnapshotKind ∷ setBranchSnapshotKind ∷ removeSnapshotsKind ∷ setRefKind ∷ removeRefKind ∷ addSchemaKind ∷ setCurrentSchemaKind ∷ removeSchemasKind ∷ addSortOrderKind ∷ setDefaultSortOrderKind ∷ setStatisticsKind ∷ removeStatisticsKind ∷ setPartitionStatisticsKind ∷ removePartitionStatisticsKind ∷ []
+kinds = assignUuidKind ∷ upgradeFormatVersionKind ∷ setLocationKind ∷ addSnapshotKind ∷ setBranchSnapshotKind ∷ removeSnapshotsKind ∷ setRefKind ∷ removeRefKind ∷ addSchemaKind ∷ setCurrentSchemaKind ∷ removeSchemasKind ∷ addSortOrderKind ∷ setDefaultSortOrderKind ∷ setStatisticsKind ∷ removeStatisticsKind ∷ setPartitionStatisticsKind ∷ removePartitionStatisticsKind ∷ addPartitionSpecKind ∷ setDefaultPartitionSpecKind ∷ removePartitionSpecsKind ∷ []
 
 -- of another kind nothing is read
 unknown : (k : ℕ) (l : List (ℕ × Update)) → any (eqb k) (map (λ (x : ℕ × Update). x .0) l) ≡ false → atKind k l ≡ NotFormed 1
@@ -74,16 +74,16 @@ module _ (u : TableUpdate) (f : updateFormed (readUpdate u) ≡ true) where
       (λ e. absurd (false≢true (sym (ap updateFormed (unknown (u .kind) (readings u) e)) ∙ formed-kind)))
 
   -- and so its kind is one of their numbers
-  pub bounds : (assignUuidKind ≤ u .kind) × (u .kind ≤ removePartitionStatisticsKind)
+  pub bounds : (assignUuidKind ≤ u .kind) × (u .kind ≤ removePartitionSpecsKind)
   bounds = go kinds known refl
     where
-      go : (l : List ℕ) → any (eqb (u .kind)) l ≡ true → all (λ x. leb assignUuidKind x && leb x removePartitionStatisticsKind) l ≡ true → (assignUuidKind ≤ u .kind) × (u .kind ≤ removePartitionStatisticsKind)
+      go : (l : List ℕ) → any (eqb (u .kind)) l ≡ true → all (λ x. leb assignUuidKind x && leb x removePartitionSpecsKind) l ≡ true → (assignUuidKind ≤ u .kind) × (u .kind ≤ removePartitionSpecsKind)
       go [] e h = absurd (false≢true e)
       go (x ∷ l) e h =
-          let k = and-left (leb assignUuidKind x && leb x removePartitionStatisticsKind) (all (λ x. leb assignUuidKind x && leb x removePartitionStatisticsKind) l) h in
+          let k = and-left (leb assignUuidKind x && leb x removePartitionSpecsKind) (all (λ x. leb assignUuidKind x && leb x removePartitionSpecsKind) l) h in
           by-either (eqb (u .kind) x) (any (eqb (u .kind)) l)
-          (λ t. rw (eqb-true (u .kind) x t) (leb-true assignUuidKind x (and-left (leb assignUuidKind x) (leb x removePartitionStatisticsKind) k), leb-true x removePartitionStatisticsKind (and-right (leb assignUuidKind x) (leb x removePartitionStatisticsKind) k)))
-          (λ t. go l t (and-right (leb assignUuidKind x && leb x removePartitionStatisticsKind) (all (λ x. leb assignUuidKind x && leb x removePartitionStatisticsKind) l) h))
+          (λ t. rw (eqb-true (u .kind) x t) (leb-true assignUuidKind x (and-left (leb assignUuidKind x) (leb x removePartitionSpecsKind) k), leb-true x removePartitionSpecsKind (and-right (leb assignUuidKind x) (leb x removePartitionSpecsKind) k)))
+          (λ t. go l t (and-right (leb assignUuidKind x && leb x removePartitionSpecsKind) (all (λ x. leb assignUuidKind x && leb x removePartitionSpecsKind) l) h))
           e
 
 -- ---- what it counts

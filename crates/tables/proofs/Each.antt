@@ -1,4 +1,4 @@
--- Each table and log as a kind of table, and so are the fields of a schema and of a sort order.
+-- Each table and log as a kind of table, and so are the fields of a schema, of a sort order and of a partition spec.
 use Prim.Native.Nat.{ℕ, _<_}
 use mathlib.Core.Path.{_≡_, refl, sym, ap, _∙_}
 use native.Mathlib.Omega.{arith}
@@ -7,11 +7,13 @@ use borrow.Author.Tests.{leb-true}
 use lib.Dec.{leb}
 use lib.IntN.{ℤ}
 use lib.ListN.{length, getD}
-use Rattle.records.specs.Blanks.{noSnapshotIds, noSchemaIds, noSnapshots, noRefs, noSchemas, noStatisticsFiles, noSnapshotId, noSchemaId, noSnapshot, noRef, noSchema, noSortOrder, noStatisticsFile, noLogEntry, noMetadataLogEntry, noSchemaField, noSortField}
+use Rattle.records.specs.Blanks.{noSnapshotIds, noSchemaIds, noSpecIds, noSnapshots, noRefs, noSchemas, noStatisticsFiles, noSnapshotId, noSchemaId, noSpecId, noSnapshot, noRef, noSchema, noSortOrder, noStatisticsFile, noLogEntry, noMetadataLogEntry, noSchemaField, noSortField, noPartitionField, noPartitionSpec, noPartitionSpecs}
 use Rattle.records.specs.declared.counters.SnapshotId.{SnapshotId}
 use Rattle.records.specs.declared.counters.SchemaId.{SchemaId}
+use Rattle.records.specs.declared.counters.SpecId.{SpecId}
 use Rattle.records.specs.declared.snapshot.SnapshotIds.{SnapshotIds}
 use Rattle.records.specs.declared.schema.SchemaIds.{SchemaIds}
+use Rattle.records.specs.declared.partition.SpecIds.{SpecIds}
 use Rattle.records.specs.declared.snapshot.Snapshot.{Snapshot}
 use Rattle.records.specs.declared.snapshot.Snapshots.{Snapshots}
 use Rattle.records.specs.declared.snapshot.SnapshotLogEntry.{SnapshotLogEntry}
@@ -24,15 +26,18 @@ use Rattle.records.specs.declared.schema.SchemaField.{SchemaField}
 use Rattle.records.specs.declared.«sort_order».SortField.{SortField}
 use Rattle.records.specs.declared.«sort_order».SortOrder.{SortOrder}
 use Rattle.records.specs.declared.«sort_order».SortOrders.{SortOrders}
+use Rattle.records.specs.declared.partition.PartitionField.{PartitionField}
+use Rattle.records.specs.declared.partition.PartitionSpec.{PartitionSpec}
+use Rattle.records.specs.declared.partition.PartitionSpecs.{PartitionSpecs}
 use Rattle.records.specs.declared.statistics.StatisticsFile.{StatisticsFile}
 use Rattle.records.specs.declared.statistics.StatisticsFiles.{StatisticsFiles}
 use Rattle.records.specs.declared.metadata.MetadataLogEntry.{MetadataLogEntry}
 use Rattle.records.specs.declared.metadata.MetadataLog.{MetadataLog}
 use Rattle.rules.specs.Register as plain
-use Rattle.rules.specs.Capacities.{nameRoom, removalRoom, snapshotRoom, refRoom, schemaRoom, sortOrderRoom, statisticsRoom, snapshotLogRoom, metadataLogRoom, schemaFieldRoom, sortFieldRoom}
-use Rattle.rules.specs.Layout.{readSnapshotIds, laidSnapshotIds, readSchemaIds, laidSchemaIds, readSnapshot, laidSnapshot, laidSnapshots, readRef, laidRef, laidRefs, readSchema, laidSchema, laidSchemas, readSortOrder, laidSortOrder, laidSortOrders, readStatisticsFile, laidStatisticsFile, laidStatistics, readLogEntry, laidLogEntry, laidSnapshotLog, readMetadataLogEntry, laidMetadataLogEntry, laidMetadataLog, readSchemaField, laidSchemaField, readSortField, laidSortField}
-use Rattle.rules.proofs.Slots.Reread.{reread-snapshot-ids, reread-schema-ids}
-use Rattle.tables.specs.Laid.{LaidName, LaidRef, LaidSnapshotIds, LaidSchemaIds, LaidSnapshots, LaidRefs, LaidSchemas, LaidOrders, LaidStatistics, LaidSnapshotLog, LaidMetadataLog, LaidSchema, LaidOrder}
+use Rattle.rules.specs.Capacities.{nameRoom, removalRoom, snapshotRoom, refRoom, schemaRoom, sortOrderRoom, statisticsRoom, snapshotLogRoom, metadataLogRoom, schemaFieldRoom, sortFieldRoom, specRoom, partitionFieldRoom}
+use Rattle.rules.specs.Layout.{readSnapshotIds, laidSnapshotIds, readSchemaIds, laidSchemaIds, readSpecIds, laidSpecIds, readSnapshot, laidSnapshot, laidSnapshots, readRef, laidRef, laidRefs, readSchema, laidSchema, laidSchemas, readSortOrder, laidSortOrder, laidSortOrders, readStatisticsFile, laidStatisticsFile, laidStatistics, readLogEntry, laidLogEntry, laidSnapshotLog, readMetadataLogEntry, laidMetadataLogEntry, laidMetadataLog, readSchemaField, laidSchemaField, readSortField, laidSortField, readPartitionField, laidPartitionField, readPartitionSpec, laidPartitionSpec, laidPartitionSpecs}
+use Rattle.rules.proofs.Slots.Reread.{reread-snapshot-ids, reread-schema-ids, reread-spec-ids}
+use Rattle.tables.specs.Laid.{LaidName, LaidRef, LaidSnapshotIds, LaidSchemaIds, LaidSpecIds, LaidSnapshots, LaidRefs, LaidSchemas, LaidOrders, LaidStatistics, LaidSnapshotLog, LaidMetadataLog, LaidSchema, LaidOrder, LaidSpec, LaidSpecs}
 use Rattle.tables.proofs.Table.{Kind, Tidy, Made, read-length, each-at, element-back}
 
 abbrev pub snapshotIds : Kind
@@ -56,6 +61,17 @@ tidy-schema-ids h = record { slots = ap (λ (t : SchemaIds). t .items) (sym (h .
 pub made-schema-ids : Made schemaIds laidSchemaIds
 unfolding laidSchemaIds
 made-schema-ids = record { laid-items = λ l. refl; laid-count = λ l. refl; same = λ p q i. record { items = p i; count = q i } }
+
+abbrev pub specIds : Kind
+specIds = record { Slot = SpecId; Plain = ℤ; Whole = SpecIds; room = removalRoom; blank = noSpecId; read = λ x. x .0; lay = λ z. record { 0 = z }; items = λ t. t .items; count = λ t. t .count }
+
+pub tidy-spec-ids : {t : SpecIds} → LaidSpecIds t → Tidy specIds t
+unfolding laidSpecIds
+tidy-spec-ids h = record { slots = ap (λ (t : SpecIds). t .items) (sym (h .back)); fits = h .fits }
+
+pub made-spec-ids : Made specIds laidSpecIds
+unfolding laidSpecIds
+made-spec-ids = record { laid-items = λ l. refl; laid-count = λ l. refl; same = λ p q i. record { items = p i; count = q i } }
 
 abbrev pub snapshots : Kind
 snapshots = record { Slot = Snapshot; Plain = plain.Snapshot; Whole = Snapshots; room = snapshotRoom; blank = noSnapshot; read = readSnapshot; lay = laidSnapshot; items = λ t. t .items; count = λ t. t .count }
@@ -100,6 +116,17 @@ tidy-sort-orders h = record { slots = ap (λ (t : SortOrders). t .items) (sym (h
 pub made-sort-orders : Made sortOrders laidSortOrders
 unfolding laidSortOrders
 made-sort-orders = record { laid-items = λ l. refl; laid-count = λ l. refl; same = λ p q i. record { items = p i; count = q i } }
+
+abbrev pub partitionSpecs : Kind
+partitionSpecs = record { Slot = PartitionSpec; Plain = plain.PartitionSpec; Whole = PartitionSpecs; room = specRoom; blank = noPartitionSpec; read = readPartitionSpec; lay = laidPartitionSpec; items = λ t. t .items; count = λ t. t .count }
+
+pub tidy-partition-specs : {t : PartitionSpecs} → LaidSpecs t → Tidy partitionSpecs t
+unfolding laidPartitionSpecs
+tidy-partition-specs h = record { slots = ap (λ (t : PartitionSpecs). t .items) (sym (h .back)); fits = h .fits }
+
+pub made-partition-specs : Made partitionSpecs laidPartitionSpecs
+unfolding laidPartitionSpecs
+made-partition-specs = record { laid-items = λ l. refl; laid-count = λ l. refl; same = λ p q i. record { items = p i; count = q i } }
 
 abbrev pub statistics : Kind
 statistics = record { Slot = StatisticsFile; Plain = plain.StatisticsFile; Whole = StatisticsFiles; room = statisticsRoom; blank = noStatisticsFile; read = readStatisticsFile; lay = laidStatisticsFile; items = λ t. t .items; count = λ t. t .count }
@@ -148,6 +175,13 @@ pub tidy-sort-order : {t : SortOrder} → LaidOrder t → Tidy sortFields t
 unfolding laidSortOrder
 tidy-sort-order h = record { slots = ap (λ (t : SortOrder). t .items) (sym (h .back)); fits = h .fits }
 
+abbrev pub partitionFields : Kind
+partitionFields = record { Slot = PartitionField; Plain = plain.PartitionField; Whole = PartitionSpec; room = partitionFieldRoom; blank = noPartitionField; read = readPartitionField; lay = laidPartitionField; items = λ t. t .items; count = λ t. t .count }
+
+pub tidy-partition-spec : {t : PartitionSpec} → LaidSpec t → Tidy partitionFields t
+unfolding laidPartitionSpec
+tidy-partition-spec h = record { slots = ap (λ (t : PartitionSpec). t .items) (sym (h .back)); fits = h .fits }
+
 -- ---- what stands in a table is laid out from what is read of it, and fits
 
 pub name-of : {r : NamedRef} → LaidRef r → LaidName (r .name)
@@ -162,6 +196,9 @@ schema-at h i d b = record { back = element-back (tidy-schemas h) i d b; fits = 
 
 pub order-at : {t : SortOrders} → LaidOrders t → (i : ℕ) (d : SortOrder) → i < t .count → LaidOrder (getD (t .items) i d)
 order-at h i d b = record { back = element-back (tidy-sort-orders h) i d b; fits = leb-true _ _ (each-at (tidy-sort-orders h) i d b (λ (o : plain.SortOrder). leb (length (o .fields)) sortFieldRoom) (h .fields)) }
+
+pub spec-at : {t : PartitionSpecs} → LaidSpecs t → (i : ℕ) (d : PartitionSpec) → i < t .count → LaidSpec (getD (t .items) i d)
+spec-at h i d b = record { back = element-back (tidy-partition-specs h) i d b; fits = leb-true _ _ (each-at (tidy-partition-specs h) i d b (λ (s : plain.PartitionSpec). leb (length (s .fields)) partitionFieldRoom) (h .fields)) }
 
 -- ---- lists of ids that were laid out
 
@@ -185,6 +222,16 @@ room-schema-ids {r} l e f =
     let t : LaidSchemaIds r = record { back = ap laidSchemaIds q ∙ sym e; fits = omega arith } in
     (t, omega (arith, n, read-length (tidy-schema-ids t)))
 
+pub read-spec-ids : {r : SpecIds} (l : List ℤ) → r ≡ laidSpecIds l → readSpecIds r ≡ l
+read-spec-ids l e = ap readSpecIds e ∙ reread-spec-ids l
+
+pub room-spec-ids : {r : SpecIds} (l : List ℤ) → r ≡ laidSpecIds l → length l < removalRoom → LaidSpecIds r × (r .count < removalRoom)
+room-spec-ids {r} l e f =
+    let q = read-spec-ids l e in
+    let n : length (readSpecIds r) ≡ length l = ap length q in
+    let t : LaidSpecIds r = record { back = ap laidSpecIds q ∙ sym e; fits = omega arith } in
+    (t, omega (arith, n, read-length (tidy-spec-ids t)))
+
 -- ---- the blank tables
 
 pub none-snapshot-ids : noSnapshotIds ≡ laidSnapshotIds []
@@ -194,6 +241,10 @@ none-snapshot-ids = refl
 pub none-schema-ids : noSchemaIds ≡ laidSchemaIds []
 unfolding laidSchemaIds
 none-schema-ids = refl
+
+pub none-spec-ids : noSpecIds ≡ laidSpecIds []
+unfolding laidSpecIds
+none-spec-ids = refl
 
 pub none-snapshots : noSnapshots ≡ laidSnapshots []
 unfolding noSnapshots laidSnapshots
@@ -210,3 +261,7 @@ none-schemas = refl
 pub none-statistics : noStatisticsFiles ≡ laidStatistics []
 unfolding noStatisticsFiles laidStatistics
 none-statistics = refl
+
+pub none-partition-specs : noPartitionSpecs ≡ laidPartitionSpecs []
+unfolding noPartitionSpecs laidPartitionSpecs
+none-partition-specs = refl

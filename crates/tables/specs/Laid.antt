@@ -13,14 +13,17 @@ use Rattle.records.specs.declared.reference.Refs.{Refs}
 use Rattle.records.specs.declared.schema.Schema.{Schema}
 use Rattle.records.specs.declared.schema.Schemas.{Schemas}
 use Rattle.records.specs.declared.schema.SchemaIds.{SchemaIds}
+use Rattle.records.specs.declared.partition.SpecIds.{SpecIds}
 use Rattle.records.specs.declared.«sort_order».SortOrder.{SortOrder}
 use Rattle.records.specs.declared.«sort_order».SortOrders.{SortOrders}
+use Rattle.records.specs.declared.partition.PartitionSpec.{PartitionSpec}
+use Rattle.records.specs.declared.partition.PartitionSpecs.{PartitionSpecs}
 use Rattle.records.specs.declared.statistics.StatisticsFile.{StatisticsFile}
 use Rattle.records.specs.declared.statistics.StatisticsFiles.{StatisticsFiles}
 use Rattle.records.specs.declared.metadata.MetadataLog.{MetadataLog}
 use Rattle.rules.specs.Words.{all}
-use Rattle.rules.specs.Capacities.{snapshotRoom, refRoom, snapshotLogRoom, metadataLogRoom, schemaRoom, schemaFieldRoom, sortOrderRoom, sortFieldRoom, statisticsRoom, removalRoom, nameRoom}
-use Rattle.rules.specs.Layout.{readName, laidName, readSnapshots, laidSnapshots, readSnapshotIds, laidSnapshotIds, readSnapshotLog, laidSnapshotLog, readRef, laidRef, readRefs, laidRefs, readSchema, laidSchema, readSchemas, laidSchemas, readSchemaIds, laidSchemaIds, readSortOrder, laidSortOrder, readSortOrders, laidSortOrders, readStatisticsFile, laidStatisticsFile, readStatistics, laidStatistics, readMetadataLog, laidMetadataLog}
+use Rattle.rules.specs.Capacities.{snapshotRoom, refRoom, snapshotLogRoom, metadataLogRoom, schemaRoom, schemaFieldRoom, sortOrderRoom, sortFieldRoom, specRoom, partitionFieldRoom, statisticsRoom, removalRoom, nameRoom}
+use Rattle.rules.specs.Layout.{readName, laidName, readSnapshots, laidSnapshots, readSnapshotIds, laidSnapshotIds, readSnapshotLog, laidSnapshotLog, readRef, laidRef, readRefs, laidRefs, readSchema, laidSchema, readSchemas, laidSchemas, readSchemaIds, laidSchemaIds, readSpecIds, laidSpecIds, readSortOrder, laidSortOrder, readSortOrders, laidSortOrders, readPartitionSpec, laidPartitionSpec, readPartitionSpecs, laidPartitionSpecs, readStatisticsFile, laidStatisticsFile, readStatistics, laidStatistics, readMetadataLog, laidMetadataLog}
 use Rattle.rules.specs.Register as plain
 
 -- ---- texts
@@ -42,6 +45,10 @@ pub record LaidSchema (s : Schema) : Type 0 where
 pub record LaidOrder (o : SortOrder) : Type 0 where
   pub back : laidSortOrder (readSortOrder o) ≡ o
   pub fits : length (readSortOrder o .fields) ≤ sortFieldRoom
+
+pub record LaidSpec (s : PartitionSpec) : Type 0 where
+  pub back : laidPartitionSpec (readPartitionSpec s) ≡ s
+  pub fits : length (readPartitionSpec s .fields) ≤ partitionFieldRoom
 
 pub record LaidStatisticsFile (f : StatisticsFile) : Type 0 where
   pub back : laidStatisticsFile (readStatisticsFile f) ≡ f
@@ -67,6 +74,11 @@ pub record LaidOrders (t : SortOrders) : Type 0 where
   pub fits : length (readSortOrders t) ≤ sortOrderRoom
   pub fields : all (λ (o : plain.SortOrder). leb (length (o .fields)) sortFieldRoom) (readSortOrders t) ≡ true
 
+pub record LaidSpecs (t : PartitionSpecs) : Type 0 where
+  pub back : laidPartitionSpecs (readPartitionSpecs t) ≡ t
+  pub fits : length (readPartitionSpecs t) ≤ specRoom
+  pub fields : all (λ (s : plain.PartitionSpec). leb (length (s .fields)) partitionFieldRoom) (readPartitionSpecs t) ≡ true
+
 pub record LaidStatistics (t : StatisticsFiles) : Type 0 where
   pub back : laidStatistics (readStatistics t) ≡ t
   pub fits : length (readStatistics t) ≤ statisticsRoom
@@ -86,3 +98,7 @@ pub record LaidSnapshotIds (t : SnapshotIds) : Type 0 where
 pub record LaidSchemaIds (t : SchemaIds) : Type 0 where
   pub back : laidSchemaIds (readSchemaIds t) ≡ t
   pub fits : length (readSchemaIds t) ≤ removalRoom
+
+pub record LaidSpecIds (t : SpecIds) : Type 0 where
+  pub back : laidSpecIds (readSpecIds t) ≡ t
+  pub fits : length (readSpecIds t) ≤ removalRoom

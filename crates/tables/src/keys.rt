@@ -6,6 +6,7 @@ use records::counters::FieldId;
 use records::counters::SchemaId;
 use records::counters::SnapshotId;
 use records::counters::SortOrderId;
+use records::counters::SpecId;
 use search::Key;
 
 pub fn snapshot_key(id: SnapshotId) -> Key
@@ -43,6 +44,22 @@ pub fn schema_id(key: Key) -> SchemaId
 {
     let x = key.0;
     SchemaId(x as i32)
+}
+
+pub fn spec_key(id: SpecId) -> Key
+    ensures { λ r. ⌜ r .0 ≡ id .0 ⌝ }
+    ensures { λ r. ⌜ SFits w32 (r .0) ⌝ }
+{
+    let x = id.0;
+    Key(x as i64)
+}
+
+pub fn spec_id(key: Key) -> SpecId
+    requires { ⌜ SFits w32 (key .0) ⌝ }
+    ensures { λ r. ⌜ r .0 ≡ key .0 ⌝ }
+{
+    let x = key.0;
+    SpecId(x as i32)
 }
 
 pub fn field_key(id: FieldId) -> Key

@@ -4,6 +4,7 @@
 pub mod ids;
 pub mod keys;
 pub mod names;
+pub mod partition_specs;
 pub mod refs;
 pub mod schemas;
 pub mod snapshots;

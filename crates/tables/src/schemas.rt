@@ -1,22 +1,20 @@
 // The table of schemas.
 ghost use mathlib.Core.Path.{_≡_};
-ghost use Prim.Native.Nat.{ℕ, _≤_, _<_};
-ghost use mathlib.Core.Bool.{true, false, not};
-ghost use mathlib.Core.List.{_∷_, _++_};
+ghost use Prim.Native.Nat.{ℕ};
+ghost use mathlib.Core.Bool.{true, not};
 ghost use mathlib.Core.Option.{some};
 ghost use lib.IntN.{pos};
-ghost use lib.ListN.{getD, take, drop};
+ghost use lib.ListN.{getD};
 ghost use mir.Syntax.{w32};
 ghost use mir.Val.{SFits};
-ghost use Rattle.rules.specs.Words.{put as putBy, ascending, first, keep, isIn, sameList};
+ghost use Rattle.rules.specs.Words.{first, keep, isIn, sameList};
 ghost use Rattle.rules.specs.Capacities.{schemaRoom, schemaFieldRoom};
-ghost use Rattle.rules.specs.WellFormed.{schemaBelow, hasSchema, fieldIds};
-ghost use Rattle.rules.specs.SchemaUpdates.{holdsSchema, heldSchemas, sameSchemaField, schemaIds};
-ghost use Rattle.rules.specs.Layout.{pad, readSchema, readSchemas, laidSchemas, readSchemaIds, laidSchemaIds};
+ghost use Rattle.rules.specs.WellFormed.{hasSchema, fieldIds};
+ghost use Rattle.rules.specs.SchemaUpdates.{holdsSchema, sameSchemaField, schemaIds};
+ghost use Rattle.rules.specs.Layout.{pad, readSchema, readSchemas, laidSchemas, readSchemaIds};
 ghost use Rattle.search.specs.Places.{indexOf};
 ghost use Rattle.tables.specs.Laid.{LaidSchema, LaidSchemas, LaidSchemaIds};
 use crate::ids::has_schema;
-use crate::ids::push_schema;
 use crate::keys::field_key;
 use crate::keys::schema_key;
 use equality::read::same_fields;
@@ -27,7 +25,6 @@ use records::schema::Schema;
 use records::schema::SchemaIds;
 use records::schema::Schemas;
 use search::is_in;
-use search::place;
 use search::position;
 
 // The ids, in table order, and zeros after them.
@@ -112,42 +109,6 @@ pub fn find_equal(t: Schemas, s: Schema) -> usize
     n
 }
 
-fn insert_at(t: Schemas, at: usize, x: Schema) -> Schemas
-    requires { ⌜ LaidSchemas t ⌝ }
-    requires { ⌜ LaidSchema x ⌝ }
-    requires { ⌜ t .count < 16 ⌝ }
-    requires { ⌜ at ≤ t .count ⌝ }
-    ensures { λ r. ⌜ r ≡ laidSchemas (take at (readSchemas t) ++ (readSchema x ∷ drop at (readSchemas t))) ⌝ }
-{
-    let n = t.count;
-    let mut r = t;
-    let mut carried = x;
-    let mut i = at;
-    while i <= n {
-        let next = r.items[i];
-        r.items[i] = carried;
-        carried = next;
-        i += 1;
-    }
-    r.count = n + 1;
-    r
-}
-
-pub fn put(t: Schemas, s: Schema) -> Schemas
-    requires { ⌜ LaidSchemas t ⌝ }
-    requires { ⌜ LaidSchema s ⌝ }
-    requires { ⌜ t .count < 16 ⌝ }
-    requires { ⌜ holdsSchema (readSchemas t) (s .«schema_id» .0) ≡ false ⌝ }
-    ensures { λ r. ⌜ r ≡ laidSchemas (putBy schemaBelow (readSchema s) (readSchemas t)) ⌝ }
-{
-    let n = t.count;
-    let id = s.schema_id;
-    let ids = ids_of(t);
-    let k = schema_key(id);
-    let at = place(&ids[..n], k);
-    insert_at(t, at, s)
-}
-
 pub fn without(t: Schemas, ids: SchemaIds) -> Schemas
     requires { ⌜ LaidSchemas t ⌝ }
     requires { ⌜ LaidSchemaIds ids ⌝ }
@@ -164,26 +125,6 @@ pub fn without(t: Schemas, ids: SchemaIds) -> Schemas
             let k = r.count;
             r.items[k] = s;
             r.count = k + 1;
-        }
-    }
-    r
-}
-
-pub fn held(t: Schemas, ids: SchemaIds) -> SchemaIds
-    requires { ⌜ LaidSchemas t ⌝ }
-    requires { ⌜ LaidSchemaIds ids ⌝ }
-    requires { ⌜ ascending schemaBelow (readSchemas t) ≡ true ⌝ }
-    ensures { λ r. ⌜ r ≡ laidSchemaIds (heldSchemas (readSchemaIds ids) (readSchemas t)) ⌝ }
-{
-    let n = t.count;
-    let mut r = SchemaIds::blank();
-    let mut i = 0;
-    while i < n {
-        let s = t.items[i];
-        let x = s.schema_id;
-        i += 1;
-        if has_schema(ids, x) {
-            r = push_schema(r, x);
         }
     }
     r

@@ -2,3 +2,5 @@
 pub mod Run
 pub mod Moment
 pub mod Rows
+pub mod FieldIds
+pub mod Instances

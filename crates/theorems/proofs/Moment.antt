@@ -41,7 +41,7 @@ module _ (c : Call) where
 
 module _ (c : Call) (e : c .answered .number ≡ 0) where
   -- the rules accept, and lead to what is answered
-  accepted : run (under c) (before c) (asked c) ≡ Accepted (after c) (changes c) (readMetadataLog (c .answered .expired))
+  pub accepted : run (under c) (before c) (asked c) ≡ Accepted (after c) (changes c) (readMetadataLog (c .answered .expired))
   accepted =
       subst (λ (x : Answer). run (under c) (before c) (asked c) ≡ Accepted (readMetadata (x .metadata)) (readUpdates (x .changes)) (readMetadataLog (x .expired))) (sym (says c))
       (answer-read (start c) (updates c) (terms c) (lent c) (sym (ap (λ (x : Answer). x .number) (says c)) ∙ e))

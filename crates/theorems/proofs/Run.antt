@@ -1,11 +1,11 @@
 -- The entry point `run`: what its contract, as it stands in the source, says of its answers. A call is any arguments and any answer that the contract allows for them.
-use mathlib.Core.Path.{_≡_, sym, ap, subst, _∙_}
-use mathlib.Core.List.{List}
+use mathlib.Core.Path.{_≡_, refl, sym, ap, subst, _∙_}
+use mathlib.Core.List.{List, []}
 use Prim.Native.Nat.{ℕ}
 use base.Logic.{emp, id⊢}
 use borrow.Fn.Kinds.{Dens, endedOf}
 use contract.Lifetimes.{Lfts}
-use denote.Ref.{now}
+use denote.Ref.{RefT, now}
 use denote.Triple.Clauses.{AtExit}
 use Rattle.records.specs.declared.metadata.TableMetadata.{TableMetadata}
 use Rattle.records.specs.declared.update.UpdateList.{UpdateList}
@@ -48,6 +48,13 @@ module _ (c : Call) where
   pub says : c .answered ≡ answer start updates terms lent
   says = c .allowed
 
+-- whatever the arguments are, there is such a call
+abbrev pub callOf : TableMetadata → UpdateList → RunTerms → Lent → Call
+callOf m us t l =
+    let text : RefT (List ℕ) = record { ptr = (0, 0); name = 0; now = l .text } in
+    let offers : RefT (List ℕ) = record { ptr = (0, 0); name = 0; now = l .offers } in
+    record { lifetimes = ([], ([], tt)); given = (m, (us, (t, (text, (offers, tt))))); answered = answer m us t l; left = (m, (us, (t, (text, (offers, tt))))); allowed = refl }
+
 -- the same start, the same terms (clock reading, tolerance and file name), the same limit text and the same offers
 pub record Alike (c d : Call) : Type 0 where
   pub start : start d ≡ start c
@@ -66,7 +73,8 @@ run-asks-nothing M 𝓤 H A mem run κs a = (tt, id⊢ 𝓤 (emp 𝓤))
 pub run-unique : (c d : Call) → Alike c d → updates d ≡ updates c → d .answered ≡ c .answered
 run-unique c d a u = says d ∙ alike (a .start) u (a .terms) (a .lent) ∙ sym (says c)
 
--- the number is one of 0 to 23 and 26; 0, 1, 2 and 26 come with the place 0, 3 to 19 with that of an update of the list, 20 to 23 with the count of the list
+-- the number is one of 0 to 23, 26 and 31 to 34; 0, 1, 2 and 26 come with the place 0, 3 to 19, 33 and 34 with that of an update of the list, 20 to 23 with the count of
+-- the list, and 31 and 32 with at most that count: an update gives them, or the close
 pub run-reply : (c : Call) → Reply (updates c .count) (c .answered .number) (c .answered .place)
 run-reply c = subst (λ (x : Answer). Reply (updates c .count) (x .number) (x .place)) (sym (says c)) (answer-reply (start c) (updates c) (terms c) (lent c))
 

@@ -133,7 +133,7 @@ fn reply_answer(outcome: Outcome, line: impl Fn(&Reply) -> Line) -> Answer {
 
 /// Behind what every run answers stand the tables that it was given, as they are now.
 fn run_line(run: &Run, more: &More, reply: &Reply) -> Line {
-    let mut line = Line::for_answer();
+    let mut line = Line::for_run(more);
     let metadata = match reply {
         Ok(accepted) => {
             line.number(0).number(0).metadata(&accepted.metadata);
@@ -146,8 +146,8 @@ fn run_line(run: &Run, more: &More, reply: &Reply) -> Line {
             &run.metadata
         }
     };
-    for (_, files) in more.tables(metadata) {
-        line.statistics(files);
+    for (_, table) in more.tables(metadata) {
+        line.table(table);
     }
     line
 }

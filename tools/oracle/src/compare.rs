@@ -7,7 +7,7 @@ use std::collections::BTreeMap;
 use std::io::{self, BufRead, Write};
 
 use crate::answer::{Answer, answer};
-use crate::case::{Case, CaseReader, Update};
+use crate::case::{Case, CaseReader, More, Update};
 use crate::port::{self, Own};
 
 /// So many differences are shown.
@@ -31,6 +31,8 @@ struct Tally {
     other_tolerance: u64,
     /// Runs that are given a table of statistics files, or whose list has an update of one.
     statistics: u64,
+    /// The same of partition specs and schemas with names.
+    specs: u64,
     /// Cases that a published rule answers otherwise: by its mark, kind, reply number and whether that rule accepts.
     by_rule: BTreeMap<(Own, &'static str, Option<u8>, bool), u64>,
     different: u64,
@@ -88,9 +90,12 @@ impl Tally {
         }
         self.published_alone += expected.owns.is_empty() as u64;
         if let Some((run, tolerance)) = case.run() {
-            let given = matches!(case, Case::RunGiven(_, more) if more.has_tables());
-            let updated = run.updates.iter().any(Update::is_of_statistics);
-            self.statistics += (given || updated) as u64;
+            let given =
+                |has: fn(&More) -> bool| matches!(case, Case::RunGiven(_, more) if has(more));
+            let updated = |is_of: fn(&Update) -> bool| run.updates.iter().any(is_of);
+            let statistics = given(More::has_statistics) || updated(Update::is_of_statistics);
+            self.statistics += statistics as u64;
+            self.specs += (given(More::has_specs) || updated(Update::is_of_specs)) as u64;
             self.accepted_runs += (expected.number == Some(0)) as u64;
             self.other_tolerance += port::is_another_tolerance(tolerance) as u64;
         }
@@ -115,6 +120,7 @@ impl Tally {
             self.other_tolerance
         )?;
         writeln!(report, "runs with statistics files {}", self.statistics)?;
+        writeln!(report, "runs with specs or names {}", self.specs)?;
         writeln!(
             report,
             "decided by the published code alone {}",

@@ -1,7 +1,12 @@
 //! Picks a small list that shows what the given cases show: each reply, each update accepted with and without an entry in the log,
 //! each update refused with each number, each place where the answer rests on the wrapper, each reply beside what a published rule
 //! says that differs, each reply to a tolerance outside its bounds, what updates of statistics files meet or in what they are at fault,
-//! which tables of them are given; then versions, pairs and sizes.
+//! which tables of them are given, what updates of partition specs come to and why they are refused, which of the tags 4 and 5 are given;
+//! then versions, pairs and sizes.
+
+mod causes;
+mod faults;
+mod specs;
 
 use std::collections::{BTreeMap, BTreeSet};
 use std::io::{self, BufRead, Write};
@@ -13,6 +18,8 @@ use crate::case::{
 use crate::port::{self, Own, Owns};
 use crate::published::to_published as to;
 use crate::spec::TableMetadata;
+use crate::spec::table_metadata_builder::TableMetadataBuilder;
+use faults::Fault;
 
 /// A thing that a case can show. Those above `Version` come first.
 #[derive(Debug, Clone, Copy, PartialEq, Eq, PartialOrd, Ord)]
@@ -33,6 +40,13 @@ enum Shown {
     Statistics(Met),
     /// The kind of an update that is refused with a statistics file, and whether its snapshot id, its path or its size is at fault.
     Fault(u8, [bool; 3]),
+    /// What an update of specs or of a schema, or a close, shows of request (ix).
+    Specs(specs::Fact),
+    /// Whether schemas with names and specs are given, and the reply, if it is one that such a run aims at.
+    SpecTables(bool, bool, Option<u8>),
+    /// A fault of a start's schemas or specs (1), alone or not; or of an update of this kind (3).
+    StartFault(Part, Fault, bool),
+    UpdateFault(u8, Fault),
     /// A time window: its kind, its answer, and a place where that rests on the wrapper.
     Window(&'static str, bool, Option<Own>),
     /// The version of a run's start and the run's reply.
@@ -41,6 +55,12 @@ enum Shown {
     Pair(u8, u8),
     /// A reply, both kinds of runs being one, and the power of two that the case's length lies under.
     Size(&'static str, Option<u8>, u32),
+}
+
+#[derive(Debug, Clone, Copy, PartialEq, Eq, PartialOrd, Ord)]
+enum Part {
+    Schemas,
+    Specs,
 }
 
 /// A table of statistics files that may be given.
@@ -69,6 +89,9 @@ struct Met {
     /// The snapshot is held.
     held: bool,
 }
+
+/// The replies that runs about partition specs aim at.
+const AIMED: [u8; 11] = [0, 1, 3, 14, 15, 18, 19, 31, 32, 33, 34];
 
 struct Candidate {
     line: String,
@@ -115,6 +138,11 @@ fn candidate(case: Case) -> Candidate {
     }
     if let Case::RunGiven(run, more) = &case {
         shown.insert(tables_shown(run, more, answer.number == Some(0)));
+        let number = answer.number.filter(|number| AIMED.contains(number));
+        shown.insert(Shown::SpecTables(more.schemas, more.specs, number));
+        if answer.number == Some(1) {
+            shown.extend(start_faults(run));
+        }
     }
     if let Some((run, tolerance)) = case.run() {
         let formed = run.updates.iter().all(port::update_formed);
@@ -124,6 +152,17 @@ fn candidate(case: Case) -> Candidate {
         shown.extend(updates_shown(run, tolerance));
     }
     Candidate { line, shown }
+}
+
+fn start_faults(run: &Run) -> Vec<Shown> {
+    let schemas = faults::of_schemas(&run.metadata);
+    let specs = faults::of_specs(&run.metadata);
+    let alone = schemas.len() + specs.len() == 1;
+    let of = |part| move |fault| Shown::StartFault(part, fault, alone);
+    let of_schemas = schemas.into_iter().map(of(Part::Schemas));
+    of_schemas
+        .chain(specs.into_iter().map(of(Part::Specs)))
+        .collect()
 }
 
 fn tables_shown(run: &Run, more: &More, accepted: bool) -> Shown {
@@ -181,13 +220,19 @@ fn updates_shown(run: &Run, tolerance: i64) -> Vec<Shown> {
     for update in &run.updates {
         let logged = builder.logged();
         let met = met(builder.held(), update);
+        let before_it = builder.clone();
         builder = match port::step(builder, update, &mut owns) {
             Ok(builder) => builder,
             Err(number) => {
-                let refused = Shown::Refused(update.kind(), number);
-                return [refused].into_iter().chain(fault(update)).collect();
+                let refused = [Shown::Refused(update.kind(), number)].into_iter();
+                return refused
+                    .chain(fault(update))
+                    .chain(why_refused(&before_it, update, number))
+                    .collect();
             }
         };
+        let facts = specs::accepted(&before_it, update, &builder);
+        shown.extend(facts.into_iter().map(Shown::Specs));
         let logged = builder.logged() - logged;
         shown.push(Shown::Accepted(update.kind(), logged));
         shown.extend(met.map(Shown::Statistics));
@@ -195,10 +240,26 @@ fn updates_shown(run: &Run, tolerance: i64) -> Vec<Shown> {
         shown.extend(before.zip(here).map(|(a, b)| Shown::Pair(a, b)));
         before = here;
     }
-    match port::close(builder, &mut owns) {
+    match port::close(builder.clone(), &mut owns) {
         Ok(_) => shown,
+        Err(31 | 32) => specs::refused_close(&builder)
+            .into_iter()
+            .map(Shown::Specs)
+            .collect(),
         Err(_) => Vec::new(),
     }
+}
+
+/// Of request (ix).
+fn why_refused(builder: &TableMetadataBuilder, update: &Update, number: u8) -> Vec<Shown> {
+    if number == 3 {
+        let faults = faults::of_update(update).into_iter();
+        return faults
+            .map(|fault| Shown::UpdateFault(update.kind(), fault))
+            .collect();
+    }
+    let facts = specs::refused(builder, update, number).into_iter();
+    facts.map(Shown::Specs).collect()
 }
 
 /// Round by round one more case for each thing shown: by turns the shortest case and one of middle length.

@@ -11,7 +11,7 @@ use Rattle.builder.specs.Pieces.{idsOf}
 use Rattle.builder.proofs.Positions.{ids-ascend}
 use Rattle.close.specs.Facts.{additions, Told}
 use Rattle.refinement.specs.Standing.{Represents, termsOf}
-use Rattle.refinement.proofs.Beginning.{read-fields, read-snapshots, read-log, snapshots-ascend, laid-refs, laid-log, laid-schemas, laid-orders, schema-held, current-is, order-held}
+use Rattle.refinement.proofs.Beginning.{read-fields, read-snapshots, read-log, snapshots-ascend, laid-refs, laid-log, laid-schemas, laid-orders, laid-specs, schema-held, current-is, order-held, spec-held}
 use Rattle.refinement.proofs.Closed.{handed, files-laid, files-fit, gone-fits, overfull-is, joins-fit, checks}
 use Rattle.close_alone.proofs.Before.{removal, asked, pieces, state, stands}
 use Rattle.close_alone.proofs.close_once.Statement.{statement}
@@ -64,7 +64,7 @@ close-once-spec =
     (λ c κs. files-fit (E (c .before .before .before .before .before)))
     (λ c κs. (files-fit (E (start c)), gone-within c))
     (λ c κs. let e = E (start (c .before)) in (laid-schemas e, schema-held e))
-    (λ c κs. let e = E (start (c .before .before)) in (c .before .before .before .before .close-log .ensures .1, (laid-refs e, (c .get .ensures .1, (laid-orders e, order-held e)))))
+    (λ c κs. let e = E (start (c .before .before)) in (c .before .before .before .before .close-log .ensures .1, (laid-refs e, (c .get .ensures .1, (laid-orders e, (order-held e, (laid-specs e, spec-held e)))))))
     (λ c κs. search needs)
     (λ c. search needs)
     (λ c κs. let f = filing (c .before) in (files-laid (E (start f)), (search needs, gone-within f)))

@@ -22,7 +22,12 @@ first-difference-spec =
     (λ c κs. search needs)
     (λ c κs. search needs)
     (λ c κs. search needs)
-    (λ c. let l = c .before .before .before .before .before in let o = l .before .before in let s = o .before .before in
+    (λ c κs. search needs)
+    (λ c κs. search needs)
+    (λ c κs. search needs)
+    (λ c κs. search needs)
+    (λ c κs. search needs)
+    (λ c. let l = c .before .before .before .before .before in let o = l .before .before in let s = o .before .before in let p = s .before .before in
     rw (
       c .compare-fields .ensures,
       c .before .compare-snapshots .ensures,
@@ -30,11 +35,17 @@ first-difference-spec =
       c .before .before .before .compare-snapshot-log .ensures,
       c .before .before .before .before .compare-metadata-log .ensures,
       l .compare-schemas .ensures,
-      l .before .unless2 .ensures,
+      l .before .unless4 .ensures,
       o .compare-sort-orders .ensures,
-      o .before .unless .ensures,
+      o .before .unless3 .ensures,
       s .compare-statistics2 .ensures,
       s .before .compare-statistics .ensures,
-      s .before .before .same-schema .ensures,
-      s .before .before .before .same-order .ensures,
-    )))
+    ) (rw (
+      p .compare-partition-specs .ensures,
+      p .before .unless2 .ensures,
+      p .before .before .unless .ensures,
+      p .before .before .before .same-schema .ensures,
+      p .before .before .before .before .same-order .ensures,
+      p .before .before .before .before .before .same-spec .ensures,
+      p .before .before .before .before .before .before .same-field .ensures,
+    ))))

@@ -30,5 +30,5 @@ start-fault-spec =
     (λ c κs. search needs)
     (λ c. let u = c .before .before in let a = u .before .before .args in
     join (metadataFaults (a .m)) (fileFaults (a .terms)) (all-numbered (a .m)) (c .before .metadata-fault .ensures)
-    (u .unless .ensures ∙ ap (λ (b : Bool). cond (not b) 31 0) (name-fits (a .terms .«has_file») (a .terms .file)))
+    (u .unless .ensures ∙ ap (λ (b : Bool). cond (not b) 36 0) (name-fits (a .terms .«has_file») (a .terms .file)))
     (c .or-later .ensures)))

@@ -6,9 +6,10 @@ use mathlib.Core.Bool.{true}
 use mathlib.Core.List.{[]}
 use borrow.Author.Needs.{needs}
 use lib.ListN.{drop}
+use Rattle.rules.specs.Capacities.{fieldBytes}
 use Rattle.rules.specs.Offers.{fieldsOf, isTidyField}
 use Rattle.formed.proofs.Scans.{Scanned, scan-start, each, each-on, each-end}
-use Rattle.offers.proofs.Fields.{fields-length, part-length, part-field}
+use Rattle.offers.proofs.Pieces.{pieces-length, part-length, part-piece}
 use Rattle.offers.proofs.fields_tidy.Statement.{statement}
 use Rattle.offers.proofs.fields_tidy.Tie as tie
 
@@ -32,12 +33,12 @@ fields-tidy-spec =
     (λ c. search needs)
     (λ c. search needs)
     (λ c κs. let l = c .before .before in let s = l .before .before in let o = s .args .o in
-    part-length (s .args .bytes .now) (o .at) (o .count) (l .loop .i) (s .pre) (c .before .loop-test .taken))
+    part-length fieldBytes (s .args .bytes .now) (o .at) (o .count) (l .loop .i) (s .pre) (c .before .loop-test .taken))
     (λ c. search needs)
     (λ c. search needs)
     (λ c. let l = c .before .before .before in let s = l .before .before in let o = s .args .o in
     let b = c .before .before .loop-test .taken in
-    each-on (l .loop .inv) [] (omega (arith, b, fields-length (o .count) (drop (o .at) (s .args .bytes .now))))
-    (c .is-tidy-field .ensures ∙ ap isTidyField (part-field (s .args .bytes .now) (o .at) (o .count) (l .loop .i) (s .pre) b)))
+    each-on (l .loop .inv) [] (omega (arith, b, pieces-length fieldBytes (o .count) (drop (o .at) (s .args .bytes .now))))
+    (c .is-tidy-field .ensures ∙ ap isTidyField (part-piece fieldBytes (s .args .bytes .now) (o .at) (o .count) (l .loop .i) (s .pre) b)))
     (λ c. let s = c .before .before .before in let o = s .args .o in
-    each-end (c .before .loop .inv) (omega (arith, c .loop-test .left, fields-length (o .count) (drop (o .at) (s .args .bytes .now))))))
+    each-end (c .before .loop .inv) (omega (arith, c .loop-test .left, pieces-length fieldBytes (o .count) (drop (o .at) (s .args .bytes .now))))))

@@ -1,12 +1,7 @@
--- Each test that is left by is one of the two that the rule has; past all of them both hold.
-use Prim.Native.Nat.{_+_, _*_}
-use native.Mathlib.Omega.{arith}
-use mathlib.Core.Path.{sym}
-use mathlib.Core.Bool.{and-false}
+-- Where more are counted than there is room for, the rule's first test fails; else the second is left, which the code asks without the sum.
+use mathlib.Core.Path.{sym, _∙_}
 use borrow.Author.Needs.{needs}
 use borrow.Author.Tests.{le-leb, lt-leb}
-use lib.Dec.{leb}
-use Rattle.rules.specs.Capacities.{schemaFieldRoom, fieldBytes}
 use Rattle.offers.proofs.is_there.Statement.{statement}
 use Rattle.offers.proofs.is_there.Tie as tie
 
@@ -15,10 +10,6 @@ is-there-spec =
     tie.close
     (tie.spec
     (λ c. sym (rw (lt-leb _ _ (c .if1 .taken))))
-    (λ c. let a = c .before .before .args in
-    sym (rw (lt-leb (a .o .at + a .o .count * fieldBytes) (a .len) (omega arith)) (and-false (leb (a .o .count) schemaFieldRoom))))
     (λ c. search needs)
-    (λ c. let a = c .before .before .before .args in
-    sym (rw (lt-leb (a .o .at + a .o .count * fieldBytes) (a .len) (omega arith)) (and-false (leb (a .o .count) schemaFieldRoom))))
-    (λ c. let a = c .before .before .before .args in
-    sym (rw (le-leb (a .o .count) schemaFieldRoom (omega arith), le-leb (a .o .at + a .o .count * fieldBytes) (a .len) (omega arith)))))
+    (λ c κs. search needs)
+    (λ c. c .are-within .ensures ∙ sym (rw (le-leb _ _ (c .before .if1 .left)))))

@@ -41,7 +41,7 @@ use Rattle.order_updates.proofs.order_addition.Tie as tie
 
 -- the builder after an order of this id
 abbrev after : SortOrderId → TableMetadataBuilder → TableMetadataBuilder
-after id b = record { fields = b .fields; «has_own» = b .«has_own»; own = b .own; «has_schema» = b .«has_schema»; «last_added_schema_id» = b .«last_added_schema_id»; «has_order» = true; «last_added_order_id» = id }
+after id b = record { fields = b .fields; «has_own» = b .«has_own»; own = b .own; «has_schema» = b .«has_schema»; «last_added_schema_id» = b .«last_added_schema_id»; «has_order» = true; «last_added_order_id» = id; «has_spec» = b .«has_spec»; «last_added_spec_id» = b .«last_added_spec_id» }
 
 -- the order under this id
 abbrev renamed : SortOrderId → SortOrder → SortOrder

@@ -4,6 +4,7 @@ use native.Mathlib.Omega.{arith}
 use mathlib.Core.Path.{_≡_, refl, sym, ap, _∙_}
 use mathlib.Core.Bool.{Bool, true, false, not, cond, _&&_, _||_, false≢true}
 use mathlib.Core.List.{List, [], _∷_}
+use mathlib.Core.Logic.{⊎-elim}
 use borrow.Author.Needs.{needs, sfits-of}
 use borrow.Author.Tests.{not-true, not-false, eqb-true, eqb-false, eq-eqb, ltb-true, ltb-false}
 use borrow.Table.Steps.{cases}
@@ -18,7 +19,7 @@ use Rattle.records.specs.Blanks.{noSnapshot, noSchemaId}
 use Rattle.records.specs.declared.schema.Schema.{Schema}
 use Rattle.records.specs.declared.snapshot.Snapshots.{Snapshots}
 use Rattle.records.specs.declared.update.TableUpdate.{TableUpdate}
-use Rattle.rules.specs.Words.{total, eqZ, firstOf, ascending, put}
+use Rattle.rules.specs.Words.{total, eqZ, firstOf, ascending, put, sameList}
 use Rattle.rules.specs.Capacities.{schemaRoom}
 use Rattle.rules.specs.Names.{isMain}
 use Rattle.rules.specs.Register as plain
@@ -26,13 +27,17 @@ use Rattle.rules.specs.Register.{Terms}
 use Rattle.rules.specs.Register.StatisticsTable.{Statistics, PartitionStatistics}
 use Rattle.rules.specs.WellFormed.{updateFormed, snapshotBelow}
 use Rattle.rules.specs.SnapshotUpdates.{addSnapshotChecks}
+use Rattle.rules.specs.SchemaUpdates.{isTaken, sameSchemaField}
 use Rattle.rules.specs.Run.{weight, listSum}
-use Rattle.rules.specs.Layout.{pad, readSnapshot, laidSnapshot, laidSnapshots, readSnapshotIds, readName, readSchema, readSchemaOffer, readSchemaIds}
+use Rattle.rules.specs.Layout.{pad, readSnapshot, laidSnapshot, laidSnapshots, readSnapshotIds, readName, readSchema, readSchemas, readSchemaOffer, readSchemaIds, readPartitionSpecs}
 use Rattle.rules.specs.Kinds.{isTidyUpdate, readUpdate, readUpdates, addSnapshotKind, setBranchSnapshotKind, setRefKind, addSchemaKind, removeSchemasKind, readKind}
 use Rattle.close.specs.Answers.{HistoryOf}
 use Rattle.rules.proofs.Checks.{and-left, and-right, by-either, neither}
 use Rattle.tables.specs.Laid.{LaidName}
+use Rattle.tables.proofs.Table.{listed-length}
+use Rattle.tables.proofs.Each.{schemaFields}
 use Rattle.search.specs.Places.{indexOf}
+use Rattle.partitions.proofs.Taken.{none-taken}
 use Rattle.builder.specs.declared.decision.Decision.{Decision}
 use Rattle.builder.specs.Answers.{Decides}
 use Rattle.builder.specs.Pieces.{idsOf, isAbove}
@@ -47,19 +52,19 @@ use Rattle.start.specs.Start.{startNumber}
 use Rattle.start.proofs.Reading.{formed-tidy, formed-kind, kinds, read-remove-snapshots, read-set-ref, read-remove-ref, here, all-read, weight-read, counts, bounds}
 use Rattle.start.proofs.Started.{refused-start}
 use Rattle.refinement.specs.Standing.{Given, termsOf, Pieces, Represents, Standing, OwnTable, Slots, withTable, ownLists, laidOf}
-use Rattle.refinement.specs.Standing.OwnTable.{ofSchemas, ofOrders, ofStatistics}
+use Rattle.refinement.specs.Standing.OwnTable.{ofSchemas, ofOrders, ofStatistics, ofSpecs}
 use Rattle.refinement.specs.Turns.{nothing, updateAt, nameAt, Midway, Stands, Decided, Turn}
-use Rattle.refinement.proofs.Beginning.{start-snapshots, start-schemas, start-log, start-short, standing-start, schemas-keys, laid-snapshots, laid-refs, laid-log, laid-schemas, laid-orders, laid-statistics, statistics-ascend, location-fits, snapshots-ascend, refs-ascend, orders-formed, order-held}
+use Rattle.refinement.proofs.Beginning.{start-snapshots, start-schemas, start-log, start-short, standing-start, schemas-keys, laid-snapshots, laid-refs, laid-log, laid-schemas, laid-orders, laid-specs, laid-statistics, statistics-ascend, location-fits, snapshots-ascend, refs-ascend, orders-formed, order-held, specs-formed, spec-held}
 use Rattle.refinement.proofs.Closed.{held-ids, held-ascend, held-fits, held-within, held-slice, adds-within, added-slice, mains-within, main-slice, adds-most, mains-most, told, handed, files-laid, files-fit, gone-fits, overfull-is, joins-fit, stay-is, gone-is, checks, close-refused, close-accepted}
 use Rattle.refinement.proofs.Moving.{fits, ends}
 use Rattle.refinement.proofs.Deciding.{whole, not-formed-decided, fields-decided, refs-decided, refs-left, tabled, numberOf, own-decided}
 use Rattle.refinement.proofs.Removing.{left-laid, left-lent, removed-decided}
-use Rattle.refinement.proofs.Shaping.{current-slot, current-laid, current-there, same-count, schemas-sought, not-grown, one-more, schemas-same, schemas-left-laid, schemas-left}
+use Rattle.refinement.proofs.Shaping.{current-slot, current-laid, current-there, same-count, schemas-sought, none-equal, not-grown, one-more, schemas-same, schemas-left-laid, schemas-left}
 use Rattle.refinement.proofs.Adding.{has-room, stored-last, id-last, put-new, put-laid, put-tables, put-ids, add-refused, adds-fine, add-decided, grown}
 use Rattle.refinement.proofs.Setting.{faced, set-midway, set-decides, main-room, other-decided, main-decided}
 use Rattle.refinement.proofs.Taken.{snapshot-back, reference-back, asked-laid, branch-name-laid, set-name-laid, removed-name-laid, schemas-asked-laid}
 use Rattle.refinement.proofs.Effects.{group}
-use Rattle.refinement.proofs.Turning.{undivided, unformed, at-the-end, decides, refuses, goes-on, is-ref-removal, is-single, is-schemas, is-orders, is-statistics, is-partition-statistics}
+use Rattle.refinement.proofs.Turning.{undivided, unformed, at-the-end, decides, refuses, goes-on, is-ref-removal, is-single, is-schemas, is-orders, is-statistics, is-partition-statistics, is-specs}
 use Rattle.rules.specs.Updates.{effect}
 use Rattle.statistics_updates.specs.Family.{Within}
 use Rattle.refinement.proofs.Ending.{turns, stored-less, refused-less, decided-less, halved-less}
@@ -80,29 +85,29 @@ and-second a b e h = rw e at h
 
 -- the sum of the updates passed, and of the rest of a list that is not too long, make the list's sum
 abbrev Inv-loop : tie.InvT-loop
-Inv-loop metadata terms text offers updates listed sum₀ place₀ count adds mains removal waits half begun entries builder decision refs orders statistics partitions added main-targets snapshots ids log last schemas sum place =
+Inv-loop metadata terms text offers updates listed sum₀ place₀ count adds mains removal waits half begun entries builder decision refs orders statistics partitions specs added main-targets snapshots ids log last schemas sum place =
     (place ≤ 64) × (sum ≤ 2 * place) × (listed ≤ 64 → (place ≤ listed) × (sum + total weight (drop place (readUpdates updates)) ≡ listSum (readUpdates updates)))
 
 abbrev μ-loop : tie.MeasureT-loop
-μ-loop metadata terms text offers updates listed sum₀ place₀ count adds mains removal waits half begun entries builder decision refs orders statistics partitions added main-targets snapshots ids log last schemas sum place = 64 - place
+μ-loop metadata terms text offers updates listed sum₀ place₀ count adds mains removal waits half begun entries builder decision refs orders statistics partitions specs added main-targets snapshots ids log last schemas sum place = 64 - place
 
 abbrev Inv-loop2 : tie.InvT-loop2
-Inv-loop2 metadata terms text offers updates listed sum place₀ count₀ adds₀ mains₀ removal₀ waits₀ half₀ begun₀ entries₀ builder₀ decision₀ refs₀ orders₀ statistics₀ partitions₀ added₀ main-targets₀ snapshots₀ ids₀ log₀ last₀ schemas₀ number₀ keys₀ place count adds mains removal waits half begun entries builder decision refs orders statistics partitions added main-targets snapshots ids log last schemas number keys =
+Inv-loop2 metadata terms text offers updates listed sum place₀ count₀ adds₀ mains₀ removal₀ waits₀ half₀ begun₀ entries₀ builder₀ decision₀ refs₀ orders₀ statistics₀ partitions₀ specs₀ added₀ main-targets₀ snapshots₀ ids₀ log₀ last₀ schemas₀ number₀ keys₀ place count adds mains removal waits half begun entries builder decision refs orders statistics partitions specs added main-targets snapshots ids log last schemas number keys =
     Turn (record { metadata = metadata; updates = updates; terms = terms; lent = record { text = text; offers = offers } }) number place waits half
     (record {
-      held = record { builder = builder; snapshots = snapshots; ids = ids; refs = refs; log = log; last = last; ownTables = record { schemas = record { table = schemas; keys = keys }; orders = orders; statistics = statistics; partitionStatistics = partitions } };
+      held = record { builder = builder; snapshots = snapshots; ids = ids; refs = refs; log = log; last = last; ownTables = record { schemas = record { table = schemas; keys = keys }; orders = orders; statistics = statistics; partitionStatistics = partitions; specs = specs } };
       changes = record { entries = entries; count = count; added = added; adds = adds; mainTargets = main-targets; mains = mains; removal = removal };
     })
     decision
 
 abbrev μ-loop2 : tie.MeasureT-loop2
-μ-loop2 metadata terms text offers updates listed sum place₀ count₀ adds₀ mains₀ removal₀ waits₀ half₀ begun₀ entries₀ builder₀ decision₀ refs₀ orders₀ statistics₀ partitions₀ added₀ main-targets₀ snapshots₀ ids₀ log₀ last₀ schemas₀ number₀ keys₀ place count adds mains removal waits half begun entries builder decision refs orders statistics partitions added main-targets snapshots ids log last schemas number keys =
+μ-loop2 metadata terms text offers updates listed sum place₀ count₀ adds₀ mains₀ removal₀ waits₀ half₀ begun₀ entries₀ builder₀ decision₀ refs₀ orders₀ statistics₀ partitions₀ specs₀ added₀ main-targets₀ snapshots₀ ids₀ log₀ last₀ schemas₀ number₀ keys₀ place count adds mains removal waits half begun entries builder decision refs orders statistics partitions specs added main-targets snapshots ids log last schemas number keys =
     cond (eqb number 0) (4 * (listed - place) + turns waits half) 0
 
 -- ---- before the loops
 
 abbrev begin : tie.After-schemas Inv-loop μ-loop Inv-loop2 μ-loop2 → tie.Start Inv-loop μ-loop Inv-loop2 μ-loop2
-begin c = c .before .before .before .before .before .before .before .before .before .before .before .before .before .before
+begin c = c .before .before .before .before .before .before .before .before .before .before .before .before .before .before .before
 
 -- what the run is given
 abbrev G : tie.After-schemas Inv-loop μ-loop Inv-loop2 μ-loop2 → Given
@@ -152,7 +157,7 @@ module _ (a : tie.At-loop2 Inv-loop μ-loop Inv-loop2 μ-loop2) where
   abbrev here-pieces : Pieces
   here-pieces =
       record {
-        held = record { builder = a .loop2 .builder; snapshots = a .loop2 .snapshots; ids = a .loop2 .ids; refs = a .loop2 .refs; log = a .loop2 .log; last = a .loop2 .last; ownTables = record { schemas = record { table = a .loop2 .schemas; keys = a .loop2 .keys }; orders = a .loop2 .orders; statistics = a .loop2 .statistics; partitionStatistics = a .loop2 .partition-statistics } };
+        held = record { builder = a .loop2 .builder; snapshots = a .loop2 .snapshots; ids = a .loop2 .ids; refs = a .loop2 .refs; log = a .loop2 .log; last = a .loop2 .last; ownTables = record { schemas = record { table = a .loop2 .schemas; keys = a .loop2 .keys }; orders = a .loop2 .orders; statistics = a .loop2 .statistics; partitionStatistics = a .loop2 .partition-statistics; specs = a .loop2 .specs } };
         changes = record { entries = a .loop2 .entries; count = a .loop2 .count; added = a .loop2 .added; adds = a .loop2 .adds; mainTargets = a .loop2 .main-targets; mains = a .loop2 .mains; removal = a .loop2 .removal };
       }
 
@@ -456,28 +461,46 @@ module _ (c : tie.Then13 Inv-loop μ-loop Inv-loop2 μ-loop2) where
 
 -- an addition of a schema, decided
 module _ (c : tie.After-add-schema Inv-loop μ-loop Inv-loop2 μ-loop2) where
+  abbrev asked-at : tie.After-has-size Inv-loop μ-loop Inv-loop2 μ-loop2
+  asked-at = c .before .before
+
   abbrev shapes-at : tie.Then13 Inv-loop μ-loop Inv-loop2 μ-loop2
-  shapes-at = c .before .before .before
+  shapes-at = asked-at .before .before .before .before
 
   abbrev schemas-held : Represents (given (loop-at (shaping shapes-at))) (shaped shapes-at .state) (here-pieces (loop-at (shaping shapes-at)))
   schemas-held = shaped shapes-at .stands
 
   abbrev offered : OfferedSchema
-  offered = c .before .before .schema .result
+  offered = asked-at .before .before .before .schema .result
 
   said : Offered (given (loop-at (shaping shapes-at)) .lent .offers) (readSchemaOffer (u (shaping shapes-at) .schemas .added)) offered
-  said = c .before .before .schema .ensures
+  said = asked-at .before .before .before .schema .ensures
 
-  told-of : Sought (shaped shapes-at .state .metadata .schemas) (readSchema (offered .schema)) (loop-at (shaping shapes-at) .loop2 .keys) (c .before .find-equal .result)
-  told-of = schemas-sought schemas-held (readSchema (offered .schema)) (c .before .find-equal .ensures)
+  -- it is asked only where a name is that of a partition
+  taken-is : asked-at .before .if14 .taken ≡ isTaken (readSchema (offered .schema)) (readSchemas (loop-at (shaping shapes-at) .loop2 .schemas)) (readPartitionSpecs (loop-at (shaping shapes-at) .loop2 .specs))
+  taken-is =
+      let m = asked-at .before .before in
+      ⊎-elim (λ w. w .2 ∙ w .1 .ensures)
+      (λ w. w .1 ∙ w .0 .left ∙ sym (none-taken (readSchema (offered .schema)) (readSchemas (loop-at (shaping shapes-at) .loop2 .schemas)) (readPartitionSpecs (loop-at (shaping shapes-at) .loop2 .specs)) (sym (m .meets-partition .ensures) ∙ w .0 .left)))
+      (asked-at .before .if14 .came)
+
+  -- it is looked for only where a schema has as many fields
+  equal-is : c .before .if15 .equal ≡ indexOf (λ (x : plain.Schema). sameList sameSchemaField (x .fields) (readSchema (offered .schema) .fields)) (readSchemas (loop-at (shaping shapes-at) .loop2 .schemas))
+  equal-is =
+      ⊎-elim (λ w. w .2 ∙ w .1 .ensures)
+      (λ w. w .1 ∙ none-equal schemas-held (readSchema (offered .schema)) (listed-length schemaFields (offered .schema)) (asked-at .has-size .ensures) (w .0 .left))
+      (c .before .if15 .came)
+
+  told-of : Sought (shaped shapes-at .state .metadata) (readSchema (offered .schema)) (loop-at (shaping shapes-at) .loop2 .keys) (c .before .if15 .equal) (asked-at .before .if14 .taken)
+  told-of = schemas-sought schemas-held (readSchema (offered .schema)) equal-is taken-is
 
 -- a schema is put
-module _ (c : tie.Else14 Inv-loop μ-loop Inv-loop2 μ-loop2) where
+module _ (c : tie.Else16 Inv-loop μ-loop Inv-loop2 μ-loop2) where
   abbrev adds-schema : tie.After-add-schema Inv-loop μ-loop Inv-loop2 μ-loop2
   adds-schema = c .before .before
 
   schema-grows : adds-schema .add-schema .result .grows ≡ true
-  schema-grows = not-false (adds-schema .add-schema .result .grows) (c .if14 .left)
+  schema-grows = not-false (adds-schema .add-schema .result .grows) (c .if16 .left)
 
   keys-room : loop-at (shaping (shapes-at adds-schema)) .loop2 .keys .count < schemaRoom
   keys-room = adds-schema .add-schema .ensures .room schema-grows
@@ -485,62 +508,69 @@ module _ (c : tie.Else14 Inv-loop μ-loop Inv-loop2 μ-loop2) where
   schemas-room : loop-at (shaping (shapes-at adds-schema)) .loop2 .schemas .count < 16
   schemas-room = omega (arith, keys-room, same-count (schemas-held adds-schema))
 
-module _ (c : tie.Then15 Inv-loop μ-loop Inv-loop2 μ-loop2) where
+module _ (c : tie.Then17 Inv-loop μ-loop Inv-loop2 μ-loop2) where
   abbrev choosing : tie.Else4 Inv-loop μ-loop Inv-loop2 μ-loop2
   choosing = c .before .before .before .before .before .before .before
 
   choice : Stood choosing
-  choice = standing choosing (λ q. omega (arith, q, c .if15 .taken))
+  choice = standing choosing (λ q. omega (arith, q, c .if17 .taken))
 
-module _ (c : tie.Then16 Inv-loop μ-loop Inv-loop2 μ-loop2) where
+module _ (c : tie.Then18 Inv-loop μ-loop Inv-loop2 μ-loop2) where
   abbrev unshaping : tie.Else4 Inv-loop μ-loop Inv-loop2 μ-loop2
   unshaping = c .before .before .before .before .before .before .before .before
 
   unshaped : Stood unshaping
-  unshaped = standing unshaping (λ q. omega (arith, q, c .if16 .taken))
+  unshaped = standing unshaping (λ q. omega (arith, q, c .if18 .taken))
 
 -- the kinds of schemas have had their turns
-past-schemas : (c : tie.Else16 Inv-loop μ-loop Inv-loop2 μ-loop2) → removeSchemasKind < u (c .before .before .before .before .before .before .before .before) .kind
-past-schemas c = let d = c .before in let e = d .before in omega (arith, beyond (e .before), e .if13 .left, d .if15 .left, c .if16 .left)
+past-schemas : (c : tie.Else18 Inv-loop μ-loop Inv-loop2 μ-loop2) → removeSchemasKind < u (c .before .before .before .before .before .before .before .before) .kind
+past-schemas c = let d = c .before in let e = d .before in omega (arith, beyond (e .before), e .if13 .left, d .if17 .left, c .if18 .left)
 
-module _ (c : tie.Then17 Inv-loop μ-loop Inv-loop2 μ-loop2) where
+module _ (c : tie.Then19 Inv-loop μ-loop Inv-loop2 μ-loop2) where
   abbrev ordering : tie.Else4 Inv-loop μ-loop Inv-loop2 μ-loop2
   ordering = c .before .before .before .before .before .before .before .before .before
 
   ordered : Stood ordering
   ordered = standing ordering (λ q. omega (arith, q, past-schemas (c .before)))
 
-module _ (c : tie.Then18 Inv-loop μ-loop Inv-loop2 μ-loop2) where
+module _ (c : tie.Then20 Inv-loop μ-loop Inv-loop2 μ-loop2) where
   abbrev filing-at : tie.Else4 Inv-loop μ-loop Inv-loop2 μ-loop2
   filing-at = c .before .before .before .before .before .before .before .before .before .before
 
   filed : Stood filing-at
-  filed = standing filing-at (λ q. omega (arith, q, c .before .if17 .left))
+  filed = standing filing-at (λ q. omega (arith, q, c .before .if19 .left))
 
-module _ (c : tie.Else18 Inv-loop μ-loop Inv-loop2 μ-loop2) where
+module _ (c : tie.Then21 Inv-loop μ-loop Inv-loop2 μ-loop2) where
   abbrev partition-at : tie.Else4 Inv-loop μ-loop Inv-loop2 μ-loop2
-  partition-at = c .before .before .before .before .before .before .before .before .before .before
+  partition-at = c .before .before .before .before .before .before .before .before .before .before .before
 
   partition : Stood partition-at
-  partition = standing partition-at (λ q. omega (arith, q, c .if18 .left))
+  partition = standing partition-at (λ q. omega (arith, q, c .before .if20 .left))
+
+module _ (c : tie.Else21 Inv-loop μ-loop Inv-loop2 μ-loop2) where
+  abbrev specs-at : tie.Else4 Inv-loop μ-loop Inv-loop2 μ-loop2
+  specs-at = c .before .before .before .before .before .before .before .before .before .before .before
+
+  specced : Stood specs-at
+  specced = standing specs-at (λ q. omega (arith, q, c .if21 .left))
 
 -- ---- the close
 
-module _ (c : tie.Else19 Inv-loop μ-loop Inv-loop2 μ-loop2) where
+module _ (c : tie.Else22 Inv-loop μ-loop Inv-loop2 μ-loop2) where
   abbrev end-at : tie.At-loop2 Inv-loop μ-loop Inv-loop2 μ-loop2
   end-at = c .before .before
 
   over : (end-at .loop2 .waits || ltb (end-at .loop2 .place) (given end-at .updates .count)) ≡ false
-  over = and-second (eqb (end-at .loop2 .number) 0) (end-at .loop2 .waits || ltb (end-at .loop2 .place) (given end-at .updates .count)) (eq-eqb _ _ (c .if19 .left)) (c .before .loop2-test .left)
+  over = and-second (eqb (end-at .loop2 .number) 0) (end-at .loop2 .waits || ltb (end-at .loop2 .place) (given end-at .updates .count)) (eq-eqb _ _ (c .if22 .left)) (c .before .loop2-test .left)
 
   passed : given end-at .updates .count ≤ end-at .loop2 .place
   passed = ltb-false _ _ (neither (end-at .loop2 .waits) (ltb (end-at .loop2 .place) (given end-at .updates .count)) over .1)
 
   end : Standing (given end-at) (end-at .loop2 .place) (here-pieces end-at)
-  end = at-the-end (end-at .loop2 .inv .stands (c .if19 .left) (neither (end-at .loop2 .waits) (ltb (end-at .loop2 .place) (given end-at .updates .count)) over .0)) passed
+  end = at-the-end (end-at .loop2 .inv .stands (c .if22 .left) (neither (end-at .loop2 .waits) (ltb (end-at .loop2 .place) (given end-at .updates .count)) over .0)) passed
 
 module _ (c : tie.After-surplus Inv-loop μ-loop Inv-loop2 μ-loop2) where
-  abbrev closing : tie.Else19 Inv-loop μ-loop Inv-loop2 μ-loop2
+  abbrev closing : tie.Else22 Inv-loop μ-loop Inv-loop2 μ-loop2
   closing = c .before .before .before .before .before .before .before
 
   history : HistoryOf (end closing .state .log) (end closing .state .metadata) (c .before .before .close-log .result)
@@ -558,7 +588,7 @@ module _ (c : tie.After-close-number Inv-loop μ-loop Inv-loop2 μ-loop2) where
 
   numbered : c .close-number .result ≡ firstOf (checks (E filing))
   numbered =
-      c .close-number .ensures (termsOf (given (end-at (closing filing)))) (end (closing filing) .state .log) (end (closing filing) .state .metadata) (history filing) (handed (E filing) _ (current-there (E filing) (c .before .before .current-place2 .ensures) past))
+      c .close-number .ensures (termsOf (given (end-at (closing filing)))) (end (closing filing) .state .log) (end (closing filing) .state .metadata) (history filing) (handed (E filing) _ (current-there (E filing) (c .before .before .current-place3 .ensures) past))
       (overfull-is (E filing) (filing .before .limit .ensures) (filing .surplus .ensures) (c .before .before .before .is-overfull .ensures))
 
 loop-holds : tie.Need-loop-holds Inv-loop μ-loop Inv-loop2 μ-loop2
@@ -572,7 +602,7 @@ started c = let g = G (c .before .before .before .before) in c .start-number .en
 loop2-holds : tie.Need-loop2-holds Inv-loop μ-loop Inv-loop2 μ-loop2
 loop2-holds c =
     let a = c .before .before .before .before .before in
-    let made = a .before .before .before .before .before .before .before .before in
+    let made = a .before .before .before .before .before .before .before .before .before in
     let g = G a in
     let n = started (c .before) in
     record {
@@ -732,7 +762,7 @@ loop2-again-13 c =
     let s = shaped t in
     let D = a .add-schema .ensures in
     own e s ofSchemas (is-schemas (u e) (formed e) (omega (arith, t .if13 .taken)) (omega (arith, t .if13 .taken))) (D .answers (terms e) (s .state) (said a) (s .stands .tables .builder) (told-of a))
-    (λ z. not-grown (schemas-held a) (readSchema (schemaUnder (a .add-schema .result .entry .schemas .added .«schema_id») (offered a .schema))) (D .table (terms e) (s .state) (said a) (told-of a) z) (not-true (a .add-schema .result .grows) (c .if14 .taken)))
+    (λ z. not-grown (schemas-held a) (readSchema (schemaUnder (a .add-schema .result .entry .schemas .added .«schema_id») (offered a .schema))) (D .table (terms e) (s .state) (said a) (told-of a) z) (not-true (a .add-schema .result .grows) (c .if16 .taken)))
     (fit (deciding e))
 
 loop2-again-14 : tie.Need-loop2-again-14 Inv-loop μ-loop Inv-loop2 μ-loop2
@@ -749,7 +779,7 @@ loop2-again-14 c =
     own e s ofSchemas (is-schemas (u e) (formed e) (omega (arith, t .if13 .taken)) (omega (arith, t .if13 .taken))) (D .answers (terms e) (s .state) (said a) (s .stands .tables .builder) (told-of a))
     (λ z. one-more (schemas-held a) id (said a .laid) (schemas-room w) (D .table (terms e) (s .state) (said a) (told-of a) z) (schema-grows w)
     (ap (set (l .schemas .items) (l .schemas .count)) (n .new-schema .ensures)) refl
-    (λ k x f q. c .with-key .ensures .1 k x f (q ∙ sym (ap (λ (y : Schema). y .«schema_id» .0) (n .new-schema .ensures)))))
+    (λ k x f q m. c .with-key .ensures .1 k x f (q ∙ sym (ap (λ (y : Schema). y .«schema_id» .0) (n .new-schema .ensures))) m))
     (c .with-key .ensures .0)
 
 loop2-again-15 : tie.Need-loop2-again-15 Inv-loop μ-loop Inv-loop2 μ-loop2
@@ -757,7 +787,7 @@ loop2-again-15 c =
     let t = c .before in
     let e = choosing t in
     let s = choice t in
-    let q = t .if15 .taken in
+    let q = t .if17 .taken in
     own e s ofSchemas (is-schemas (u e) (formed e) (omega (arith, q)) (omega (arith, q))) (c .set-current-schema .ensures (terms e) (s .state) (s .stands .tables .builder) (schemas-keys (s .stands)))
     (λ z. schemas-same (s .stands) (readUpdate (u e)) (u e .schemas .chosen .0) (read-kind (u e) (tidy e) 10 q))
     (fit (deciding e))
@@ -769,7 +799,7 @@ loop2-again-16 c =
     let t = r .before in
     let e = unshaping t in
     let s = unshaped t in
-    let q = t .if16 .taken in
+    let q = t .if18 .taken in
     own e s ofSchemas (is-schemas (u e) (formed e) (omega (arith, q)) (omega (arith, q))) (r .remove-schemas .ensures (terms e) (s .state) (s .stands .tables .builder) (schemas-keys (s .stands)))
     (λ z. schemas-left (s .stands) (readSchemaIds (u e .schemas .removed)) (o .without3 .ensures) (readUpdate (u e)) (read-kind (u e) (tidy e) 11 q) (c .keys-of .ensures .1))
     (c .keys-of .ensures .0)
@@ -783,7 +813,7 @@ loop2-again-17 c =
     let s = ordered t in
     let T = s .stands .tables in
     let D = d .decide2 .ensures in
-    own e s ofOrders (is-orders (u e) (formed e) (past-schemas (t .before)) (t .if17 .taken)) (D .answers (terms e) (s .state) (T .builder) (current-there (s .stands) (p .current-place .ensures) past) (T .ownTables .orders))
+    own e s ofOrders (is-orders (u e) (formed e) (past-schemas (t .before)) (t .if19 .taken)) (D .answers (terms e) (s .state) (T .builder) (current-there (s .stands) (p .current-place .ensures) past) (T .ownTables .orders))
     (λ z. c .after2 .ensures ∙ D .table (terms e) (s .state) (T .ownTables .orders) z)
     (fit (deciding e))
 
@@ -794,8 +824,8 @@ loop2-again-18 c =
     let s = filed t in
     let T = s .stands .tables in
     let D = c .before .decide3 .ensures in
-    let w : Within Statistics (u e) = (omega (arith, t .before .if17 .left), t .if18 .taken) in
-    own e s (ofStatistics Statistics) (is-statistics (u e) (formed e) (t .before .if17 .left) (t .if18 .taken)) (D .answers Statistics (terms e) (s .state) w (T .builder) (T .ownTables .statistics))
+    let w : Within Statistics (u e) = (omega (arith, t .before .if19 .left), t .if20 .taken) in
+    own e s (ofStatistics Statistics) (is-statistics (u e) (formed e) (t .before .if19 .left) (t .if20 .taken)) (D .answers Statistics (terms e) (s .state) w (T .builder) (T .ownTables .statistics))
     (λ z. c .after3 .ensures ∙ D .table Statistics (terms e) (s .state) w (T .ownTables .statistics) z)
     (fit (deciding e))
 
@@ -806,23 +836,36 @@ loop2-again-19 c =
     let s = partition t in
     let T = s .stands .tables in
     let D = c .before .decide4 .ensures in
-    let w : Within PartitionStatistics (u e) = (omega (arith, t .if18 .left), bounds (u e) (formed e) .1) in
-    own e s (ofStatistics PartitionStatistics) (is-partition-statistics (u e) (formed e) (t .if18 .left)) (D .answers PartitionStatistics (terms e) (s .state) w (T .builder) (T .ownTables .partitionStatistics))
+    let w : Within PartitionStatistics (u e) = (omega (arith, t .before .if20 .left), t .if21 .taken) in
+    own e s (ofStatistics PartitionStatistics) (is-partition-statistics (u e) (formed e) (t .before .if20 .left) (t .if21 .taken)) (D .answers PartitionStatistics (terms e) (s .state) w (T .builder) (T .ownTables .partitionStatistics))
     (λ z. c .after4 .ensures ∙ D .table PartitionStatistics (terms e) (s .state) w (T .ownTables .partitionStatistics) z)
+    (fit (deciding e))
+
+loop2-again-20 : tie.Need-loop2-again-20 Inv-loop μ-loop Inv-loop2 μ-loop2
+loop2-again-20 c =
+    let d = c .before .before in
+    let p = d .before .before in
+    let t = p .before in
+    let e = specs-at t in
+    let s = specced t in
+    let T = s .stands .tables in
+    let D = d .decide5 .ensures in
+    own e s ofSpecs (is-specs (u e) (formed e) (t .if21 .left)) (D .answers (terms e) (s .state) refl (T .builder) (current-there (s .stands) (p .current-place2 .ensures) past) (T .ownTables .specs))
+    (λ z. D .table (terms e) (s .state) refl (T .builder) (T .ownTables .specs) z)
     (fit (deciding e))
 
 staying-requires : tie.Need-staying-requires Inv-loop μ-loop Inv-loop2 μ-loop2
 staying-requires c κs =
     let n = c .before .before in
     let f = filing n in
-    (files-laid (E f), (gone-within f, joins-fit (E f) (f .before .limit .ensures) (f .surplus .ensures) (sym (numbered n) ∙ c .before .if20 .left)))
+    (files-laid (E f), (gone-within f, joins-fit (E f) (f .before .limit .ensures) (f .surplus .ensures) (sym (numbered n) ∙ c .before .if23 .left)))
 
 returns-3 : tie.Need-returns-3 Inv-loop μ-loop Inv-loop2 μ-loop2
 returns-3 c =
     let l = c .before in
     let n = l .before .before .before .before in
     let f = filing n in
-    close-accepted (E f) _ (sym (numbered n) ∙ l .before .before .before .if20 .left) (history f)
+    close-accepted (E f) _ (sym (numbered n) ∙ l .before .before .before .if23 .left) (history f)
     (stay-is (E f) (f .before .limit .ensures) (f .surplus .ensures) (l .before .staying .ensures))
     (gone-is (E f) (f .before .limit .ensures) (f .surplus .ensures) (l .before .before .part .ensures))
     (l .own-or .ensures)
@@ -932,8 +975,11 @@ run-spec =
     (λ c. turn-less (deciding (dropping (c .before .before))))
     loop2-again-12
     (λ c κs. search needs)
-    (λ c κs. (laid-schemas (shaped (c .before) .stands), c .schema .ensures .laid))
-    (λ c κs. let t = c .before .before in let e = shaping t in (fit (deciding e), (c .before .schema .ensures .laid, (tidy e, t .if13 .taken))))
+    (λ c κs. (c .schema .ensures .laid, laid-specs (shaped (c .before) .stands)))
+    (λ c κs. let a = c .before .before in let E = shaped (a .before) .stands in (a .schema .ensures .laid, (laid-schemas E, laid-specs E)))
+    (λ c κs. fit (deciding (shaping (c .before .before .before))))
+    (λ c κs. let a = c .before .before .before .before in (laid-schemas (shaped (a .before) .stands), a .schema .ensures .laid))
+    (λ c κs. let a = c .before .before .before .before in let t = a .before in let e = shaping t in (fit (deciding e), (a .schema .ensures .laid, (tidy e, t .if13 .taken))))
     (λ c. turn-less (deciding (shaping (shapes-at (c .before .before)))))
     loop2-again-13
     (λ c κs. search needs)
@@ -943,18 +989,18 @@ run-spec =
     (λ c κs. let w = c .before in (fit (deciding (shaping (shapes-at (adds-schema w)))), keys-room w))
     (λ c. turn-less (deciding (shaping (shapes-at (adds-schema (c .before .before))))))
     loop2-again-14
-    (λ c κs. let e = choosing c in (fit (deciding e), (tidy e, c .if15 .taken)))
+    (λ c κs. let e = choosing c in (fit (deciding e), (tidy e, c .if17 .taken)))
     (λ c. turn-less (deciding (choosing (c .before))))
     loop2-again-15
-    (λ c κs. let e = unshaping c in (fit (deciding e), (tidy e, (by-kind e, c .if16 .taken))))
-    (λ c κs. let t = c .before in let e = unshaping t in (laid-schemas (unshaped t .stands), schemas-asked-laid (u e) (formed e) (t .if16 .taken)))
+    (λ c κs. let e = unshaping c in (fit (deciding e), (tidy e, (by-kind e, c .if18 .taken))))
+    (λ c κs. let t = c .before in let e = unshaping t in (laid-schemas (unshaped t .stands), schemas-asked-laid (u e) (formed e) (t .if18 .taken)))
     (λ c κs. let t = c .before .before in schemas-left-laid (unshaped t .stands) (readSchemaIds (u (unshaping t) .schemas .removed)) (c .without3 .ensures))
     (λ c. turn-less (deciding (unshaping (c .before .before .before))))
     loop2-again-16
     (λ c κs. fit (deciding (ordering c)))
     (λ c. omega (arith, current-slot (ordered (c .before) .stands) (c .current-place .ensures)))
     (λ c. current-slot (ordered (c .before) .stands) (c .current-place .ensures))
-    (λ c κs. let p = c .before in let t = p .before in let e = ordering t in let E = ordered t .stands in (current-laid E (p .current-place .ensures) past, (laid-orders E, (orders-formed E, (tidy e, (by-kind e, (omega (arith, past-schemas (t .before)), t .if17 .taken)))))))
+    (λ c κs. let p = c .before in let t = p .before in let e = ordering t in let E = ordered t .stands in (current-laid E (p .current-place .ensures) past, (laid-orders E, (orders-formed E, (tidy e, (by-kind e, (omega (arith, past-schemas (t .before)), t .if19 .taken)))))))
     (λ c κs. (laid-orders (ordered (c .before .before .before) .stands), c .decide2 .ensures .new))
     (λ c. turn-less (deciding (ordering (c .before .before .before .before))))
     loop2-again-17
@@ -966,8 +1012,14 @@ run-spec =
     (λ c κs. let E = partition (c .before) .stands in (laid-statistics E PartitionStatistics, (statistics-ascend E PartitionStatistics, c .decide4 .ensures .new)))
     (λ c. turn-less (deciding (partition-at (c .before .before))))
     loop2-again-19
+    (λ c κs. fit (deciding (specs-at c)))
+    (λ c. omega (arith, current-slot (specced (c .before) .stands) (c .current-place2 .ensures)))
+    (λ c. current-slot (specced (c .before) .stands) (c .current-place2 .ensures))
+    (λ c κs. let p = c .before in let t = p .before in let e = specs-at t in let E = specced t .stands in (current-laid E (p .current-place2 .ensures) past, (laid-specs E, (specs-formed E, (tidy e, (by-kind e, (omega (arith, t .if21 .left), bounds (u e) (formed e) .1)))))))
+    (λ c. turn-less (deciding (specs-at (c .before .before .before .before .before))))
+    loop2-again-20
     (λ c κs. search needs)
-    (λ c. c .refused .ensures ∙ c .before .before .before .loop2 .inv .refused (c .before .if19 .taken))
+    (λ c. c .refused .ensures ∙ c .before .before .before .loop2 .inv .refused (c .before .if22 .taken))
     (λ c. held-within (end (c .before) .stands))
     (λ c. held-slice (end (c .before .before) .stands))
     (λ c. adds-within (end (c .before .before) .stands))
@@ -979,11 +1031,11 @@ run-spec =
     (λ c κs. files-fit (end (c .before .before .before .before .before .before) .stands))
     (λ c κs. (files-fit (E c), gone-within c))
     (λ c κs. end-at (closing (c .before)) .loop2 .inv .fit)
-    (λ c. omega (arith, current-slot (E (c .before .before)) (c .current-place2 .ensures)))
-    (λ c. current-slot (E (c .before .before)) (c .current-place2 .ensures))
-    (λ c κs. let p = c .before in let f = p .before .before in let e = E f in (f .before .before .close-log .ensures .1, (laid-refs e, (current-laid e (p .current-place2 .ensures) past, (laid-orders e, order-held e)))))
+    (λ c. omega (arith, current-slot (E (c .before .before)) (c .current-place3 .ensures)))
+    (λ c. current-slot (E (c .before .before)) (c .current-place3 .ensures))
+    (λ c κs. let p = c .before in let f = p .before .before in let e = E f in (f .before .before .close-log .ensures .1, (laid-refs e, (current-laid e (p .current-place3 .ensures) past, (laid-orders e, (order-held e, (laid-specs e, spec-held e)))))))
     (λ c κs. search needs)
-    (λ c. let n = c .before .before in let e = closing (filing n) in c .refused2 .ensures ∙ close-refused (E (filing n)) _ (numbered n) (c .before .if20 .taken) ∙ ends (end e) (passed e))
+    (λ c. let n = c .before .before in let e = closing (filing n) in c .refused2 .ensures ∙ close-refused (E (filing n)) _ (numbered n) (c .before .if23 .taken) ∙ ends (end e) (passed e))
     (λ c κs. let f = filing (c .before) in (files-laid (E f), (search needs, gone-within f)))
     staying-requires
     (λ c κs. search needs)

@@ -16,7 +16,7 @@ use Rattle.rules.specs.Replies.{startNotFormed}
 use Rattle.rules.specs.Capacities.{listRoom, metadataLogRoom}
 use Rattle.rules.specs.Register.{FileEntry, Metadata, Update, Terms, Outcome}
 use Rattle.rules.specs.Register.Outcome.{Refused, Accepted}
-use Rattle.rules.specs.Register.Update.{AssignUuid, UpgradeFormatVersion, SetLocation, AddSnapshot, SetBranchSnapshot, RemoveSnapshots, SetRef, RemoveRef, AddSchema, SetCurrentSchema, RemoveSchemas, AddSortOrder, SetDefaultSortOrder, SetStatistics, RemoveStatistics, NotFormed}
+use Rattle.rules.specs.Register.Update.{AssignUuid, UpgradeFormatVersion, SetLocation, AddSnapshot, SetBranchSnapshot, RemoveSnapshots, SetRef, RemoveRef, AddSchema, SetCurrentSchema, RemoveSchemas, AddSortOrder, SetDefaultSortOrder, SetStatistics, RemoveStatistics, AddPartitionSpec, SetDefaultPartitionSpec, RemovePartitionSpecs, NotFormed}
 use Rattle.rules.specs.Limit.{limitOf, limitGiven, isNumber, afterPlus}
 use Rattle.rules.specs.WellFormed.{fileNameFormed, metadataLogFormed, metadataFormed, updateFormed}
 use Rattle.rules.specs.Close.{joined, surplus, expired}
@@ -98,6 +98,9 @@ weight-positive (AddSortOrder o) f = omega arith
 weight-positive (SetDefaultSortOrder id) f = omega arith
 weight-positive (SetStatistics which x) f = omega arith
 weight-positive (RemoveStatistics which id) f = omega arith
+weight-positive (AddPartitionSpec o) f = omega arith
+weight-positive (SetDefaultPartitionSpec id) f = omega arith
+weight-positive (RemovePartitionSpecs ids) f = omega arith
 weight-positive (NotFormed counts) f = absurd (false≢true f)
 
 -- every update counts

@@ -9,18 +9,19 @@ use lib.IntN.{ℤ}
 use lib.ListN.{length}
 use borrow.Author.Tests.{eqb-true, eqb-false, leb-true}
 use Rattle.rules.specs.Words.{isSome, all, firstOf, Check}
-use Rattle.rules.specs.Replies.{accepted, updateNotFormed}
-use Rattle.rules.specs.Register.{Snapshot, Reference, Schema, SortOrder, Metadata, Update, Terms, State, Outcome}
+use Rattle.rules.specs.Replies.{accepted, updateNotFormed, nameClash, sourceMisfit}
+use Rattle.rules.specs.Register.{Snapshot, Reference, SchemaField, Schema, SortOrder, PartitionSpec, Metadata, Update, Terms, State, Outcome}
 use Rattle.rules.specs.Register.Outcome.{Refused, Accepted}
-use Rattle.rules.specs.Register.Update.{AssignUuid, UpgradeFormatVersion, SetLocation, AddSnapshot, SetBranchSnapshot, RemoveSnapshots, SetRef, RemoveRef, AddSchema, SetCurrentSchema, RemoveSchemas, AddSortOrder, SetDefaultSortOrder, SetStatistics, RemoveStatistics, NotFormed}
+use Rattle.rules.specs.Register.Update.{AssignUuid, UpgradeFormatVersion, SetLocation, AddSnapshot, SetBranchSnapshot, RemoveSnapshots, SetRef, RemoveRef, AddSchema, SetCurrentSchema, RemoveSchemas, AddSortOrder, SetDefaultSortOrder, SetStatistics, RemoveStatistics, AddPartitionSpec, SetDefaultPartitionSpec, RemovePartitionSpecs, NotFormed}
 use Rattle.rules.specs.WellFormed.{updateFormed}
 use Rattle.rules.specs.SingleUpdates.{upgradeFormatVersionChecks}
 use Rattle.rules.specs.SnapshotUpdates.{addSnapshotChecks, addSnapshot}
 use Rattle.rules.specs.RefUpdates.{isHeldRef, setRefChecks, committed, setBranchSnapshotChecks}
-use Rattle.rules.specs.Offers.{offeredSchema}
-use Rattle.rules.specs.SchemaUpdates.{reusedSchema, addSchemaChecks, setCurrentSchemaChecks, removeSchemasChecks}
+use Rattle.rules.specs.Offers.{offeredSchema, offeredSpec}
+use Rattle.rules.specs.SchemaUpdates.{reusedSchema, isTaken, addSchemaChecks, setCurrentSchemaChecks, removeSchemasChecks}
 use Rattle.rules.specs.OrderUpdates.{reusedOrder, addSortOrderChecks, setDefaultSortOrderChecks}
 use Rattle.rules.specs.StatisticsUpdates.{setStatisticsChecks}
+use Rattle.rules.specs.SpecUpdates.{reusing, currentFields, isClashing, isMisfit, isRepeating, reusedSpec, specChecks, addPartitionSpecChecks, setDefaultPartitionSpecChecks, removePartitionSpecsChecks}
 use Rattle.rules.specs.Updates.{checks, updateNumber, effect}
 use Rattle.rules.specs.Close.{closeChecks}
 use Rattle.rules.specs.Run.{Ran, runFrom, started, close, closeRan, startChecks, run}
@@ -35,10 +36,20 @@ abbrev pub isOfStart : ℕ → Bool
 isOfStart number = leb number 2 || eqb number 26
 
 abbrev pub isOfUpdate : ℕ → Bool
-isOfUpdate number = leb 3 number && leb number 19
+isOfUpdate number = (leb 3 number && leb number 19) || (leb 33 number && leb number 34)
 
 abbrev pub isOfClose : ℕ → Bool
 isOfClose number = leb 20 number && leb number 23
+
+-- 31 and 32 are of both: of a spec, or a schema, that an update names, and of the default spec at the close
+abbrev pub isOfBoth : ℕ → Bool
+isOfBoth number = leb 31 number && leb number 32
+
+abbrev pub mayBeOfUpdate : ℕ → Bool
+mayBeOfUpdate number = isOfUpdate number || isOfBoth number
+
+abbrev pub mayBeOfClose : ℕ → Bool
+mayBeOfClose number = isOfClose number || isOfBoth number
 
 -- the number of checks that are all numbered so is numbered so, unless none failed
 abbrev Numbered : (ℕ → Bool) → List Check → Type 0
@@ -53,7 +64,7 @@ first-numbered p (c ∷ cs) h n =
     n
 
 abbrev OfUpdate : List Check → Type 0
-OfUpdate = Numbered isOfUpdate
+OfUpdate = Numbered mayBeOfUpdate
 
 add-snapshot-numbers : (tolerance : ℤ) (s : Snapshot) (st : State) → OfUpdate (addSnapshotChecks tolerance s st)
 unfolding addSnapshotChecks
@@ -65,21 +76,30 @@ set-ref-numbers name r st = by-test OfUpdate (isHeldRef name r (st .metadata .re
 
 add-schema-numbers : (s : Schema) (st : State) → OfUpdate (addSchemaChecks s st)
 unfolding addSchemaChecks
-add-schema-numbers s st = by-test OfUpdate (isSome (reusedSchema s (st .metadata .schemas))) (λ t. refl) (λ f. refl)
+add-schema-numbers s st =
+    by-test (λ (cs : List Check). OfUpdate ((isTaken s (st .metadata .schemas) (st .metadata .specs), nameClash) ∷ cs)) (isSome (reusedSchema s (st .metadata .schemas))) (λ t. refl) (λ f. refl)
 
 add-order-numbers : (o : SortOrder) (st : State) → OfUpdate (addSortOrderChecks o st)
 unfolding addSortOrderChecks
 add-order-numbers o st = by-test OfUpdate (isSome (reusedOrder o (st .metadata .orders))) (λ t. refl) (λ f. refl)
 
+add-spec-numbers : (s : PartitionSpec) (st : State) → OfUpdate (addPartitionSpecChecks s st)
+unfolding addPartitionSpecChecks specChecks
+add-spec-numbers s st =
+    let l : List PartitionSpec = st .metadata .specs in
+    let r : PartitionSpec = reusing l s in
+    let columns : List SchemaField = currentFields (st .metadata) in
+    by-test (λ (cs : List Check). OfUpdate ((isClashing columns r || isRepeating r, nameClash) ∷ (isMisfit columns r, sourceMisfit) ∷ cs)) (isSome (reusedSpec r l)) (λ t. refl) (λ f. refl)
+
 update-numbers : (terms : Terms) (u : Update) (st : State) → OfUpdate (checks terms u st)
-unfolding checks upgradeFormatVersionChecks setBranchSnapshotChecks setCurrentSchemaChecks removeSchemasChecks setDefaultSortOrderChecks setStatisticsChecks
+unfolding checks upgradeFormatVersionChecks setBranchSnapshotChecks setCurrentSchemaChecks removeSchemasChecks setDefaultSortOrderChecks setStatisticsChecks setDefaultPartitionSpecChecks removePartitionSpecsChecks
 update-numbers terms (AssignUuid uuid) st = refl
 update-numbers terms (UpgradeFormatVersion v) st = refl
 update-numbers terms (SetLocation location) st = refl
 update-numbers terms (AddSnapshot s) st = add-snapshot-numbers (terms .tolerance) s st
 update-numbers terms (SetBranchSnapshot name s) st =
     let r : Reference = committed name (s .id) (st .metadata .refs) in
-    all-append (λ (c : Check). isOfUpdate (c .1)) (addSnapshotChecks (terms .tolerance) s st) (setRefChecks name r (addSnapshot s st)) (add-snapshot-numbers (terms .tolerance) s st) (set-ref-numbers name r (addSnapshot s st))
+    all-append (λ (c : Check). mayBeOfUpdate (c .1)) (addSnapshotChecks (terms .tolerance) s st) (setRefChecks name r (addSnapshot s st)) (add-snapshot-numbers (terms .tolerance) s st) (set-ref-numbers name r (addSnapshot s st))
 update-numbers terms (RemoveSnapshots ids) st = refl
 update-numbers terms (SetRef name r) st = set-ref-numbers name r st
 update-numbers terms (RemoveRef name) st = refl
@@ -90,15 +110,18 @@ update-numbers terms (AddSortOrder o) st = add-order-numbers o st
 update-numbers terms (SetDefaultSortOrder id) st = refl
 update-numbers terms (SetStatistics which f) st = refl
 update-numbers terms (RemoveStatistics which id) st = refl
+update-numbers terms (AddPartitionSpec o) st = add-spec-numbers (offeredSpec (terms .offers) o) st
+update-numbers terms (SetDefaultPartitionSpec id) st = refl
+update-numbers terms (RemovePartitionSpecs ids) st = refl
 update-numbers terms (NotFormed counts) st = refl
 
-pub update-numbered : (terms : Terms) (u : Update) (st : State) → (updateNumber terms u st ≡ accepted → ⊥) → isOfUpdate (updateNumber terms u st) ≡ true
+pub update-numbered : (terms : Terms) (u : Update) (st : State) → (updateNumber terms u st ≡ accepted → ⊥) → mayBeOfUpdate (updateNumber terms u st) ≡ true
 unfolding updateNumber
-update-numbered terms u st = first-numbered isOfUpdate ((not (updateFormed u), updateNotFormed) ∷ checks terms u st) (update-numbers terms u st)
+update-numbered terms u st = first-numbered mayBeOfUpdate ((not (updateFormed u), updateNotFormed) ∷ checks terms u st) (update-numbers terms u st)
 
-pub close-numbered : (terms : Terms) (log : List Update) (m : Metadata) → (firstOf (closeChecks terms log m) ≡ accepted → ⊥) → isOfClose (firstOf (closeChecks terms log m)) ≡ true
+pub close-numbered : (terms : Terms) (log : List Update) (m : Metadata) → (firstOf (closeChecks terms log m) ≡ accepted → ⊥) → mayBeOfClose (firstOf (closeChecks terms log m)) ≡ true
 unfolding closeChecks
-close-numbered terms log m = first-numbered isOfClose (closeChecks terms log m) refl
+close-numbered terms log m = first-numbered mayBeOfClose (closeChecks terms log m) refl
 
 start-numbered : (terms : Terms) (m : Metadata) (us : List Update) → (firstOf (startChecks terms m us) ≡ accepted → ⊥) → isOfStart (firstOf (startChecks terms m us)) ≡ true
 unfolding startChecks
@@ -107,50 +130,94 @@ start-numbered terms m us = first-numbered isOfStart (startChecks terms m us) re
 -- ---- the places
 
 -- "The place is the update's position from 0; for 1 and 2 it is 0; for a close it is the list's length", here the count; for 26 it is 0.
--- An accepted run has the place 0.
+-- An accepted run has the place 0. 31 and 32 have either, an update's position or the count.
 pub record Reply (count number place : ℕ) : Type 0 where
-  pub known : isOfStart number || isOfUpdate number || isOfClose number ≡ true
+  pub known : isOfStart number || isOfUpdate number || isOfClose number || isOfBoth number ≡ true
   pub at-start : isOfStart number ≡ true → place ≡ 0
   pub at-update : isOfUpdate number ≡ true → place < count
   pub at-close : isOfClose number ≡ true → place ≡ count
+  pub at-both : isOfBoth number ≡ true → place ≤ count
 
 -- no number is of two of them
 module _ (number : ℕ) where
   between : {low high : ℕ} → leb low number && leb number high ≡ true → (low ≤ number) × (number ≤ high)
   between {low} {high} e = (leb-true low number (and-left (leb low number) (leb number high) e), leb-true number high (and-right (leb low number) (leb number high) e))
 
-  start-or : isOfStart number ≡ true → {low high : ℕ} → 2 < low → high < 26 → leb low number && leb number high ≡ true → ⊥
-  start-or s l h e =
-      let b = between e in
-      by-either (leb number 2) (eqb number 26) (λ q. omega (arith, leb-true number 2 q)) (λ q. omega (arith, eqb-true number 26 q)) s
+  -- what follows from each of its numbers
+  by-start : {P : Type 0} → (number ≤ 2 → P) → (number ≡ 26 → P) → isOfStart number ≡ true → P
+  by-start f g = by-either (leb number 2) (eqb number 26) (λ q. f (leb-true number 2 q)) (λ q. g (eqb-true number 26 q))
 
-  update-or : isOfUpdate number ≡ true → isOfClose number ≡ true → ⊥
-  update-or u c = let b = between u in let d = between c in omega arith
+  by-update : {P : Type 0} → ((3 ≤ number) × (number ≤ 19) → P) → ((33 ≤ number) × (number ≤ 34) → P) → isOfUpdate number ≡ true → P
+  by-update f g = by-either (leb 3 number && leb number 19) (leb 33 number && leb number 34) (λ q. f (between q)) (λ q. g (between q))
+
+  start-or-update : isOfStart number ≡ true → isOfUpdate number ≡ true → ⊥
+  start-or-update s u = by-start (λ a. by-update (λ b. omega arith) (λ b. omega arith) u) (λ a. by-update (λ b. omega arith) (λ b. omega arith) u) s
+
+  start-or-close : isOfStart number ≡ true → isOfClose number ≡ true → ⊥
+  start-or-close s c = let b = between c in by-start (λ a. omega arith) (λ a. omega arith) s
+
+  start-or-both : isOfStart number ≡ true → isOfBoth number ≡ true → ⊥
+  start-or-both s c = let b = between c in by-start (λ a. omega arith) (λ a. omega arith) s
+
+  update-or-close : isOfUpdate number ≡ true → isOfClose number ≡ true → ⊥
+  update-or-close u c = let b = between c in by-update (λ a. omega arith) (λ a. omega arith) u
+
+  update-or-both : isOfUpdate number ≡ true → isOfBoth number ≡ true → ⊥
+  update-or-both u c = let b = between c in by-update (λ a. omega arith) (λ a. omega arith) u
+
+  close-or-both : isOfClose number ≡ true → isOfBoth number ≡ true → ⊥
+  close-or-both c d = let a = between c in let b = between d in omega arith
+
+  -- so none of an update or of the close is one that is of the start alone
+  pub update-from-3 : mayBeOfUpdate number ≡ true → 3 ≤ number
+  update-from-3 = by-either (isOfUpdate number) (isOfBoth number) (by-update (λ a. omega arith) (λ a. omega arith)) (λ d. let b = between d in omega arith)
+
+  pub close-from-20 : mayBeOfClose number ≡ true → 20 ≤ number
+  close-from-20 = by-either (isOfClose number) (isOfBoth number) (λ c. let b = between c in omega arith) (λ d. let b = between d in omega arith)
 
 module _ (count number : ℕ) where
   pub reply-of-start : isOfStart number ≡ true → Reply count number 0
   reply-of-start s = record {
-    known = or-left (isOfClose number) (or-left (isOfUpdate number) s);
+    known = or-left (isOfBoth number) (or-left (isOfClose number) (or-left (isOfUpdate number) s));
     at-start = λ e. refl;
-    at-update = λ e. absurd (start-or number s (omega arith) (omega arith) e);
-    at-close = λ e. absurd (start-or number s (omega arith) (omega arith) e);
+    at-update = λ e. absurd (start-or-update number s e);
+    at-close = λ e. absurd (start-or-close number s e);
+    at-both = λ e. absurd (start-or-both number s e);
   }
 
-  reply-of-update : (place : ℕ) → isOfUpdate number ≡ true → place < count → Reply count number place
-  reply-of-update place u l = record {
-    known = or-left (isOfClose number) (or-right (isOfStart number) u);
-    at-start = λ e. absurd (start-or number e (omega arith) (omega arith) u);
-    at-update = λ e. l;
-    at-close = λ e. absurd (update-or number u e);
+  -- of both, at an update or at the close
+  reply-of-both : (place : ℕ) → isOfBoth number ≡ true → place ≤ count → Reply count number place
+  reply-of-both place d l = record {
+    known = or-right (isOfStart number || isOfUpdate number || isOfClose number) d;
+    at-start = λ e. absurd (start-or-both number e d);
+    at-update = λ e. absurd (update-or-both number e d);
+    at-close = λ e. absurd (close-or-both number e d);
+    at-both = λ e. l;
   }
 
-  reply-of-close : isOfClose number ≡ true → Reply count number count
-  reply-of-close c = record {
-    known = or-right (isOfStart number || isOfUpdate number) c;
-    at-start = λ e. absurd (start-or number e (omega arith) (omega arith) c);
-    at-update = λ e. absurd (update-or number e c);
-    at-close = λ e. refl;
-  }
+  reply-of-update : (place : ℕ) → mayBeOfUpdate number ≡ true → place < count → Reply count number place
+  reply-of-update place m l =
+      by-either (isOfUpdate number) (isOfBoth number)
+      (λ u. record {
+        known = or-left (isOfBoth number) (or-left (isOfClose number) (or-right (isOfStart number) u));
+        at-start = λ e. absurd (start-or-update number e u);
+        at-update = λ e. l;
+        at-close = λ e. absurd (update-or-close number u e);
+        at-both = λ e. absurd (update-or-both number u e);
+      })
+      (λ d. reply-of-both place d (omega arith)) m
+
+  reply-of-close : mayBeOfClose number ≡ true → Reply count number count
+  reply-of-close m =
+      by-either (isOfClose number) (isOfBoth number)
+      (λ c. record {
+        known = or-left (isOfBoth number) (or-right (isOfStart number || isOfUpdate number) c);
+        at-start = λ e. absurd (start-or-close number e c);
+        at-update = λ e. absurd (update-or-close number e c);
+        at-close = λ e. refl;
+        at-both = λ e. absurd (close-or-both number c e);
+      })
+      (λ d. reply-of-both count d (omega arith)) m
 
 -- a refusal has a number above 0, and its place
 abbrev pub Replies : ℕ → Outcome → Type 0

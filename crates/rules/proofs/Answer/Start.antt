@@ -5,7 +5,7 @@ use mathlib.Core.Path.{_≡_}
 use mathlib.Core.Bool.{Bool, true, false, not, _&&_}
 use mathlib.Core.List.{List, [], _∷_}
 use lib.Dec.{eqb, leb}
-use borrow.Author.Tests.{eqb-false, leb-true}
+use borrow.Author.Tests.{eqb-false}
 use borrow.Table.Steps.{cases}
 use Rattle.records.specs.declared.metadata.TableMetadata.{TableMetadata}
 use Rattle.records.specs.declared.update.UpdateList.{UpdateList}
@@ -25,7 +25,7 @@ use Rattle.rules.specs.Layout.{readMetadata}
 use Rattle.rules.specs.Kinds.{readUpdates}
 use Rattle.rules.specs.Answer.{Lent, readTerms, laidOutcome, answer}
 use Rattle.rules.proofs.Checks.{by-test, and-left, and-right}
-use Rattle.rules.proofs.Answer.Places.{update-numbered, close-numbered}
+use Rattle.rules.proofs.Answer.Places.{update-numbered, close-numbered, update-from-3, close-from-20}
 
 -- a refusal has another number than 1
 abbrev NotOne : Outcome → Type 0
@@ -43,7 +43,7 @@ updates-not-one terms (u ∷ us) place st =
     let n : ℕ = updateNumber terms u st in
     by-test StopsNotOne (eqb n accepted)
     (λ e. updates-not-one terms us (suc place) (effect terms u st))
-    (λ e z. let k = leb-true 3 n (and-left (leb 3 n) (leb n 19) (update-numbered terms u st (eqb-false n accepted e))) in omega (arith, k, z))
+    (λ e z. omega (arith, update-from-3 n (update-numbered terms u st (eqb-false n accepted e)), z))
 
 close-not-one : (terms : Terms) (us : List Update) (r : Ran) → StopsNotOne r → NotOne (closeRan terms us r)
 unfolding close
@@ -51,7 +51,7 @@ close-not-one terms us (Stopped number at) h = h
 close-not-one terms us (Reached st) h =
     let n : ℕ = firstOf (closeChecks terms (st .log) (st .metadata)) in
     by-test NotOne (eqb n accepted) (λ e. tt)
-    (λ e z. let k = leb-true 20 n (and-left (leb 20 n) (leb n 23) (close-numbered terms (st .log) (st .metadata) (eqb-false n accepted e))) in omega (arith, k, z))
+    (λ e z. omega (arith, close-from-20 n (close-numbered terms (st .log) (st .metadata) (eqb-false n accepted e)), z))
 
 -- a run from a well-formed start
 run-not-one : (terms : Terms) (m : Metadata) (us : List Update) → startFormed terms m ≡ true → NotOne (run terms m us)

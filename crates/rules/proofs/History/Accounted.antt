@@ -11,18 +11,19 @@ use borrow.Author.Tests.{not-false}
 use Rattle.rules.specs.Words.{eqZ, isSome, orElse, someWith, all, any, isEmpty, isIn, put, sameBytes, firstOf}
 use Rattle.rules.specs.Names.{isMain, trimmed}
 use Rattle.rules.specs.Register.{Snapshot, Reference, LogEntry, Metadata, Update, Terms, State}
-use Rattle.rules.specs.Register.Update.{AssignUuid, UpgradeFormatVersion, SetLocation, AddSnapshot, SetBranchSnapshot, RemoveSnapshots, SetRef, RemoveRef, AddSchema, SetCurrentSchema, RemoveSchemas, AddSortOrder, SetDefaultSortOrder, SetStatistics, RemoveStatistics, NotFormed}
+use Rattle.rules.specs.Register.Update.{AssignUuid, UpgradeFormatVersion, SetLocation, AddSnapshot, SetBranchSnapshot, RemoveSnapshots, SetRef, RemoveRef, AddSchema, SetCurrentSchema, RemoveSchemas, AddSortOrder, SetDefaultSortOrder, SetStatistics, RemoveStatistics, AddPartitionSpec, SetDefaultPartitionSpec, RemovePartitionSpecs, NotFormed}
 use Rattle.rules.specs.WellFormed.{snapshotBelow, holdsSnapshot}
 use Rattle.rules.specs.ChangeLog.{isAddition, logsAddition, mainTarget, logsMain, removal, isSnapshotRemoval, removedIds, logsRemoval}
 use Rattle.rules.specs.Moment.{logsRemoved}
 use Rattle.rules.specs.SingleUpdates.{assignUuid, upgradeFormatVersion, setLocation}
 use Rattle.rules.specs.SnapshotUpdates.{addSnapshotChecks, addSnapshot, heldSnapshots, otherSnapshots, removeSnapshots}
 use Rattle.rules.specs.RefUpdates.{refNamed, isHeldRef, setRefChecks, setRef, committed, setBranchSnapshot, removeRef}
-use Rattle.rules.specs.Offers.{offeredSchema}
+use Rattle.rules.specs.Offers.{offeredSchema, offeredSpec}
 use Rattle.rules.specs.SchemaUpdates.{reusedSchema, addSchema, chosen, setCurrentSchema, removeSchemas}
 use Rattle.rules.specs.OrderUpdates.{reusedOrder, addSortOrder, setDefaultSortOrder}
 use Rattle.rules.specs.Register.StatisticsTable.{Statistics, PartitionStatistics}
 use Rattle.rules.specs.StatisticsUpdates.{hasFileOf, setStatistics, removeStatistics}
+use Rattle.rules.specs.SpecUpdates.{reusing, reusedSpec, specAdded, addPartitionSpec, setDefaultPartitionSpec, heldSpecs, removePartitionSpecs}
 use Rattle.rules.specs.Updates.{checks, updateNumber, effect}
 use Rattle.rules.specs.Run.{runFrom, started}
 use Rattle.rules.specs.Run.Ran.{Reached}
@@ -204,7 +205,7 @@ module _ (m : Metadata) where
 
   -- 5 and 12 aside, nothing is asked: the other updates change neither snapshots nor history, and add no snapshot
   effect-accounted : (terms : Terms) (u : Update) (st : State) → updateNumber terms u st ≡ 0 → AccountedState st → AccountedState (effect terms u st)
-  unfolding checks effect assignUuid upgradeFormatVersion setLocation setBranchSnapshot removeRef addSchema setCurrentSchema removeSchemas addSortOrder setDefaultSortOrder setStatistics removeStatistics
+  unfolding checks effect assignUuid upgradeFormatVersion setLocation setBranchSnapshot removeRef addSchema setCurrentSchema removeSchemas addSortOrder setDefaultSortOrder setStatistics removeStatistics specAdded addPartitionSpec setDefaultPartitionSpec removePartitionSpecs
   effect-accounted terms (AssignUuid uuid) st e a = by-test AccountedState (sameBytes uuid (st .metadata .fields .uuid)) (λ q. a) (λ q. logs-quiet (AssignUuid uuid) (λ id. refl) a)
   effect-accounted terms (UpgradeFormatVersion v) st e a = by-test AccountedState (eqb v (st .metadata .fields .version)) (λ q. a) (λ q. logs-quiet (UpgradeFormatVersion v) (λ id. refl) a)
   effect-accounted terms (SetLocation location) st e a = by-test AccountedState (sameBytes (trimmed location) (st .metadata .fields .location)) (λ q. a) (λ q. logs-quiet (SetLocation (trimmed location)) (λ id. refl) a)
@@ -235,6 +236,12 @@ module _ (m : Metadata) where
   effect-accounted terms (SetStatistics PartitionStatistics f) st e a = logs-quiet (SetStatistics PartitionStatistics f) (λ id. refl) a
   effect-accounted terms (RemoveStatistics Statistics id) st e a = by-test AccountedState (hasFileOf (st .metadata .statistics) id) (λ q. logs-quiet (RemoveStatistics Statistics id) (λ id. refl) a) (λ q. a)
   effect-accounted terms (RemoveStatistics PartitionStatistics id) st e a = by-test AccountedState (hasFileOf (st .metadata .partitionStatistics) id) (λ q. logs-quiet (RemoveStatistics PartitionStatistics id) (λ id. refl) a) (λ q. a)
+  effect-accounted terms (AddPartitionSpec o) st e a =
+      by-option AccountedState (reusedSpec (reusing (st .metadata .specs) (offeredSpec (terms .offers) o)) (st .metadata .specs))
+      (λ q. logs-quiet (AddPartitionSpec _) (λ id. refl) a)
+      (λ id q. by-test AccountedState (someWith (eqZ id) (st .added .spec)) (λ p. a) (λ p. logs-quiet (AddPartitionSpec _) (λ id. refl) a))
+  effect-accounted terms (SetDefaultPartitionSpec id) st e a = by-test AccountedState (eqZ (chosen id (st .added .spec)) (st .metadata .fields .defaultSpec)) (λ q. a) (λ q. logs-quiet (SetDefaultPartitionSpec _) (λ id. refl) a)
+  effect-accounted terms (RemovePartitionSpecs ids) st e a = by-test AccountedState (isEmpty (heldSpecs ids (st .metadata .specs))) (λ q. a) (λ q. logs-quiet (RemovePartitionSpecs _) (λ id. refl) a)
   effect-accounted terms (NotFormed counts) st e a = a
 
   -- ---- a run

@@ -5,7 +5,7 @@ use mathlib.Core.List.{List, _++_}
 use mathlib.Core.Option.{none}
 use lib.IntN.{ℤ}
 use Rattle.rules.specs.Register.{Update}
-use Rattle.rules.specs.Register.Update.{AssignUuid, UpgradeFormatVersion, SetLocation, AddSnapshot, SetBranchSnapshot, RemoveSnapshots, SetRef, RemoveRef, AddSchema, SetCurrentSchema, RemoveSchemas, AddSortOrder, SetDefaultSortOrder, SetStatistics, RemoveStatistics, NotFormed}
+use Rattle.rules.specs.Register.Update.{AssignUuid, UpgradeFormatVersion, SetLocation, AddSnapshot, SetBranchSnapshot, RemoveSnapshots, SetRef, RemoveRef, AddSchema, SetCurrentSchema, RemoveSchemas, AddSortOrder, SetDefaultSortOrder, SetStatistics, RemoveStatistics, AddPartitionSpec, SetDefaultPartitionSpec, RemovePartitionSpecs, NotFormed}
 use Rattle.rules.specs.ChangeLog.{ofSnapshots, addition, isAddition, logsAddition, mainTarget, logsMain, removal, isSnapshotRemoval, logsRemoval}
 use Rattle.rules.specs.ChangeLog.OfSnapshots.{Nothing}
 use Rattle.rules.specs.Replay.{isEmptySchemaRemoval, strip}
@@ -29,6 +29,9 @@ dropped-says-nothing (AddSortOrder o) e = refl
 dropped-says-nothing (SetDefaultSortOrder c) e = refl
 dropped-says-nothing (SetStatistics which f) e = refl
 dropped-says-nothing (RemoveStatistics which id) e = refl
+dropped-says-nothing (AddPartitionSpec o) e = refl
+dropped-says-nothing (SetDefaultPartitionSpec c) e = refl
+dropped-says-nothing (RemovePartitionSpecs ids) e = refl
 dropped-says-nothing (NotFormed counts) e = refl
 
 dropped-adds-none : (id : ℤ) (u : Update) → not (isEmptySchemaRemoval u) ≡ false → isAddition id u ≡ false

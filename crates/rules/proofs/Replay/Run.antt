@@ -11,7 +11,7 @@ use Rattle.rules.specs.Words.{all, ifSome}
 use Rattle.rules.specs.Capacities.{listRoom}
 use Rattle.rules.specs.Register.{FileEntry, Metadata, Update, Terms, State}
 use Rattle.rules.specs.Register.Outcome.{Accepted}
-use Rattle.rules.specs.Register.Update.{AssignUuid, UpgradeFormatVersion, SetLocation, AddSnapshot, SetBranchSnapshot, RemoveSnapshots, SetRef, RemoveRef, AddSchema, SetCurrentSchema, RemoveSchemas, AddSortOrder, SetDefaultSortOrder, SetStatistics, RemoveStatistics, NotFormed}
+use Rattle.rules.specs.Register.Update.{AssignUuid, UpgradeFormatVersion, SetLocation, AddSnapshot, SetBranchSnapshot, RemoveSnapshots, SetRef, RemoveRef, AddSchema, SetCurrentSchema, RemoveSchemas, AddSortOrder, SetDefaultSortOrder, SetStatistics, RemoveStatistics, AddPartitionSpec, SetDefaultPartitionSpec, RemovePartitionSpecs, NotFormed}
 use Rattle.rules.specs.WellFormed.{metadataFormed, fileNameFormed, updateFormed}
 use Rattle.rules.specs.Updates.{updateNumber, effect}
 use Rattle.rules.specs.Run.{weight, listSum, runFrom, started, run}
@@ -28,6 +28,7 @@ use Rattle.rules.proofs.Replay.Refs.{set-ref-replays, set-branch-snapsh
 use Rattle.rules.proofs.Replay.Schemas.{add-schema-replays, set-current-schema-replays, remove-schemas-replays}
 use Rattle.rules.proofs.Replay.Orders.{add-sort-order-replays, set-default-sort-order-replays}
 use Rattle.rules.proofs.Replay.Statistics.{set-statistics-replays, remove-statistics-replays}
+use Rattle.rules.proofs.Replay.Specs.{add-partition-spec-replays, set-default-partition-spec-replays, remove-partition-specs-replays}
 use Rattle.rules.proofs.Replay.Close.{close-alike}
 use Rattle.rules.proofs.Sound.Run.{not-reached, same-state}
 use Rattle.rules.proofs.Sound.Accepted.{Ends, run-accepted, run-started}
@@ -51,6 +52,9 @@ update-replays terms (AddSortOrder o) st e k = add-sort-order-replays terms o st
 update-replays terms (SetDefaultSortOrder id) st e k = set-default-sort-order-replays terms id st e
 update-replays terms (SetStatistics which f) st e k = set-statistics-replays terms which f st e
 update-replays terms (RemoveStatistics which id) st e k = remove-statistics-replays terms which id st e
+update-replays terms (AddPartitionSpec o) st e k = add-partition-spec-replays terms o st e k
+update-replays terms (SetDefaultPartitionSpec id) st e k = set-default-partition-spec-replays terms id st e
+update-replays terms (RemovePartitionSpecs ids) st e k = remove-partition-specs-replays terms ids st e k
 update-replays terms (NotFormed counts) st e k = absurd (false≢true (accepted-form terms (NotFormed counts) st e))
 
 -- ---- the updates of a run, from any state and at any place

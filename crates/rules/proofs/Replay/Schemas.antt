@@ -12,7 +12,7 @@ use Rattle.rules.specs.Register.{Schema, SchemaOffer, Update, Terms, Sta
 use Rattle.rules.specs.Register.Update.{AddSchema, SetCurrentSchema, RemoveSchemas}
 use Rattle.rules.specs.WellFormed.{schemaFormed, schemaBelow, schemasFormed, updateFormed}
 use Rattle.rules.specs.Offers.{offeredSchema}
-use Rattle.rules.specs.SchemaUpdates.{offeredAs, reusedSchema, schemaIds, addedSchema, addSchemaChecks, reuseSchema, newSchema, addSchema, chosen, choiceLogged, holdsSchema, setCurrentSchemaChecks, setCurrentSchema, removeSchemasChecks, heldSchemas, removeSchemas}
+use Rattle.rules.specs.SchemaUpdates.{offeredAs, reusedSchema, schemaIds, addedSchema, isTaken, addSchemaChecks, reuseSchema, newSchema, addSchema, chosen, choiceLogged, holdsSchema, setCurrentSchemaChecks, setCurrentSchema, removeSchemasChecks, heldSchemas, removeSchemas}
 use Rattle.rules.specs.Updates.{checks, updateNumber, effect}
 use Rattle.rules.specs.Replay.{strip}
 use Rattle.rules.proofs.Checks.{passed, passed-after}
@@ -33,7 +33,7 @@ numbered-as id s = record { id = id; fields = s .fields }
 
 -- neither the checks nor the search for an equal schema look at the offered id
 renumbered-accepted : (terms : Terms) (id : ℤ) (o : SchemaOffer) (st : State) → nonNeg id ≡ true → updateNumber terms (AddSchema o) st ≡ 0 → updateNumber terms (AddSchema (offeredAs id o)) st ≡ 0
-unfolding checks addSchemaChecks updateFormed offeredSchema
+unfolding checks addSchemaChecks isTaken updateFormed offeredSchema
 renumbered-accepted terms id o st n e =
     let cs : List Check = addSchemaChecks (offeredSchema (terms .offers) o) st in
     let k : firstOf (offer-check (terms .offers) o ++ cs) ≡ 0 = accepted-checks terms (AddSchema o) st e in

@@ -8,7 +8,7 @@ use lib.Dec.{eqb}
 use borrow.Author.Tests.{eq-eqb}
 use Rattle.rules.specs.Words.{all, firstOf}
 use Rattle.rules.specs.Register.{Update, Terms, State}
-use Rattle.rules.specs.Register.Update.{AssignUuid, UpgradeFormatVersion, SetLocation, AddSnapshot, SetBranchSnapshot, RemoveSnapshots, SetRef, RemoveRef, AddSchema, SetCurrentSchema, RemoveSchemas, AddSortOrder, SetDefaultSortOrder, SetStatistics, RemoveStatistics, NotFormed}
+use Rattle.rules.specs.Register.Update.{AssignUuid, UpgradeFormatVersion, SetLocation, AddSnapshot, SetBranchSnapshot, RemoveSnapshots, SetRef, RemoveRef, AddSchema, SetCurrentSchema, RemoveSchemas, AddSortOrder, SetDefaultSortOrder, SetStatistics, RemoveStatistics, AddPartitionSpec, SetDefaultPartitionSpec, RemovePartitionSpecs, NotFormed}
 use Rattle.rules.specs.WellFormed.{updateFormed}
 use Rattle.rules.specs.SingleUpdates.{upgradeFormatVersionChecks}
 use Rattle.rules.specs.SnapshotUpdates.{addSnapshotChecks, addSnapshot}
@@ -16,6 +16,7 @@ use Rattle.rules.specs.RefUpdates.{setRefChecks, setBranchSnapshotChecks
 use Rattle.rules.specs.SchemaUpdates.{addSchemaChecks, setCurrentSchemaChecks, removeSchemasChecks}
 use Rattle.rules.specs.OrderUpdates.{addSortOrderChecks, setDefaultSortOrderChecks}
 use Rattle.rules.specs.StatisticsUpdates.{setStatisticsChecks}
+use Rattle.rules.specs.SpecUpdates.{addPartitionSpecChecks, setDefaultPartitionSpecChecks, removePartitionSpecsChecks}
 use Rattle.rules.specs.Updates.{checks, updateNumber, effect}
 use Rattle.rules.specs.Run.{weight, listSum, Ran, runFrom}
 use Rattle.rules.specs.Run.Ran.{Reached}
@@ -33,7 +34,7 @@ abbrev pub withLog : List Update → State → State
 withLog l st = record { metadata = st .metadata; own = st .own; added = st .added; log = l }
 
 checks-alike : (terms : Terms) (u : Update) (l : List Update) (st : State) → checks terms u (withLog l st) ≡ checks terms u st
-unfolding checks upgradeFormatVersionChecks addSnapshotChecks addSnapshot setRefChecks setBranchSnapshotChecks addSchemaChecks setCurrentSchemaChecks removeSchemasChecks addSortOrderChecks setDefaultSortOrderChecks setStatisticsChecks
+unfolding checks upgradeFormatVersionChecks addSnapshotChecks addSnapshot setRefChecks setBranchSnapshotChecks addSchemaChecks setCurrentSchemaChecks removeSchemasChecks addSortOrderChecks setDefaultSortOrderChecks setStatisticsChecks addPartitionSpecChecks setDefaultPartitionSpecChecks removePartitionSpecsChecks
 checks-alike terms (AssignUuid uuid) l st = refl
 checks-alike terms (UpgradeFormatVersion v) l st = refl
 checks-alike terms (SetLocation location) l st = refl
@@ -49,6 +50,9 @@ checks-alike terms (AddSortOrder o) l st = refl
 checks-alike terms (SetDefaultSortOrder id) l st = refl
 checks-alike terms (SetStatistics which f) l st = refl
 checks-alike terms (RemoveStatistics which id) l st = refl
+checks-alike terms (AddPartitionSpec o) l st = refl
+checks-alike terms (SetDefaultPartitionSpec id) l st = refl
+checks-alike terms (RemovePartitionSpecs ids) l st = refl
 checks-alike terms (NotFormed counts) l st = refl
 
 -- no check reads the log

@@ -15,17 +15,18 @@ use Rattle.rules.specs.Replies.{commitOnTag}
 use Rattle.rules.specs.Capacities.{largestUnsigned}
 use Rattle.rules.specs.RowIds.{isBehind, overflows}
 use Rattle.rules.specs.Names.{isMain, trimmed}
-use Rattle.rules.specs.Register.{RowRange, Snapshot, Reference, Schema, SchemaOffer, SortOrder, StatisticsFile, StatisticsTable, Update, Terms, State, logged}
-use Rattle.rules.specs.Register.Update.{AssignUuid, UpgradeFormatVersion, SetLocation, AddSnapshot, SetBranchSnapshot, RemoveSnapshots, SetRef, RemoveRef, AddSchema, SetCurrentSchema, RemoveSchemas, AddSortOrder, SetDefaultSortOrder, SetStatistics, RemoveStatistics, NotFormed}
+use Rattle.rules.specs.Register.{RowRange, Snapshot, Reference, Schema, SchemaOffer, SortOrder, PartitionSpec, SpecOffer, StatisticsFile, StatisticsTable, Update, Terms, State, logged}
+use Rattle.rules.specs.Register.Update.{AssignUuid, UpgradeFormatVersion, SetLocation, AddSnapshot, SetBranchSnapshot, RemoveSnapshots, SetRef, RemoveRef, AddSchema, SetCurrentSchema, RemoveSchemas, AddSortOrder, SetDefaultSortOrder, SetStatistics, RemoveStatistics, AddPartitionSpec, SetDefaultPartitionSpec, RemovePartitionSpecs, NotFormed}
 use Rattle.rules.specs.WellFormed.{versionFormed, updateFormed}
 use Rattle.rules.specs.SingleUpdates.{assignUuid, upgradeFormatVersionChecks, upgradeFormatVersion, setLocation}
 use Rattle.rules.specs.SnapshotUpdates.{isVersion3, addSnapshotChecks, addSnapshot, heldSnapshots, withoutSnapshots, removeSnapshots}
 use Rattle.rules.specs.RefUpdates.{refNamed, isHeldRef, putRef, setRefChecks, setRef, committed, isTag, setBranchSnapshotChecks, setBranchSnapshot, removeRef}
-use Rattle.rules.specs.Offers.{offeredSchema}
+use Rattle.rules.specs.Offers.{offeredSchema, offeredSpec}
 use Rattle.rules.specs.SchemaUpdates.{reusedSchema, addSchema, chosen, setCurrentSchema, removeSchemas}
 use Rattle.rules.specs.OrderUpdates.{reusedOrder, addSortOrder, setDefaultSortOrder}
 use Rattle.rules.specs.Register.StatisticsTable.{Statistics, PartitionStatistics}
 use Rattle.rules.specs.StatisticsUpdates.{hasFileOf, setStatistics, removeStatistics}
+use Rattle.rules.specs.SpecUpdates.{reusing, reusedSpec, specAdded, addPartitionSpec, setDefaultPartitionSpec, heldSpecs, removePartitionSpecs}
 use Rattle.rules.specs.Updates.{checks, updateNumber, effect}
 use Rattle.rules.specs.ChangeLog.{newSnapshot}
 use Rattle.rules.specs.Rows.{newSnapshots, endOf}
@@ -135,6 +136,21 @@ module _ (st : State) where
   remove-statistics-keeps Statistics id = by-test (Keeps st) (hasFileOf (st .metadata .statistics) id) (λ e. logged-keeps st _ refl) (λ e. refl)
   remove-statistics-keeps PartitionStatistics id = by-test (Keeps st) (hasFileOf (st .metadata .partitionStatistics) id) (λ e. logged-keeps st _ refl) (λ e. refl)
 
+  pub add-partition-spec-keeps : (o : SpecOffer) (s : PartitionSpec) → Keeps st (addPartitionSpec o s st)
+  unfolding specAdded addPartitionSpec
+  add-partition-spec-keeps o s =
+      by-option (Keeps st) (reusedSpec (reusing (st .metadata .specs) s) (st .metadata .specs))
+      (λ n. logged-keeps st _ refl)
+      (λ id n. by-test (Keeps st) (someWith (eqZ id) (st .added .spec)) (λ e. refl) (λ e. logged-keeps st _ refl))
+
+  pub set-default-partition-spec-keeps : (id : ℤ) → Keeps st (setDefaultPartitionSpec id st)
+  unfolding setDefaultPartitionSpec
+  set-default-partition-spec-keeps id = by-test (Keeps st) (eqZ (chosen id (st .added .spec)) (st .metadata .fields .defaultSpec)) (λ e. refl) (λ e. logged-keeps st _ refl)
+
+  pub remove-partition-specs-keeps : (ids : List ℤ) → Keeps st (removePartitionSpecs ids st)
+  unfolding removePartitionSpecs
+  remove-partition-specs-keeps ids = by-test (Keeps st) (isEmpty (heldSpecs ids (st .metadata .specs))) (λ e. refl) (λ e. logged-keeps st _ refl)
+
 -- a removal takes snapshots from the table and leaves the rest of it
 pub remove-snapshots-keeps : (ids : List ℤ) (st : State) → Keeps (withoutSnapshots ids st) (removeSnapshots ids st)
 unfolding removeSnapshots
@@ -200,6 +216,9 @@ checked-step terms (AddSortOrder o) st f e v = leaves (add-sort-order-keeps st o
 checked-step terms (SetDefaultSortOrder id) st f e v = leaves (set-default-sort-order-keeps st id)
 checked-step terms (SetStatistics which x) st f e v = leaves (set-statistics-keeps st which x)
 checked-step terms (RemoveStatistics which id) st f e v = leaves (remove-statistics-keeps st which id)
+checked-step terms (AddPartitionSpec o) st f e v = leaves (add-partition-spec-keeps st o (offeredSpec (terms .offers) o))
+checked-step terms (SetDefaultPartitionSpec id) st f e v = leaves (set-default-partition-spec-keeps st id)
+checked-step terms (RemovePartitionSpecs ids) st f e v = leaves (remove-partition-specs-keeps st ids)
 checked-step terms (NotFormed counts) st f e v = leaves refl
 
 pub effect-step : (terms : Terms) (u : Update) (st : State) → updateNumber terms u st ≡ 0 → st .metadata .fields .version ≡ 3 → Step st (effect terms u st) (newSnapshots (u ∷ []))

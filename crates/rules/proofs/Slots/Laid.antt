@@ -11,18 +11,18 @@ use lib.Signed.{nonNeg}
 use lib.ListN.{length, take, replicate, length-append, length-replicate, length-map}
 use lib.Seq.{take-at, drop-at}
 use borrow.Author.Tests.{leb-true, eq-eqb}
-use Rattle.records.specs.Blanks.{noSnapshotId, noSnapshot, noLogEntry, noRef, noSchemaField, noSchema, noSchemaId, noSortField, noSortOrder, noStatisticsFile, noMetadataLogEntry, noFieldsPart, noSnapshotsPart, noSchemasPart, noSortOrdersPart, noStatisticsPart, noUpdate}
-use Rattle.rules.specs.Words.{isSome, orElse, all, ascending}
-use Rattle.rules.specs.Capacities.{snapshotRoom, refRoom, snapshotLogRoom, metadataLogRoom, schemaRoom, schemaFieldRoom, sortOrderRoom, sortFieldRoom, statisticsRoom, removalRoom, nameRoom, textRoom}
+use Rattle.records.specs.Blanks.{noSnapshotId, noSnapshot, noLogEntry, noRef, noSchemaField, noSchema, noSchemaId, noSortField, noSortOrder, noPartitionField, noPartitionSpec, noFieldId, noSpecId, noStatisticsFile, noMetadataLogEntry, noFieldsPart, noSnapshotsPart, noSchemasPart, noSortOrdersPart, noStatisticsPart, noPartitionSpecsPart, noUpdate}
+use Rattle.rules.specs.Words.{isSome, orElse, ifSome, all, ascending}
+use Rattle.rules.specs.Capacities.{snapshotRoom, refRoom, snapshotLogRoom, metadataLogRoom, schemaRoom, schemaFieldRoom, sortOrderRoom, sortFieldRoom, specRoom, partitionFieldRoom, statisticsRoom, removalRoom, nameRoom, textRoom}
 use Rattle.rules.specs.Register as plain
 use Rattle.rules.specs.Register.{Update}
-use Rattle.rules.specs.Register.Update.{AssignUuid, UpgradeFormatVersion, SetLocation, AddSnapshot, SetBranchSnapshot, RemoveSnapshots, SetRef, RemoveRef, AddSchema, SetCurrentSchema, RemoveSchemas, AddSortOrder, SetDefaultSortOrder, SetStatistics, RemoveStatistics, NotFormed}
+use Rattle.rules.specs.Register.Update.{AssignUuid, UpgradeFormatVersion, SetLocation, AddSnapshot, SetBranchSnapshot, RemoveSnapshots, SetRef, RemoveRef, AddSchema, SetCurrentSchema, RemoveSchemas, AddSortOrder, SetDefaultSortOrder, SetStatistics, RemoveStatistics, AddPartitionSpec, SetDefaultPartitionSpec, RemovePartitionSpecs, NotFormed}
 use Rattle.rules.specs.Register.StatisticsTable.{Statistics, PartitionStatistics}
-use Rattle.rules.specs.WellFormed.{snapshotFormed, refFormed, nameFormed, fileNameFormed, schemaFormed, orderFormed, offeredOrderFormed, sortFieldFormed, statisticsFileFormed, removalFormed, atLeastOne, fieldTypeFormed, schemaFieldFormed, versionFormed, locationFormed, snapshotBelow, refBelow, schemaBelow, orderBelow, statisticsBelow, snapshotsFormed, refsFormed, snapshotLogFormed, metadataLogFormed, schemasFormed, ordersFormed, statisticsFormed, fieldsFormed, refsHeld, mainAgrees, currentSchemaHeld, defaultOrderHeld, metadataFormed, updateFormed}
-use Rattle.rules.specs.Blanks.{isZero, isZeroZ, restBlank, tidySlots, isTidyName, isTidyText, isTidySnapshot, isBlankSnapshot, isTidySnapshots, isBlankSnapshotId, isTidySnapshotIds, isBlankSnapshotIds, isBlankLogEntry, isTidySnapshotLog, isTidyReference, isBlankReference, isTidyRef, isBlankRef, isTidyRefs, isTidySchemaField, isBlankSchemaField, isTidySchema, isBlankSchema, isTidySchemas, isBlankSchemaId, isTidySchemaIds, isBlankSchemaIds, isBlankSortField, isTidySortOrder, isBlankSortOrder, isTidySortOrders, isTidyStatisticsFile, isBlankStatisticsFile, isTidyStatistics, isTidyMetadataLogEntry, isBlankMetadataLogEntry, isTidyMetadataLog, isTidyFields, isTidyMetadata}
-use Rattle.rules.specs.Layout.{pad, firstRow, addedRows, laidName, laidText, laidSnapshot, laidSnapshots, laidSnapshotIds, laidLogEntry, laidSnapshotLog, laidReference, laidRef, laidRefs, laidSchemaField, laidSchema, laidSchemas, laidSchemaIds, laidSortField, laidSortOrder, laidSortOrders, laidStatisticsFile, laidStatistics, laidMetadataLogEntry, laidMetadataLog, laidFields, laidMetadata}
-use Rattle.rules.specs.Kinds.{isTidyFieldsPart, isTidySnapshotsPart, isTidyRefsPart, isTidySchemasPart, isTidySortOrdersPart, isTidyStatisticsPart, isTidyUpdate, laidUpdate}
-use Rattle.rules.proofs.Checks.{both, and-left, and-right, parts, whole, schemaTests}
+use Rattle.rules.specs.WellFormed.{snapshotFormed, refFormed, nameFormed, fileNameFormed, schemaFormed, orderFormed, offeredOrderFormed, sortFieldFormed, partitionFieldFormed, offeredSpecFormed, transformFormed, specFormed, statisticsFileFormed, removalFormed, atLeastOne, fieldTypeFormed, schemaFieldFormed, versionFormed, locationFormed, snapshotBelow, refBelow, schemaBelow, orderBelow, specBelow, statisticsBelow, snapshotsFormed, refsFormed, snapshotLogFormed, metadataLogFormed, schemasFormed, ordersFormed, specsFormed, statisticsFormed, fieldsFormed, refsHeld, mainAgrees, currentSchemaHeld, defaultOrderHeld, defaultSpecHeld, metadataFormed, offeredIdsFormed, updateFormed}
+use Rattle.rules.specs.Blanks.{isZero, isZeroZ, restBlank, tidySlots, isTidyName, isTidyText, isTidySnapshot, isBlankSnapshot, isTidySnapshots, isBlankSnapshotId, isTidySnapshotIds, isBlankSnapshotIds, isBlankLogEntry, isTidySnapshotLog, isTidyReference, isBlankReference, isTidyRef, isBlankRef, isTidyRefs, isTidySchemaField, isBlankSchemaField, isTidySchema, isBlankSchema, isTidySchemas, isBlankSchemaId, isTidySchemaIds, isBlankSchemaIds, isBlankSortField, isTidySortOrder, isBlankSortOrder, isTidySortOrders, isTidyPartitionField, isBlankPartitionField, isTidyPartitionSpec, isBlankPartitionSpec, isTidyPartitionSpecs, isBlankFieldId, isTidySpecOffer, isBlankSpecOffer, isBlankSpecId, isTidySpecIds, isBlankSpecIds, isTidyStatisticsFile, isBlankStatisticsFile, isTidyStatistics, isTidyMetadataLogEntry, isBlankMetadataLogEntry, isTidyMetadataLog, isTidyFields, isTidyMetadata}
+use Rattle.rules.specs.Layout.{pad, firstRow, addedRows, laidName, laidText, laidSnapshot, laidSnapshots, laidSnapshotIds, laidLogEntry, laidSnapshotLog, laidReference, laidRef, laidRefs, laidSchemaField, laidSchema, laidSchemas, laidSchemaIds, laidSortField, laidSortOrder, laidSortOrders, laidPartitionField, laidPartitionSpec, laidPartitionSpecs, laidFieldId, laidSpecOffer, laidSpecIds, laidStatisticsFile, laidStatistics, laidMetadataLogEntry, laidMetadataLog, laidFields, laidMetadata}
+use Rattle.rules.specs.Kinds.{isTidyFieldsPart, isTidySnapshotsPart, isTidyRefsPart, isTidySchemasPart, isTidySortOrdersPart, isTidyStatisticsPart, isTidyPartitionSpecsPart, isTidyUpdate, laidUpdate}
+use Rattle.rules.proofs.Checks.{both, and-left, and-right, parts, whole, schemaTests, offered-of}
 use Rattle.rules.proofs.Tables.{all-then}
 
 -- ---- numbers behind a flag
@@ -186,6 +186,41 @@ tidy-sort-orders l f =
     let k = parts (leb (length l) sortOrderRoom) (all orderFormed l ∷ ascending orderBelow l ∷ []) f in
     table-tidy noSortOrder isBlankSortOrder no-sort-order laidSortOrder isTidySortOrder orderFormed (λ o e. tidy-sort-order o (and-left (offeredOrderFormed o) _ e)) sortOrderRoom l (k .0) (k .1 .0)
 
+-- ---- partition specs
+
+tidy-partition-field : (f : plain.PartitionField) → partitionFieldFormed f ≡ true → isTidyPartitionField (laidPartitionField f) ≡ true
+unfolding isTidyPartitionField laidPartitionField
+tidy-partition-field f e = both (absent-zero (f .id)) (tidy-ref-name (f .name) (and-right (atLeastOne (f .source) && ifSome atLeastOne (f .id) && transformFormed (f .transform) (f .buckets) && leb 1 (length (f .name))) (nameFormed (f .name)) e))
+
+no-partition-field : isBlankPartitionField noPartitionField ≡ true
+unfolding isBlankPartitionField
+no-partition-field = refl
+
+pub tidy-partition-spec : (s : plain.PartitionSpec) → offeredSpecFormed s ≡ true → isTidyPartitionSpec (laidPartitionSpec s) ≡ true
+unfolding isTidyPartitionSpec laidPartitionSpec
+tidy-partition-spec s f =
+    let k = parts (nonNeg (s .id)) (leb (length (s .fields)) partitionFieldRoom ∷ all partitionFieldFormed (s .fields) ∷ []) f in
+    table-tidy noPartitionField isBlankPartitionField no-partition-field laidPartitionField isTidyPartitionField partitionFieldFormed tidy-partition-field partitionFieldRoom (s .fields) (k .1 .0) (k .1 .1 .0)
+
+no-partition-spec : isBlankPartitionSpec noPartitionSpec ≡ true
+unfolding isBlankPartitionSpec noPartitionSpec isBlankPartitionField
+no-partition-spec = refl
+
+pub tidy-partition-specs : (l : List plain.PartitionSpec) → specsFormed l ≡ true → isTidyPartitionSpecs (laidPartitionSpecs l) ≡ true
+unfolding isTidyPartitionSpecs laidPartitionSpecs specsFormed
+tidy-partition-specs l f =
+    let k = parts (leb (length l) specRoom) (all specFormed l ∷ ascending specBelow l ∷ []) f in
+    table-tidy noPartitionSpec isBlankPartitionSpec no-partition-spec laidPartitionSpec isTidyPartitionSpec specFormed (λ s e. tidy-partition-spec s (offered-of s e)) specRoom l (k .0) (k .1 .0)
+
+pub tidy-spec-offer : (o : plain.SpecOffer) → offeredIdsFormed o ≡ true → isTidySpecOffer (laidSpecOffer o) ≡ true
+unfolding isTidySpecOffer laidSpecOffer
+tidy-spec-offer o f =
+    fields-tidy noFieldId isBlankFieldId refl laidFieldId partitionFieldRoom (o .ids) (parts (nonNeg (o .id)) (leb (length (o .ids)) partitionFieldRoom ∷ all (ifSome atLeastOne) (o .ids) ∷ []) f .1 .0)
+
+pub tidy-spec-ids : (l : List ℤ) → removalFormed l ≡ true → isTidySpecIds (laidSpecIds l) ≡ true
+unfolding isTidySpecIds laidSpecIds
+tidy-spec-ids l f = fields-tidy noSpecId isBlankSpecId refl (λ (z : ℤ). record { 0 = z }) removalRoom l (and-left (leb (length l) removalRoom) _ f)
+
 -- ---- statistics files
 
 pub tidy-statistics-file : (f : plain.StatisticsFile) → statisticsFileFormed f ≡ true → isTidyStatisticsFile (laidStatisticsFile f) ≡ true
@@ -222,15 +257,15 @@ tidy-metadata-log l f =
 pub tidy-fields : (f : plain.SingleFields) → fieldsFormed f ≡ true → isTidyFields (laidFields f) ≡ true
 unfolding isTidyFields laidFields fieldsFormed
 tidy-fields f e =
-    let k = parts (versionFormed (f .version)) (locationFormed (f .location) ∷ nonNeg (f .lastSequence .0) ∷ []) e in
+    let k = parts (versionFormed (f .version)) (locationFormed (f .location) ∷ nonNeg (f .lastSequence .0) ∷ nonNeg (f .lastPartition) ∷ []) e in
     both (tidy-text (f .location) (k .1 .0)) (absent-zero (f .current))
 
 -- metadata that is well formed is laid out tidily
 pub tidy-metadata : (p : plain.Metadata) → metadataFormed p ≡ true → isTidyMetadata (laidMetadata p) ≡ true
 unfolding isTidyMetadata laidMetadata metadataFormed
 tidy-metadata p f =
-    let k = parts (snapshotsFormed (p .snapshots)) (refsFormed (p .refs) ∷ snapshotLogFormed (p .snapshotLog) ∷ metadataLogFormed (p .metadataLog) ∷ schemasFormed (p .schemas) ∷ ordersFormed (p .orders) ∷ statisticsFormed (p .statistics) ∷ statisticsFormed (p .partitionStatistics) ∷ fieldsFormed (p .fields) ∷ refsHeld p ∷ mainAgrees p ∷ currentSchemaHeld p ∷ defaultOrderHeld p ∷ []) f in
-    whole (isTidySnapshots (laidSnapshots (p .snapshots))) (isTidyRefs (laidRefs (p .refs)) ∷ isTidySnapshotLog (laidSnapshotLog (p .snapshotLog)) ∷ isTidyMetadataLog (laidMetadataLog (p .metadataLog)) ∷ isTidySchemas (laidSchemas (p .schemas)) ∷ isTidySortOrders (laidSortOrders (p .orders)) ∷ isTidyStatistics (laidStatistics (p .statistics)) ∷ isTidyStatistics (laidStatistics (p .partitionStatistics)) ∷ isTidyFields (laidFields (p .fields)) ∷ []) (
+    let k = parts (snapshotsFormed (p .snapshots)) (refsFormed (p .refs) ∷ snapshotLogFormed (p .snapshotLog) ∷ metadataLogFormed (p .metadataLog) ∷ schemasFormed (p .schemas) ∷ ordersFormed (p .orders) ∷ statisticsFormed (p .statistics) ∷ statisticsFormed (p .partitionStatistics) ∷ specsFormed (p .specs) ∷ fieldsFormed (p .fields) ∷ refsHeld p ∷ mainAgrees p ∷ currentSchemaHeld p ∷ defaultOrderHeld p ∷ defaultSpecHeld p ∷ []) f in
+    whole (isTidySnapshots (laidSnapshots (p .snapshots))) (isTidyRefs (laidRefs (p .refs)) ∷ isTidySnapshotLog (laidSnapshotLog (p .snapshotLog)) ∷ isTidyMetadataLog (laidMetadataLog (p .metadataLog)) ∷ isTidySchemas (laidSchemas (p .schemas)) ∷ isTidySortOrders (laidSortOrders (p .orders)) ∷ isTidyStatistics (laidStatistics (p .statistics)) ∷ isTidyStatistics (laidStatistics (p .partitionStatistics)) ∷ isTidyPartitionSpecs (laidPartitionSpecs (p .specs)) ∷ isTidyFields (laidFields (p .fields)) ∷ []) (
       tidy-snapshots (p .snapshots) (k .0),
       (
         tidy-refs (p .refs) (k .1 .0),
@@ -247,8 +282,11 @@ tidy-metadata p f =
                   (
                     tidy-statistics (p .partitionStatistics) (k .1 .1 .1 .1 .1 .1 .1 .0),
                     (
-                      tidy-fields (p .fields) (k .1 .1 .1 .1 .1 .1 .1 .1 .0),
-                      tt,
+                      tidy-partition-specs (p .specs) (k .1 .1 .1 .1 .1 .1 .1 .1 .0),
+                      (
+                        tidy-fields (p .fields) (k .1 .1 .1 .1 .1 .1 .1 .1 .1 .0),
+                        tt,
+                      ),
                     ),
                   ),
                 ),
@@ -263,7 +301,7 @@ tidy-metadata p f =
 
 -- an update that is well formed is laid out tidily: a part that its kind does not use is blank, and what it uses is tidy where it is well formed
 pub tidy-update : (u : Update) → updateFormed u ≡ true → isTidyUpdate (laidUpdate u) ≡ true
-unfolding isTidyFieldsPart isTidySnapshotsPart isTidyRefsPart isTidySchemasPart isTidySortOrdersPart isTidyStatisticsPart noUpdate noFieldsPart noSnapshotsPart noSchemasPart noSortOrdersPart noStatisticsPart noSchema noSortOrder isBlankSnapshot isBlankSnapshotIds isBlankReference isBlankSchema isBlankSchemaIds isBlankSortField isBlankSortOrder isBlankStatisticsFile isTidySnapshot isTidySnapshotIds isTidyReference isTidySchema isTidySchemaIds isTidySortOrder isTidyStatisticsFile laidUpdate updateFormed
+unfolding isTidyFieldsPart isTidySnapshotsPart isTidyRefsPart isTidySchemasPart isTidySortOrdersPart isTidyStatisticsPart isTidyPartitionSpecsPart noUpdate noFieldsPart noSnapshotsPart noSchemasPart noSortOrdersPart noStatisticsPart noPartitionSpecsPart noSchema noSortOrder isBlankSnapshot isBlankSnapshotIds isBlankReference isBlankSchema isBlankSchemaIds isBlankSortField isBlankSortOrder isBlankStatisticsFile isBlankSpecOffer isBlankSpecIds isTidySnapshot isTidySnapshotIds isTidyReference isTidySchema isTidySchemaIds isTidySortOrder isTidyStatisticsFile isTidySpecOffer isTidySpecIds laidUpdate updateFormed
 tidy-update (AssignUuid uuid) f = refl
 tidy-update (UpgradeFormatVersion v) f = refl
 tidy-update (SetLocation location) f = rw (tidy-text location f)
@@ -281,8 +319,11 @@ tidy-update (SetStatistics Statistics x) f = rw (tidy-statistics-file x f)
 tidy-update (SetStatistics PartitionStatistics x) f = rw (tidy-statistics-file x f)
 tidy-update (RemoveStatistics Statistics id) f = refl
 tidy-update (RemoveStatistics PartitionStatistics id) f = refl
+tidy-update (AddPartitionSpec o) f = rw (tidy-spec-offer o f)
+tidy-update (SetDefaultPartitionSpec id) f = refl
+tidy-update (RemovePartitionSpecs ids) f = rw (tidy-spec-ids ids f)
 tidy-update (NotFormed counts) f = absurd (false≢true f)
 
 pub tidy-no-update : isTidyUpdate noUpdate ≡ true
-unfolding isTidyFieldsPart isTidySnapshotsPart isTidyRefsPart isTidySchemasPart isTidySortOrdersPart isTidyStatisticsPart noUpdate noFieldsPart noSnapshotsPart noSchemasPart noSortOrdersPart noStatisticsPart noSchema noSortOrder isBlankSnapshot isBlankSnapshotIds isBlankReference isBlankSchema isBlankSchemaIds isBlankSortField isBlankSortOrder isBlankStatisticsFile isTidySnapshot isTidySnapshotIds isTidyReference isTidySchema isTidySchemaIds isTidySortOrder isTidyStatisticsFile
+unfolding isTidyFieldsPart isTidySnapshotsPart isTidyRefsPart isTidySchemasPart isTidySortOrdersPart isTidyStatisticsPart isTidyPartitionSpecsPart noUpdate noFieldsPart noSnapshotsPart noSchemasPart noSortOrdersPart noStatisticsPart noPartitionSpecsPart noSchema noSortOrder isBlankSnapshot isBlankSnapshotIds isBlankReference isBlankSchema isBlankSchemaIds isBlankSortField isBlankSortOrder isBlankStatisticsFile isBlankSpecOffer isBlankSpecIds isTidySnapshot isTidySnapshotIds isTidyReference isTidySchema isTidySchemaIds isTidySortOrder isTidyStatisticsFile isTidySpecOffer isTidySpecIds
 tidy-no-update = refl

@@ -11,10 +11,12 @@ use lib.Signed.{nonNeg}
 use lib.ListN.{length, set, take, drop, replicate, length-append, length-replicate, length-take, length-drop, length-map, take-append-drop}
 use lib.Seq.{set-at}
 use borrow.Author.Tests.{eqb-true, leb-true, not-true}
-use Rattle.records.specs.Blanks.{noName, noText, noSnapshotId, noSnapshot, noSnapshotIds, noLogEntry, noReference, noRef, noSchemaField, noSchema, noSchemaOffer, noSchemaId, noSchemaIds, noSortField, noSortOrder, noStatisticsFile, noMetadataLogEntry}
+use Rattle.records.specs.Blanks.{noName, noText, noSnapshotId, noSnapshot, noSnapshotIds, noLogEntry, noReference, noRef, noSchemaField, noSchema, noSchemaOffer, noSchemaId, noSchemaIds, noSortField, noSortOrder, noPartitionField, noPartitionSpec, noFieldId, noSpecId, noSpecOffer, noSpecIds, noStatisticsFile, noMetadataLogEntry}
 use Rattle.records.specs.declared.counters.RowId.{RowId}
 use Rattle.records.specs.declared.counters.SnapshotId.{SnapshotId}
 use Rattle.records.specs.declared.counters.SchemaId.{SchemaId}
+use Rattle.records.specs.declared.counters.FieldId.{FieldId}
+use Rattle.records.specs.declared.counters.SpecId.{SpecId}
 use Rattle.records.specs.declared.snapshot.SnapshotIds.{SnapshotIds}
 use Rattle.records.specs.declared.schema.SchemaOffer.{SchemaOffer}
 use Rattle.records.specs.declared.schema.SchemaIds.{SchemaIds}
@@ -31,6 +33,11 @@ use Rattle.records.specs.declared.schema.Schemas.{Schemas}
 use Rattle.records.specs.declared.«sort_order».SortField.{SortField}
 use Rattle.records.specs.declared.«sort_order».SortOrder.{SortOrder}
 use Rattle.records.specs.declared.«sort_order».SortOrders.{SortOrders}
+use Rattle.records.specs.declared.partition.PartitionField.{PartitionField}
+use Rattle.records.specs.declared.partition.PartitionSpec.{PartitionSpec}
+use Rattle.records.specs.declared.partition.PartitionSpecs.{PartitionSpecs}
+use Rattle.records.specs.declared.partition.SpecOffer.{SpecOffer}
+use Rattle.records.specs.declared.partition.SpecIds.{SpecIds}
 use Rattle.records.specs.declared.statistics.StatisticsFile.{StatisticsFile}
 use Rattle.records.specs.declared.statistics.StatisticsFiles.{StatisticsFiles}
 use Rattle.records.specs.declared.metadata.MetadataLogEntry.{MetadataLogEntry}
@@ -39,14 +46,14 @@ use Rattle.records.specs.declared.metadata.SingleFields.{SingleFields}
 use Rattle.records.specs.declared.metadata.TableMetadata.{TableMetadata}
 use Rattle.records.specs.declared.snapshot.Snapshot.{Snapshot}
 use Rattle.records.specs.declared.snapshot.Snapshots.{Snapshots}
-use Rattle.rules.specs.Words.{isSome, orElse, all, ascending}
-use Rattle.rules.specs.Capacities.{snapshotRoom, refRoom, snapshotLogRoom, metadataLogRoom, schemaRoom, schemaFieldRoom, sortOrderRoom, sortFieldRoom, statisticsRoom, removalRoom, nameRoom, textRoom}
-use Rattle.rules.specs.WellFormed.{snapshotFormed, refFormed, nameFormed, fileNameFormed, schemaFormed, orderFormed, offeredOrderFormed, sortFieldFormed, statisticsFileFormed, removalFormed, atLeastOne, fieldTypeFormed, schemaFieldFormed, versionFormed, locationFormed, snapshotBelow, refBelow, schemaBelow, orderBelow, statisticsBelow, snapshotsFormed, refsFormed, snapshotLogFormed, metadataLogFormed, schemasFormed, ordersFormed, statisticsFormed, fieldsFormed, refsHeld, mainAgrees, currentSchemaHeld, defaultOrderHeld, metadataFormed}
-use Rattle.rules.specs.Blanks.{isZero, isZeroZ, restBlank, tidySlots, noneUsed, isBlankUuid, isTidyName, isBlankName, isTidyText, isBlankText, isTidySnapshot, isBlankSnapshot, isTidySnapshots, isBlankSnapshotId, isTidySnapshotIds, isBlankSnapshotIds, isBlankLogEntry, isTidySnapshotLog, isTidyReference, isBlankReference, isTidyRef, isBlankRef, isTidyRefs, isTidySchemaField, isBlankSchemaField, isTidySchema, isBlankSchema, isTidySchemas, isBlankSchemaOffer, isBlankSchemaId, isTidySchemaIds, isBlankSchemaIds, isBlankSortField, isTidySortOrder, isBlankSortOrder, isTidySortOrders, isTidyStatisticsFile, isBlankStatisticsFile, isTidyStatistics, isTidyMetadataLogEntry, isBlankMetadataLogEntry, isTidyMetadataLog, isTidyFields, isTidyMetadata}
-use Rattle.rules.specs.Layout.{counted, pad, given, firstRow, addedRows, readName, laidName, readText, laidText, readSnapshot, laidSnapshot, readSnapshots, laidSnapshots, readSnapshotIds, laidSnapshotIds, readLogEntry, laidLogEntry, readSnapshotLog, laidSnapshotLog, readReference, laidReference, readRef, laidRef, readRefs, laidRefs, readSchemaField, laidSchemaField, readSchema, laidSchema, readSchemas, laidSchemas, readSchemaIds, laidSchemaIds, readSortField, laidSortField, readSortOrder, laidSortOrder, readSortOrders, laidSortOrders, readStatisticsFile, laidStatisticsFile, readStatistics, laidStatistics, readMetadataLogEntry, laidMetadataLogEntry, readMetadataLog, laidMetadataLog, readFields, laidFields, readMetadata, laidMetadata}
+use Rattle.rules.specs.Words.{isSome, orElse, ifSome, all, ascending}
+use Rattle.rules.specs.Capacities.{snapshotRoom, refRoom, snapshotLogRoom, metadataLogRoom, schemaRoom, schemaFieldRoom, sortOrderRoom, sortFieldRoom, specRoom, partitionFieldRoom, statisticsRoom, removalRoom, nameRoom, textRoom}
+use Rattle.rules.specs.WellFormed.{snapshotFormed, refFormed, nameFormed, fileNameFormed, schemaFormed, orderFormed, offeredOrderFormed, sortFieldFormed, partitionFieldFormed, transformFormed, offeredSpecFormed, specFormed, statisticsFileFormed, removalFormed, offeredIdsFormed, atLeastOne, fieldTypeFormed, schemaFieldFormed, versionFormed, locationFormed, snapshotBelow, refBelow, schemaBelow, orderBelow, specBelow, statisticsBelow, snapshotsFormed, refsFormed, snapshotLogFormed, metadataLogFormed, schemasFormed, ordersFormed, specsFormed, statisticsFormed, fieldsFormed, refsHeld, mainAgrees, currentSchemaHeld, defaultOrderHeld, defaultSpecHeld, metadataFormed}
+use Rattle.rules.specs.Blanks.{isZero, isZeroZ, restBlank, tidySlots, noneUsed, isBlankUuid, isTidyName, isBlankName, isTidyText, isBlankText, isTidySnapshot, isBlankSnapshot, isTidySnapshots, isBlankSnapshotId, isTidySnapshotIds, isBlankSnapshotIds, isBlankLogEntry, isTidySnapshotLog, isTidyReference, isBlankReference, isTidyRef, isBlankRef, isTidyRefs, isTidySchemaField, isBlankSchemaField, isTidySchema, isBlankSchema, isTidySchemas, isBlankSchemaOffer, isBlankSchemaId, isTidySchemaIds, isBlankSchemaIds, isBlankSortField, isTidySortOrder, isBlankSortOrder, isTidySortOrders, isTidyPartitionField, isBlankPartitionField, isTidyPartitionSpec, isBlankPartitionSpec, isTidyPartitionSpecs, isBlankFieldId, isTidySpecOffer, isBlankSpecOffer, isBlankSpecId, isTidySpecIds, isBlankSpecIds, isTidyStatisticsFile, isBlankStatisticsFile, isTidyStatistics, isTidyMetadataLogEntry, isBlankMetadataLogEntry, isTidyMetadataLog, isTidyFields, isTidyMetadata}
+use Rattle.rules.specs.Layout.{counted, pad, given, firstRow, addedRows, readName, laidName, readText, laidText, readSnapshot, laidSnapshot, readSnapshots, laidSnapshots, readSnapshotIds, laidSnapshotIds, readLogEntry, laidLogEntry, readSnapshotLog, laidSnapshotLog, readReference, laidReference, readRef, laidRef, readRefs, laidRefs, readSchemaField, laidSchemaField, readSchema, laidSchema, readSchemas, laidSchemas, readSchemaIds, laidSchemaIds, readSortField, laidSortField, readSortOrder, laidSortOrder, readSortOrders, laidSortOrders, readPartitionField, laidPartitionField, readPartitionSpec, laidPartitionSpec, readPartitionSpecs, laidPartitionSpecs, readFieldId, laidFieldId, readSpecOffer, laidSpecOffer, readSpecIds, laidSpecIds, readStatisticsFile, laidStatisticsFile, readStatistics, laidStatistics, readMetadataLogEntry, laidMetadataLogEntry, readMetadataLog, laidMetadataLog, readFields, laidFields, readMetadata, laidMetadata}
 use Rattle.rules.specs.Register as plain
 use Rattle.rules.proofs.Orders.{eqZ-equal}
-use Rattle.rules.proofs.Checks.{and-left, and-right, parts, schemaTests}
+use Rattle.rules.proofs.Checks.{and-left, and-right, parts, schemaTests, offered-of}
 
 -- ---- numbers and flags
 
@@ -392,6 +399,95 @@ back-sort-orders t e f =
     let r = table-back noSortOrder isBlankSortOrder blank-sort-order readSortOrder laidSortOrder isTidySortOrder orderFormed (λ o e f. back-sort-order o e (and-left (offeredOrderFormed (readSortOrder o)) _ f)) sortOrderRoom (t .count) (t .items) e (k .0) (k .1 .0) in
     λ i. record { items = r .0 i; count = r .1 i }
 
+-- ---- partition specs
+
+pub blank-partition-field : (f : PartitionField) → isBlankPartitionField f ≡ true → f ≡ noPartitionField
+unfolding isBlankPartitionField
+blank-partition-field f e =
+    let h = parts (isZeroZ (f .«source_id» .0)) (isZeroZ (f .«field_id» .0) ∷ isZeroZ (f .buckets .0) ∷ isZero (f .transform) ∷ not (f .«has_id») ∷ isBlankName (f .name) ∷ []) e in
+    let n : f .name ≡ noName = blank-ref-name (f .name) (h .1 .1 .1 .1 .1 .0) in
+    λ i. record {
+      «source_id» = record { 0 = zeroZ (f .«source_id» .0) (h .0) i };
+      «field_id» = record { 0 = zeroZ (f .«field_id» .0) (h .1 .0) i };
+      buckets = record { 0 = zeroZ (f .buckets .0) (h .1 .1 .0) i };
+      transform = zero (f .transform) (h .1 .1 .1 .0) i;
+      «has_id» = not-true (f .«has_id») (h .1 .1 .1 .1 .0) i;
+      name = n i;
+    }
+
+pub back-partition-field : (f : PartitionField) → isTidyPartitionField f ≡ true → partitionFieldFormed (readPartitionField f) ≡ true → laidPartitionField (readPartitionField f) ≡ f
+unfolding isTidyPartitionField laidPartitionField
+back-partition-field f e g =
+    let k = and-right (atLeastOne (f .«source_id» .0) && ifSome atLeastOne (given (f .«has_id») (f .«field_id» .0)) && transformFormed (f .transform) (f .buckets .0) && leb 1 (length (readName (f .name)))) (nameFormed (readName (f .name))) g in
+    let n : laidName (readName (f .name)) ≡ f .name = back-ref-name (f .name) (and-right (f .«has_id» || isZeroZ (f .«field_id» .0)) _ e) (leb-true _ nameRoom k) in
+    λ i. record {
+      «source_id» = f .«source_id»;
+      «field_id» = record { 0 = number-given (f .«has_id») (f .«field_id» .0) (and-left (f .«has_id» || isZeroZ (f .«field_id» .0)) _ e) i };
+      buckets = f .buckets;
+      transform = f .transform;
+      «has_id» = flag-given (f .«has_id») (f .«field_id» .0) i;
+      name = n i;
+    }
+
+pub blank-partition-spec : (s : PartitionSpec) → isBlankPartitionSpec s ≡ true → s ≡ noPartitionSpec
+unfolding isBlankPartitionSpec noPartitionSpec
+blank-partition-spec s e =
+    let z : s .«spec_id» .0 ≡ pos 0 = zeroZ (s .«spec_id» .0) (and-left (isZeroZ (s .«spec_id» .0)) _ e) in
+    let k = unused noPartitionField isBlankPartitionField blank-partition-field partitionFieldRoom (s .count) (s .items) (and-right (isZeroZ (s .«spec_id» .0)) _ e) in
+    λ i. record { «spec_id» = record { 0 = z i }; items = k .0 i; count = k .1 i }
+
+pub back-partition-spec : (s : PartitionSpec) → isTidyPartitionSpec s ≡ true → offeredSpecFormed (readPartitionSpec s) ≡ true → laidPartitionSpec (readPartitionSpec s) ≡ s
+unfolding isTidyPartitionSpec laidPartitionSpec
+back-partition-spec s e f =
+    let k = parts (nonNeg (s .«spec_id» .0)) (leb (length (readPartitionSpec s .fields)) partitionFieldRoom ∷ all partitionFieldFormed (readPartitionSpec s .fields) ∷ []) f in
+    let r = table-back noPartitionField isBlankPartitionField blank-partition-field readPartitionField laidPartitionField isTidyPartitionField partitionFieldFormed back-partition-field partitionFieldRoom (s .count) (s .items) e (k .1 .0) (k .1 .1 .0) in
+    λ i. record { «spec_id» = s .«spec_id»; items = r .0 i; count = r .1 i }
+
+pub back-partition-specs : (t : PartitionSpecs) → isTidyPartitionSpecs t ≡ true → specsFormed (readPartitionSpecs t) ≡ true → laidPartitionSpecs (readPartitionSpecs t) ≡ t
+unfolding isTidyPartitionSpecs laidPartitionSpecs specsFormed
+back-partition-specs t e f =
+    let k = parts (leb (length (readPartitionSpecs t)) specRoom) (all specFormed (readPartitionSpecs t) ∷ ascending specBelow (readPartitionSpecs t) ∷ []) f in
+    let r = table-back noPartitionSpec isBlankPartitionSpec blank-partition-spec readPartitionSpec laidPartitionSpec isTidyPartitionSpec specFormed (λ s e f. back-partition-spec s e (offered-of (readPartitionSpec s) f)) specRoom (t .count) (t .items) e (k .0) (k .1 .0) in
+    λ i. record { items = r .0 i; count = r .1 i }
+
+blank-field-id : (x : FieldId) → isBlankFieldId x ≡ true → x ≡ noFieldId
+blank-field-id x e = λ i. record { 0 = zeroZ (x .0) e i }
+
+-- an id of 0 is read as left out, and laid as 0 again
+pub back-field-id : (x : FieldId) → laidFieldId (readFieldId x) ≡ x
+back-field-id x = λ i. record { 0 = number-given (not (isBlankFieldId x)) (x .0) (or-not (isBlankFieldId x)) i }
+  where
+    or-not : (b : Bool) → (not b || b) ≡ true
+    or-not true = refl
+    or-not false = refl
+
+pub blank-spec-offer : (o : SpecOffer) → isBlankSpecOffer o ≡ true → o ≡ noSpecOffer
+unfolding isBlankSpecOffer
+blank-spec-offer o e =
+    let h = parts (isZeroZ (o .«spec_id» .0)) (isZero (o .at) ∷ noneUsed partitionFieldRoom isBlankFieldId (o .ids) (o .count) ∷ []) e in
+    let k = unused noFieldId isBlankFieldId blank-field-id partitionFieldRoom (o .count) (o .ids) (h .1 .1 .0) in
+    λ i. record { «spec_id» = record { 0 = zeroZ (o .«spec_id» .0) (h .0) i }; at = zero (o .at) (h .1 .0) i; count = k .1 i; ids = k .0 i }
+
+pub back-spec-offer : (o : SpecOffer) → isTidySpecOffer o ≡ true → offeredIdsFormed (readSpecOffer o) ≡ true → laidSpecOffer (readSpecOffer o) ≡ o
+unfolding isTidySpecOffer laidSpecOffer
+back-spec-offer o e f =
+    let k = parts (nonNeg (o .«spec_id» .0)) (leb (length (readSpecOffer o .ids)) partitionFieldRoom ∷ all (ifSome atLeastOne) (readSpecOffer o .ids) ∷ []) f in
+    let r = fields-back noFieldId isBlankFieldId blank-field-id readFieldId laidFieldId back-field-id partitionFieldRoom (o .count) (o .ids) e (k .1 .0) in
+    λ i. record { «spec_id» = o .«spec_id»; at = o .at; count = r .1 i; ids = r .0 i }
+
+blank-spec-id : (x : SpecId) → isBlankSpecId x ≡ true → x ≡ noSpecId
+blank-spec-id x e = λ i. record { 0 = zeroZ (x .0) e i }
+
+pub blank-spec-ids : (t : SpecIds) → isBlankSpecIds t ≡ true → t ≡ noSpecIds
+unfolding isBlankSpecIds
+blank-spec-ids t e = let k = unused noSpecId isBlankSpecId blank-spec-id removalRoom (t .count) (t .items) e in λ i. record { items = k .0 i; count = k .1 i }
+
+pub back-spec-ids : (t : SpecIds) → isTidySpecIds t ≡ true → removalFormed (readSpecIds t) ≡ true → laidSpecIds (readSpecIds t) ≡ t
+unfolding isTidySpecIds laidSpecIds
+back-spec-ids t e f =
+    let r = fields-back noSpecId isBlankSpecId blank-spec-id (λ (x : SpecId). x .0) (λ (z : ℤ). record { 0 = z }) (λ x. refl) removalRoom (t .count) (t .items) e (and-left (leb (length (readSpecIds t)) removalRoom) _ f) in
+    λ i. record { items = r .0 i; count = r .1 i }
+
 -- ---- statistics files
 
 pub blank-statistics-file : (f : StatisticsFile) → isBlankStatisticsFile f ≡ true → f ≡ noStatisticsFile
@@ -445,7 +541,7 @@ back-metadata-log t e f =
 pub back-fields : (f : SingleFields) → isTidyFields f ≡ true → fieldsFormed (readFields f) ≡ true → laidFields (readFields f) ≡ f
 unfolding isTidyFields laidFields fieldsFormed
 back-fields f e g =
-    let k = parts (versionFormed (f .«format_version»)) (locationFormed (readText (f .location)) ∷ nonNeg (f .«last_sequence_number» .0) ∷ []) g in
+    let k = parts (versionFormed (f .«format_version»)) (locationFormed (readText (f .location)) ∷ nonNeg (f .«last_sequence_number» .0) ∷ nonNeg (f .«last_partition_id» .0) ∷ []) g in
     let l : laidText (readText (f .location)) ≡ f .location = back-text (f .location) (and-left (isTidyText (f .location)) _ e) (leb-true _ textRoom (k .1 .0)) in
     λ i. record {
       «format_version» = f .«format_version»;
@@ -459,17 +555,19 @@ back-fields f e g =
       «current_snapshot_id» = record { 0 = number-given (f .«has_current») (f .«current_snapshot_id» .0) (and-right (isTidyText (f .location)) _ e) i };
       «current_schema_id» = f .«current_schema_id»;
       «default_sort_order_id» = f .«default_sort_order_id»;
+      «default_spec_id» = f .«default_spec_id»;
+      «last_partition_id» = f .«last_partition_id»;
     }
 
 -- going there and back
 pub relaid : (m : TableMetadata) → isTidyMetadata m ≡ true → metadataFormed (readMetadata m) ≡ true → laidMetadata (readMetadata m) ≡ m
 unfolding isTidyMetadata laidMetadata metadataFormed
 relaid m e f =
-    let t = parts (isTidySnapshots (m .snapshots)) (isTidyRefs (m .refs) ∷ isTidySnapshotLog (m .«snapshot_log») ∷ isTidyMetadataLog (m .«metadata_log») ∷ isTidySchemas (m .schemas) ∷ isTidySortOrders (m .«sort_orders») ∷ isTidyStatistics (m .statistics) ∷ isTidyStatistics (m .«partition_statistics») ∷ isTidyFields (m .fields) ∷ []) e in
+    let t = parts (isTidySnapshots (m .snapshots)) (isTidyRefs (m .refs) ∷ isTidySnapshotLog (m .«snapshot_log») ∷ isTidyMetadataLog (m .«metadata_log») ∷ isTidySchemas (m .schemas) ∷ isTidySortOrders (m .«sort_orders») ∷ isTidyStatistics (m .statistics) ∷ isTidyStatistics (m .«partition_statistics») ∷ isTidyPartitionSpecs (m .«partition_specs») ∷ isTidyFields (m .fields) ∷ []) e in
     let p = readMetadata m in
-    let k = parts (snapshotsFormed (p .snapshots)) (refsFormed (p .refs) ∷ snapshotLogFormed (p .snapshotLog) ∷ metadataLogFormed (p .metadataLog) ∷ schemasFormed (p .schemas) ∷ ordersFormed (p .orders) ∷ statisticsFormed (p .statistics) ∷ statisticsFormed (p .partitionStatistics) ∷ fieldsFormed (p .fields) ∷ refsHeld p ∷ mainAgrees p ∷ currentSchemaHeld p ∷ defaultOrderHeld p ∷ []) f in
+    let k = parts (snapshotsFormed (p .snapshots)) (refsFormed (p .refs) ∷ snapshotLogFormed (p .snapshotLog) ∷ metadataLogFormed (p .metadataLog) ∷ schemasFormed (p .schemas) ∷ ordersFormed (p .orders) ∷ statisticsFormed (p .statistics) ∷ statisticsFormed (p .partitionStatistics) ∷ specsFormed (p .specs) ∷ fieldsFormed (p .fields) ∷ refsHeld p ∷ mainAgrees p ∷ currentSchemaHeld p ∷ defaultOrderHeld p ∷ defaultSpecHeld p ∷ []) f in
     λ i. record {
-      fields = back-fields (m .fields) (t .1 .1 .1 .1 .1 .1 .1 .1 .0) (k .1 .1 .1 .1 .1 .1 .1 .1 .0) i;
+      fields = back-fields (m .fields) (t .1 .1 .1 .1 .1 .1 .1 .1 .1 .0) (k .1 .1 .1 .1 .1 .1 .1 .1 .1 .0) i;
       snapshots = back-snapshots (m .snapshots) (t .0) (k .0) i;
       refs = back-refs (m .refs) (t .1 .0) (k .1 .0) i;
       «snapshot_log» = back-snapshot-log (m .«snapshot_log») (t .1 .1 .0) (k .1 .1 .0) i;
@@ -478,4 +576,5 @@ relaid m e f =
       «sort_orders» = back-sort-orders (m .«sort_orders») (t .1 .1 .1 .1 .1 .0) (k .1 .1 .1 .1 .1 .0) i;
       statistics = back-statistics (m .statistics) (t .1 .1 .1 .1 .1 .1 .0) (k .1 .1 .1 .1 .1 .1 .0) i;
       «partition_statistics» = back-statistics (m .«partition_statistics») (t .1 .1 .1 .1 .1 .1 .1 .0) (k .1 .1 .1 .1 .1 .1 .1 .0) i;
+      «partition_specs» = back-partition-specs (m .«partition_specs») (t .1 .1 .1 .1 .1 .1 .1 .1 .0) (k .1 .1 .1 .1 .1 .1 .1 .1 .0) i;
     }

@@ -33,7 +33,7 @@ as-main-sound clock id st h r d =
     let e : LogEntry = record { snapshot = id; time = orElse (st .own) clock } in
     let l : List LogEntry = m .snapshotLog ++ (e ∷ []) in
     let f : snapshotLogFormed l ≡ true = log-append snapshotLogRoom (λ (x : LogEntry). nonNeg (x .snapshot)) (m .snapshotLog) e r h (d .snapshotLog) in
-    with-fields (withSnapshotLog l m) (with-snapshot-log m d l f) (withCurrent (some id) (m .fields)) (d .fields) refl refl
+    with-fields (withSnapshotLog l m) (with-snapshot-log m d l f) (withCurrent (some id) (m .fields)) (d .fields) refl refl refl
 
 -- a name that is held needs no room
 put-ref-formed : (n : NamedRef) (l : List NamedRef) → refFormed n ≡ true → (not (isSome (refNamed (n .name) l)) && leb refRoom (length l)) ≡ false → refsFormed l ≡ true → refsFormed (put refBelow n l) ≡ true
@@ -113,5 +113,5 @@ unfolding removeRef fieldsFormed
 remove-ref-sound name st d =
     let k : SoundState (withoutRef name st) = without-ref-sound name st d in
     by-test SoundState (isMain name)
-    (λ e. with-fields (withoutRef name st .metadata) k (withCurrent none (st .metadata .fields)) (d .fields) refl refl)
+    (λ e. with-fields (withoutRef name st .metadata) k (withCurrent none (st .metadata .fields)) (d .fields) refl refl refl)
     (λ e. by-test SoundState (isSome (refNamed name (st .metadata .refs))) (λ f. k) (λ f. d))

@@ -83,7 +83,7 @@ closed-sound terms st s f r =
     let past : Metadata = withSnapshotLog (history (st .log) m) files in
     let a : Sound files = with-metadata-log m s (staying terms m) (staying-formed terms m f r (s .metadataLog)) in
     let b : Sound past = with-snapshot-log files a (history (st .log) m) (history-formed (st .log) m (s .snapshotLog)) in
-    with-fields past b (withLastUpdated (orElse (st .own) (terms .clock)) (m .fields)) (s .fields) refl refl
+    with-fields past b (withLastUpdated (orElse (st .own) (terms .clock)) (m .fields)) (s .fields) refl refl refl
 
 -- 22: main agrees, also after the close, which changes neither of the two
 closed-agrees : (terms : Terms) (st : State) → mainAgrees (st .metadata) ≡ true → mainAgrees (closed terms (st .log) st) ≡ true
@@ -94,7 +94,7 @@ close-passed : (terms : Terms) (log : List Update) (m : Metadata) → firstOf (c
 unfolding closeChecks
 close-passed terms log m e =
     let k = passed (closeChecks terms log m) refl e in
-    (not-false (mainAgrees m) (k .1 .1 .0), ltb-false metadataLogRoom (length (staying terms m)) (k .1 .1 .1 .0))
+    (not-false (mainAgrees m) (k .1 .1 .1 .1 .0), ltb-false metadataLogRoom (length (staying terms m)) (k .1 .1 .1 .1 .1 .0))
 
 pub close-formed : (terms : Terms) (st : State) → Sound (st .metadata) → ifSome fileNameFormed (terms .file) ≡ true → firstOf (closeChecks terms (st .log) (st .metadata)) ≡ 0 → metadataFormed (closed terms (st .log) st) ≡ true
 close-formed terms st s f e =

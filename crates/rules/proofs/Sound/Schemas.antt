@@ -1,7 +1,7 @@
 -- Adding, setting and removing schemas keeps metadata sound.
 use Prim.Native.Nat.{ℕ, _<_}
 use mathlib.Core.Path.{_≡_, refl, ap, _∙_}
-use mathlib.Core.Bool.{Bool, true, false, not}
+use mathlib.Core.Bool.{Bool, true, false, cond, not}
 use mathlib.Core.List.{List, [], _∷_, _++_}
 use mathlib.Core.Option.{Option}
 use lib.IntN.{ℤ, sucℤ}
@@ -9,13 +9,13 @@ use lib.Signed.{nonNeg}
 use lib.ListN.{length}
 use borrow.Author.Tests.{leb-false, not-false}
 use Rattle.rules.specs.Words.{eqZ, larger, isSome, someWith, any, keep, isEmpty, isIn, highest, put, firstOf, Check}
-use Rattle.rules.specs.Replies.{updateNotFormed}
+use Rattle.rules.specs.Replies.{updateNotFormed, nameClash}
 use Rattle.rules.specs.Capacities.{schemaRoom}
 use Rattle.rules.specs.Register.{Schema, SchemaOffer, Metadata, State, withSchemas, withLastColumn}
 use Rattle.rules.specs.WellFormed.{fieldIds, schemaFormed, schemaBelow, schemasFormed, fieldsFormed, currentSchemaHeld, hasSchema}
 use Rattle.rules.specs.Offers.{offeredSchema, isTidyOffer, offerFormed}
-use Rattle.rules.specs.SchemaUpdates.{reusedSchema, schemaIds, addSchemaChecks, offeredAs, newSchema, addSchema, chosen, choiceChecks, holdsSchema, setCurrentSchemaChecks, setCurrentSchema, removeSchemasChecks, removeSchemas}
-use Rattle.rules.proofs.Checks.{by-test, by-option, both, and-left, and-right, parts, whole, schemaTests, passed, passed-unless, passed-before}
+use Rattle.rules.specs.SchemaUpdates.{reusedSchema, schemaIds, isTaken, newSchemaChecks, addSchemaChecks, offeredAs, newSchema, addSchema, chosen, choiceChecks, holdsSchema, setCurrentSchemaChecks, setCurrentSchema, removeSchemasChecks, removeSchemas}
+use Rattle.rules.proofs.Checks.{by-test, by-option, both, and-left, and-right, parts, whole, schemaTests, passed, passed-unless, passed-after, form-passed}
 use Rattle.rules.proofs.Orders.{numbers-ordered, numbers-told, highest-nonNeg, suc-nonNeg}
 use Rattle.rules.proofs.Tables.{any-put, any-keep, table-put, table-keep}
 use Rattle.rules.proofs.Sound.Metadata.{Sound, SoundState, with-fields, with-current-schema, with-schemas}
@@ -28,7 +28,7 @@ module _ (offers : List ℕ) (o : SchemaOffer) where
   offer-check = (not (offerFormed offers o), updateNotFormed) ∷ []
 
   pub offer-passed : (cs : List Check) → firstOf (offer-check ++ cs) ≡ 0 → offerFormed offers o ≡ true
-  offer-passed cs e = not-false (offerFormed offers o) (passed offer-check refl (passed-before offer-check cs e) .0)
+  offer-passed cs e = form-passed (offerFormed offers o) updateNotFormed refl cs e
 
   pub offer-formed : (cs : List Check) → firstOf (offer-check ++ cs) ≡ 0 → schemaFormed (offeredSchema offers o) ≡ true
   unfolding offerFormed
@@ -54,7 +54,7 @@ new-schema-sound o s st h r d =
     let l : List Schema = put schemaBelow s (m .schemas) in
     let f : schemasFormed l ≡ true = table-put numbers-ordered (λ (x : Schema). x .id) schemaRoom schemaFormed s (m .schemas) r h (d .schemas) in
     let c : any (hasSchema (m .fields .currentSchema)) l ≡ true = any-put numbers-ordered (λ (x : Schema). x .id) (λ (k : ℤ). eqZ k (m .fields .currentSchema)) s (m .schemas) (d .schemaHeld) in
-    with-fields (withSchemas l m) (with-schemas m d l f c) (withLastColumn (larger (m .fields .lastColumn) (highest (fieldIds s))) (m .fields)) (d .fields) refl refl
+    with-fields (withSchemas l m) (with-schemas m d l f c) (withLastColumn (larger (m .fields .lastColumn) (highest (fieldIds s))) (m .fields)) (d .fields) refl refl refl
 
 pub add-schema-sound : (o : SchemaOffer) (s : Schema) (st : State) → schemaFormed s ≡ true → firstOf (addSchemaChecks s st) ≡ 0 → Sound (st .metadata) → Sound (addSchema o s st .metadata)
 unfolding addSchema addSchemaChecks
@@ -62,8 +62,9 @@ add-schema-sound o s st h e d =
     let l : List Schema = st .metadata .schemas in
     let id : ℤ = sucℤ (highest (schemaIds l)) in
     let f : schemaFormed (record { id = id; fields = s .fields }) ≡ true = schema-named s id (suc-nonNeg (highest (schemaIds l)) (highest-nonNeg (schemaIds l))) h in
+    let rest : firstOf (cond (isSome (reusedSchema s l)) [] (newSchemaChecks st)) ≡ 0 = passed-after ((isTaken s l (st .metadata .specs), nameClash) ∷ []) (cond (isSome (reusedSchema s l)) [] (newSchemaChecks st)) refl e in
     by-option SoundState (reusedSchema s l)
-    (λ n. new-schema-sound o (record { id = id; fields = s .fields }) st f (leb-false schemaRoom (length l) (passed-unless (isSome (reusedSchema s l)) _ refl (ap isSome n) e .1 .0)) d)
+    (λ n. new-schema-sound o (record { id = id; fields = s .fields }) st f (leb-false schemaRoom (length l) (passed-unless (isSome (reusedSchema s l)) (newSchemaChecks st) refl (ap isSome n) rest .1 .0)) d)
     (λ held n. by-test SoundState (someWith (eqZ held) (st .added .schema)) (λ g. d) (λ g. d))
 
 -- ---- set schema

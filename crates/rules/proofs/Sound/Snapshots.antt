@@ -52,7 +52,7 @@ add-snapshot-sound tolerance s st h e d =
     with-fields (withSnapshots l m) (with-snapshots m d l k (put-points s m (d .refsHeld)))
     (withLastSequence (s .sequence) (nextRowAfter s (m .fields)) (m .fields))
     (sequence-formed (m .fields) (d .fields) (s .sequence) (nextRowAfter s (m .fields)) n)
-    refl refl
+    refl refl refl
 
 -- ---- remove snapshots
 

@@ -1,17 +1,16 @@
 -- An accepted update keeps metadata sound: one theorem, by the lemma of each kind of update.
 use mathlib.Core.Path.{_≡_, refl}
-use mathlib.Core.Bool.{true, not}
-use mathlib.Core.List.{[], _∷_}
-use borrow.Author.Tests.{not-false}
+use mathlib.Core.Bool.{true}
 use Rattle.rules.specs.Words.{firstOf}
 use Rattle.rules.specs.Replies.{updateNotFormed}
-use Rattle.rules.specs.Register.{Schema, Update, Terms, State}
-use Rattle.rules.specs.Register.Update.{AssignUuid, UpgradeFormatVersion, SetLocation, AddSnapshot, SetBranchSnapshot, RemoveSnapshots, SetRef, RemoveRef, AddSchema, SetCurrentSchema, RemoveSchemas, AddSortOrder, SetDefaultSortOrder, SetStatistics, RemoveStatistics, NotFormed}
-use Rattle.rules.specs.WellFormed.{nameFormed, snapshotFormed, updateFormed}
-use Rattle.rules.specs.Offers.{offeredSchema}
+use Rattle.rules.specs.Register.{Schema, PartitionSpec, SpecOffer, Update, Terms, State}
+use Rattle.rules.specs.Register.Update.{AssignUuid, UpgradeFormatVersion, SetLocation, AddSnapshot, SetBranchSnapshot, RemoveSnapshots, SetRef, RemoveRef, AddSchema, SetCurrentSchema, RemoveSchemas, AddSortOrder, SetDefaultSortOrder, SetStatistics, RemoveStatistics, AddPartitionSpec, SetDefaultPartitionSpec, RemovePartitionSpecs, NotFormed}
+use Rattle.rules.specs.WellFormed.{nameFormed, snapshotFormed, offeredSpecFormed, updateFormed}
+use Rattle.rules.specs.Offers.{offeredSchema, isTidySpec, offeredSpec, specOfferFormed}
 use Rattle.rules.specs.SchemaUpdates.{addSchemaChecks}
+use Rattle.rules.specs.SpecUpdates.{addPartitionSpecChecks}
 use Rattle.rules.specs.Updates.{checks, updateNumber, effect}
-use Rattle.rules.proofs.Checks.{and-left, and-right, passed, passed-before, passed-after}
+use Rattle.rules.proofs.Checks.{and-left, and-right, form-passed, form-after, passed-after}
 use Rattle.rules.proofs.Sound.Metadata.{Sound}
 use Rattle.rules.proofs.Sound.Singles.{assign-uuid-sound, upgrade-format-version-sound, set-location-sound}
 use Rattle.rules.proofs.Sound.Snapshots.{add-snapshot-sound, remove-snapshots-sound}
@@ -19,15 +18,23 @@ use Rattle.rules.proofs.Sound.Refs.{set-ref-sound, set-branch-snapshot-
 use Rattle.rules.proofs.Sound.Schemas.{offer-check, offer-formed, add-schema-sound, set-current-schema-sound, remove-schemas-sound}
 use Rattle.rules.proofs.Sound.Orders.{add-sort-order-sound, set-default-sort-order-sound}
 use Rattle.rules.proofs.Sound.Statistics.{set-statistics-sound, remove-statistics-sound}
+use Rattle.rules.proofs.Sound.Specs.{add-partition-spec-sound, set-default-partition-spec-sound, remove-partition-specs-sound}
 
 -- an accepted update is well formed, and none of its checks failed
 pub accepted-form : (terms : Terms) (u : Update) (st : State) → updateNumber terms u st ≡ 0 → updateFormed u ≡ true
 unfolding updateNumber
-accepted-form terms u st e = not-false (updateFormed u) (passed ((not (updateFormed u), updateNotFormed) ∷ []) refl (passed-before ((not (updateFormed u), updateNotFormed) ∷ []) (checks terms u st) e) .0)
+accepted-form terms u st e = form-passed (updateFormed u) updateNotFormed refl (checks terms u st) e
 
 pub accepted-checks : (terms : Terms) (u : Update) (st : State) → updateNumber terms u st ≡ 0 → firstOf (checks terms u st) ≡ 0
 unfolding updateNumber
-accepted-checks terms u st e = passed-after ((not (updateFormed u), updateNotFormed) ∷ []) (checks terms u st) refl e
+accepted-checks terms u st e = form-after (updateFormed u) updateNotFormed refl (checks terms u st) e
+
+-- an offered spec that passed its first check is well formed
+pub spec-offer-formed : (terms : Terms) (o : SpecOffer) (st : State) → firstOf (checks terms (AddPartitionSpec o) st) ≡ 0 → offeredSpecFormed (offeredSpec (terms .offers) o) ≡ true
+unfolding checks specOfferFormed
+spec-offer-formed terms o st e =
+    let x : PartitionSpec = offeredSpec (terms .offers) o in
+    and-right (isTidySpec (terms .offers) o) (offeredSpecFormed x) (form-passed (specOfferFormed (terms .offers) o) updateNotFormed refl (addPartitionSpecChecks x st) e)
 
 -- what a well-formed update with no failed check does
 checked-sound : (terms : Terms) (u : Update) (st : State) → updateFormed u ≡ true → firstOf (checks terms u st) ≡ 0 → Sound (st .metadata) → Sound (effect terms u st .metadata)
@@ -49,6 +56,11 @@ checked-sound terms (AddSortOrder o) st f e s = add-sort-order-sound o st f e s
 checked-sound terms (SetDefaultSortOrder id) st f e s = set-default-sort-order-sound id st e s
 checked-sound terms (SetStatistics which x) st f e s = set-statistics-sound which x st f e s
 checked-sound terms (RemoveStatistics which id) st f e s = remove-statistics-sound which id st s
+checked-sound terms (AddPartitionSpec o) st f e s =
+    let x : PartitionSpec = offeredSpec (terms .offers) o in
+    add-partition-spec-sound o x st (spec-offer-formed terms o st e) (form-after (specOfferFormed (terms .offers) o) updateNotFormed refl (addPartitionSpecChecks x st) e) s
+checked-sound terms (SetDefaultPartitionSpec id) st f e s = set-default-partition-spec-sound id st e s
+checked-sound terms (RemovePartitionSpecs ids) st f e s = remove-partition-specs-sound ids st e s
 checked-sound terms (NotFormed counts) st f e s = s
 
 pub effect-sound : (terms : Terms) (u : Update) (st : State) → updateNumber terms u st ≡ 0 → Sound (st .metadata) → Sound (effect terms u st .metadata)

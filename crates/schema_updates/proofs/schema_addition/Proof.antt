@@ -17,7 +17,7 @@ use Rattle.records.specs.declared.schema.Schema.{Schema}
 use Rattle.rules.specs.Words.{eqZ, larger, someWith, sameList, highest, put, firstOf, Check}
 use Rattle.rules.specs.Capacities.{schemaRoom, largestSchemaId}
 use Rattle.rules.specs.Register as plain
-use Rattle.rules.specs.Register.{State, withLastColumn, withSchemas, withMetadata, onFields}
+use Rattle.rules.specs.Register.{Metadata, State, withLastColumn, withSchemas, withMetadata, onFields}
 use Rattle.rules.specs.Register.Update.{AddSchema}
 use Rattle.rules.specs.WellFormed.{fieldIds, schemaBelow}
 use Rattle.rules.specs.SchemaUpdates.{sameSchemaField, reusedSchema, schemaIds, addSchemaChecks, offeredAs, addSchema}
@@ -29,12 +29,11 @@ use Rattle.builder.specs.declared.builder.TableMetadataBuilder.{TableMetadataBu
 use Rattle.builder.specs.Pieces.{laidBuilder}
 use Rattle.builder.proofs.Steps.{stepped-unless}
 use Rattle.builder.proofs.Choices.{given-back}
-use Rattle.builder.proofs.NewIds.{reused-at}
+use Rattle.builder.proofs.NewIds.{reused-at, put-next}
 use Rattle.schema_updates.specs.declared.keys.SchemaKeys.{SchemaKeys}
 use Rattle.schema_updates.specs.Keys.{laidKeys, lentKeys}
 use Rattle.schema_updates.specs.Schemas.{addedSchema, schemaUnder, Sought, SchemaGrown}
 use Rattle.schema_updates.proofs.Lent.{keys-lent}
-use Rattle.schema_updates.proofs.Last.{put-next}
 use Rattle.schema_updates.proofs.schema_addition.Statement.{statement}
 use Rattle.schema_updates.proofs.schema_addition.Tie as tie
 
@@ -55,6 +54,8 @@ after id column b =
             «current_snapshot_id» = b .fields .«current_snapshot_id»;
             «current_schema_id» = b .fields .«current_schema_id»;
             «default_sort_order_id» = b .fields .«default_sort_order_id»;
+            «default_spec_id» = b .fields .«default_spec_id»;
+            «last_partition_id» = b .fields .«last_partition_id»;
           };
       «has_own» = b .«has_own»;
       own = b .own;
@@ -62,6 +63,8 @@ after id column b =
       «last_added_schema_id» = id;
       «has_order» = b .«has_order»;
       «last_added_order_id» = b .«last_added_order_id»;
+      «has_spec» = b .«has_spec»;
+      «last_added_spec_id» = b .«last_added_spec_id»;
     }
 
 module _ (b : TableMetadataBuilder) (keys : SchemaKeys) (equal : ℕ) (s : Schema) (id : SchemaId) where
@@ -69,13 +72,13 @@ module _ (b : TableMetadataBuilder) (keys : SchemaKeys) (equal : ℕ) (s : Schem
   abbrev found : Option ℤ
   found = given (ltb equal (length (lentKeys keys))) (getD (lentKeys keys) equal (pos 0))
 
-  reused-is : {l : List plain.Schema} → Sought l (readSchema s) keys equal → reusedSchema (readSchema s) l ≡ found
-  reused-is {l} q = reused-at (λ (y : plain.Schema). sameList sameSchemaField (y .fields) (readSchema s .fields)) (λ y. y .id) l (q .place) (keys-lent l (q .ids))
+  reused-is : {m : Metadata} → Sought m (readSchema s) keys equal false → reusedSchema (readSchema s) (m .schemas) ≡ found
+  reused-is {m} q = reused-at (λ (y : plain.Schema). sameList sameSchemaField (y .fields) (readSchema s .fields)) (λ y. y .id) (m .schemas) (q .place) (keys-lent (m .schemas) (q .ids))
 
   -- ---- its fields are held
 
   module _ (e : found ≡ some (id .0)) where
-    held-at-state : (st : State) → Sought (st .metadata .schemas) (readSchema s) keys equal → reusedSchema (readSchema s) (st .metadata .schemas) ≡ some (id .0)
+    held-at-state : (st : State) → Sought (st .metadata) (readSchema s) keys equal false → reusedSchema (readSchema s) (st .metadata .schemas) ≡ some (id .0)
     held-at-state st q = reused-is q ∙ e
 
     held : (last : Bool) → last ≡ someWith (eqZ (id .0)) (addedSchema b)
@@ -85,7 +88,7 @@ module _ (b : TableMetadataBuilder) (keys : SchemaKeys) (equal : ℕ) (s : Schem
         record {
           answers = λ o st w p q.
               let l : last ≡ someWith (eqZ (id .0)) (st .added .schema) = x ∙ ap (someWith (eqZ (id .0))) (ap (λ (y : TableMetadataBuilder). addedSchema y) p ∙ given-back (st .added .schema)) in (
-                rw (held-at-state st q),
+                rw (← (q .clash), held-at-state st q),
                 λ z. rw (held-at-state st q, addSchema, l, p) (stepped-unless (someWith (eqZ (id .0)) (st .added .schema)) st (rule.addedSchema (id .0) st) (AddSchema o) _ _ refl refl (ap (λ (y : ℤ). withSchemasPart (withSchemaOffer (laidSchemaOffer (offeredAs y o)) noSchemasPart) (ofKind addSchemaKind)) (sym w))),
               );
           table = λ o st q z. rw (held-at-state st q, addSchema) (by-test (λ (y : State). y .metadata .schemas ≡ st .metadata .schemas) (someWith (eqZ (id .0)) (st .added .schema)) (λ h. refl) (λ h. refl));
@@ -99,22 +102,22 @@ module _ (b : TableMetadataBuilder) (keys : SchemaKeys) (equal : ℕ) (s : Schem
 
   module _ (e : found ≡ none) (exhausted : Bool) (x : exhausted ≡ eqZ (highest (lentKeys keys)) largestSchemaId) (g : eqZ (highest (lentKeys keys)) largestSchemaId ≡ false → id .0 ≡ sucℤ (highest (lentKeys keys)))
       (number : ℕ) (n : number ≡ cond exhausted 18 (cond (leb schemaRoom (keys .count)) 19 0)) where
-    new-at-state : (st : State) → Sought (st .metadata .schemas) (readSchema s) keys equal → reusedSchema (readSchema s) (st .metadata .schemas) ≡ none
+    new-at-state : (st : State) → Sought (st .metadata) (readSchema s) keys equal false → reusedSchema (readSchema s) (st .metadata .schemas) ≡ none
     new-at-state st q = reused-is q ∙ e
 
     checked : number ≡ firstOf (newChecks (lentKeys keys) (keys .count))
     checked = n ∙ ap (λ (y : Bool). cond y 18 (cond (leb schemaRoom (keys .count)) 19 0)) x
 
     -- the checks by the table
-    at-state : {l : List plain.Schema} → Sought l (readSchema s) keys equal → number ≡ firstOf (newChecks (schemaIds l) (length l))
+    at-state : {m : Metadata} → Sought m (readSchema s) keys equal false → number ≡ firstOf (newChecks (schemaIds (m .schemas)) (length (m .schemas)))
     unfolding laidKeys
-    at-state {l} q = checked ∙ (λ j. firstOf (newChecks (keys-lent l (q .ids) j) (q .ids j .count)))
+    at-state {m} q = checked ∙ (λ j. firstOf (newChecks (keys-lent (m .schemas) (q .ids) j) (q .ids j .count)))
 
     accepted : number ≡ 0 → Passed (newChecks (lentKeys keys) (keys .count))
     accepted z = passed (newChecks (lentKeys keys) (keys .count)) refl (sym checked ∙ z)
 
-    numbered : {l : List plain.Schema} → Sought l (readSchema s) keys equal → number ≡ 0 → id .0 ≡ sucℤ (highest (schemaIds l))
-    numbered {l} q z = g (accepted z .0) ∙ ap (λ (y : List ℤ). sucℤ (highest y)) (keys-lent l (q .ids))
+    numbered : {m : Metadata} → Sought m (readSchema s) keys equal false → number ≡ 0 → id .0 ≡ sucℤ (highest (schemaIds (m .schemas)))
+    numbered {m} q z = g (accepted z .0) ∙ ap (λ (y : List ℤ). sucℤ (highest y)) (keys-lent (m .schemas) (q .ids))
 
     new : (column : FieldId) → column .0 ≡ larger (b .fields .«last_column_id» .0) (highest (fieldIds (readSchema s)))
         → SchemaGrown b keys equal s (record { number = number; logs = true; grows = eqb number 0; «schema_id» = id; builder = after id column b })
@@ -125,7 +128,7 @@ module _ (b : TableMetadataBuilder) (keys : SchemaKeys) (equal : ℕ) (s : Schem
               let m = st .metadata in
               let one : plain.Schema = record { id = sucℤ (highest (schemaIds (m .schemas))); fields = readSchema s .fields } in
               let end : State = rule.addedSchema (one .id) (onFields (λ f. withLastColumn (larger (f .lastColumn) (highest (fieldIds one))) f) (withMetadata (withSchemas (put schemaBelow one (m .schemas)) m) st)) in (
-                at-state q ∙ rw (new-at-state st q),
+                at-state q ∙ rw (← (q .clash), new-at-state st q),
                 λ z.
                     let i : id ≡ record { 0 = one .id } = λ j. record { 0 = numbered q z j } in
                     let v : column .0 ≡ larger (m .fields .lastColumn) (highest (fieldIds (readSchema s))) = y ∙ ap (λ (w : TableMetadataBuilder). larger (w .fields .«last_column_id» .0) (highest (fieldIds (readSchema s)))) p in
@@ -135,7 +138,7 @@ module _ (b : TableMetadataBuilder) (keys : SchemaKeys) (equal : ℕ) (s : Schem
           table = λ o st q z.
               let l = st .metadata .schemas in
               rw (new-at-state st q, addSchema, eq-eqb number 0 z)
-              (ap (λ (d : ℤ). put schemaBelow (record { id = d; fields = readSchema s .fields }) l) (sym (numbered q z)) ∙ put-next (readSchema (schemaUnder id s)) l (numbered q z));
+              (ap (λ (d : ℤ). put schemaBelow (record { id = d; fields = readSchema s .fields }) l) (sym (numbered q z)) ∙ put-next (λ (x : plain.Schema). x .id) (readSchema (schemaUnder id s)) l (numbered q z));
           room = λ h. omega (arith, leb-false schemaRoom (keys .count) (accepted (eqb-true number 0 h) .1 .0));
         }
 

@@ -1,7 +1,10 @@
 //! For each kind of update a run with updates of this kind that take effect, as many as there is room for.
 
 use super::workload::{Workload, order, reference, run, schema, snapshot, start};
-use crate::case::{BRANCH, Metadata, Order, SortField, StatisticsFile, TAG, Update};
+use crate::case::{
+    BRANCH, BUCKET, Flagged, Metadata, Order, PartitionField, SortField, Spec, StatisticsFile, TAG,
+    Update,
+};
 
 pub struct Work {
     pub title: &'static str,
@@ -31,6 +34,7 @@ pub fn all() -> Vec<Work> {
         schemas(),
         orders(),
         statistics(),
+        specs(),
     ]
     .into_iter()
     .flatten()
@@ -171,6 +175,42 @@ fn statistics() -> Vec<Work> {
         Work {
             both: (0..32).map(set).collect(),
             ..work("15 remove statistics", 32, Update::RemoveStatistics)
+        },
+    ]
+}
+
+/// Of two buckets each, since the start's fields are longs. The start has spec 0, without fields.
+fn specs() -> Vec<Work> {
+    let field = |source_id: i32, number: i64| PartitionField {
+        source_id,
+        field_id: Flagged::of(None),
+        name: format!("bucket-{source_id}-{number}").into_bytes(),
+        transform: BUCKET,
+        number: number as i32,
+    };
+    let add = |i: i64| {
+        Update::AddPartitionSpec(Spec {
+            id: 0,
+            fields: vec![field(1, 1 + i), field(2, 1 + i)],
+        })
+    };
+    vec![
+        work("18 add partition spec, a new one", 15, add),
+        Work {
+            both: (0..4).map(add).collect(),
+            ..work("18 add partition spec, a held one", 60, |i| add(i % 4))
+        },
+        Work {
+            both: (0..4).map(add).collect(),
+            ..work("19 set default partition spec", 60, |i| {
+                Update::SetDefaultPartitionSpec(1 + i as i32 % 4)
+            })
+        },
+        Work {
+            both: (0..15).map(add).collect(),
+            ..work("20 remove specs, one at a time", 15, |i| {
+                Update::RemovePartitionSpecs(vec![1 + i as i32])
+            })
         },
     ]
 }

@@ -1,8 +1,8 @@
 //! The workloads, as records, so that every engine is given the same.
 
 use crate::case::{
-    BRANCH, Flagged, Metadata, MetadataLogEntry, Order, Ref, Run, Schema, Snapshot,
-    SnapshotLogEntry, SortField, TAG, Update,
+    BRANCH, DEFAULT_SPEC_ID, Flagged, LAST_PARTITION_ID, Metadata, MetadataLogEntry, Order, Ref,
+    Run, Schema, Snapshot, SnapshotLogEntry, SortField, Spec, TAG, Update,
 };
 
 pub enum Workload {
@@ -81,8 +81,7 @@ pub fn reference(name: &str, kind: u8, snapshot_id: i64) -> Ref {
 }
 
 pub fn schema(id: i32) -> Schema {
-    let fields = (1..=8 + id).collect();
-    Schema { id, fields }
+    Schema::unnamed(id, 1..=8 + id)
 }
 
 pub fn order(id: i64) -> Order {
@@ -131,6 +130,9 @@ pub fn start(snapshots: i64, entries: i64) -> Metadata {
         default_order_id: 1,
         statistics: vec![],
         partition_statistics: vec![],
+        specs: vec![Spec::unpartitioned()],
+        default_spec_id: DEFAULT_SPEC_ID,
+        last_partition_id: LAST_PARTITION_ID,
     }
 }
 

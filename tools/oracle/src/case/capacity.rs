@@ -8,6 +8,10 @@ pub const SCHEMAS: usize = 16;
 pub const SCHEMA_FIELDS: usize = 32;
 pub const ORDERS: usize = 16;
 pub const ORDER_FIELDS: usize = 8;
+/// Of a schema's field and of a partition field, by document 02.
+pub const FIELD_NAME: usize = 32;
+pub const SPECS: usize = 16;
+pub const SPEC_FIELDS: usize = 8;
 /// Of each of the two tables, by document 02.
 pub const STATISTICS: usize = 32;
 pub const REMOVAL_IDS: usize = 16;

@@ -2,14 +2,24 @@
 //! slots, values behind a flag of 0, unknown kinds.
 
 pub mod capacity;
+mod more;
+mod partition;
 mod read;
+mod read_records;
+mod schema;
 mod tokens;
+mod update;
 mod write;
+mod write_records;
 
-use std::ops::RangeInclusive;
-
+pub use more::{DEFAULT_TOLERANCE, More, TOLERANCES, Table};
+pub use partition::{
+    BUCKET, DAY, DEFAULT_SPEC_ID, IDENTITY, LAST_PARTITION_ID, MONTH, PartitionField, Spec, YEAR,
+};
 pub use read::CaseReader;
+pub use schema::{LONG, Schema, SchemaField, TIMESTAMP};
 pub use tokens::{BadCase, Tokens};
+pub use update::Update;
 pub use write::Line;
 
 pub type Bytes = Vec<u8>;
@@ -55,12 +65,6 @@ pub struct Ref {
     pub min_snapshots: Flagged<i32>,
     pub max_snapshot_age_ms: Flagged<i64>,
     pub max_ref_age_ms: Flagged<i64>,
-}
-
-#[derive(Debug, Clone, PartialEq)]
-pub struct Schema {
-    pub id: i32,
-    pub fields: Vec<i32>,
 }
 
 #[derive(Debug, Clone, Copy, PartialEq)]
@@ -116,65 +120,9 @@ pub struct Metadata {
     pub default_order_id: i64,
     pub statistics: Vec<StatisticsFile>,
     pub partition_statistics: Vec<StatisticsFile>,
-}
-
-#[derive(Debug, Clone, PartialEq)]
-pub enum Update {
-    AssignUuid([u8; 16]),
-    UpgradeFormatVersion(u8),
-    SetLocation(Bytes),
-    AddSnapshot(Snapshot),
-    SetBranchSnapshot(Bytes, Snapshot),
-    RemoveSnapshots(Vec<i64>),
-    SetRef(Ref),
-    RemoveRef(Bytes),
-    AddSchema(Schema),
-    SetCurrentSchema(i32),
-    RemoveSchemas(Vec<i32>),
-    AddSortOrder(Order),
-    SetDefaultSortOrder(i64),
-    SetStatistics(StatisticsFile),
-    RemoveStatistics(i64),
-    SetPartitionStatistics(StatisticsFile),
-    RemovePartitionStatistics(i64),
-    UnknownKind(u8),
-}
-
-impl Update {
-    pub fn kind(&self) -> u8 {
-        match self {
-            Self::AssignUuid(_) => 1,
-            Self::UpgradeFormatVersion(_) => 2,
-            Self::SetLocation(_) => 3,
-            Self::AddSnapshot(_) => 4,
-            Self::SetBranchSnapshot(..) => 5,
-            Self::RemoveSnapshots(_) => 6,
-            Self::SetRef(_) => 7,
-            Self::RemoveRef(_) => 8,
-            Self::AddSchema(_) => 9,
-            Self::SetCurrentSchema(_) => 10,
-            Self::RemoveSchemas(_) => 11,
-            Self::AddSortOrder(_) => 12,
-            Self::SetDefaultSortOrder(_) => 13,
-            Self::SetStatistics(_) => 14,
-            Self::RemoveStatistics(_) => 15,
-            Self::SetPartitionStatistics(_) => 16,
-            Self::RemovePartitionStatistics(_) => 17,
-            Self::UnknownKind(kind) => *kind,
-        }
-    }
-
-    pub fn is_of_statistics(&self) -> bool {
-        (14..=17).contains(&self.kind())
-    }
-
-    /// The snapshot that it adds, if it does.
-    pub fn added(&self) -> Option<&Snapshot> {
-        match self {
-            Self::AddSnapshot(added) | Self::SetBranchSnapshot(_, added) => Some(added),
-            _ => None,
-        }
-    }
+    pub specs: Vec<Spec>,
+    pub default_spec_id: i32,
+    pub last_partition_id: i32,
 }
 
 #[derive(Debug, Clone)]
@@ -184,43 +132,6 @@ pub struct Run {
     pub file: Option<Bytes>,
     pub limit: Option<Bytes>,
     pub updates: Vec<Update>,
-}
-
-/// What a run may be given beside that, each by its tag.
-#[derive(Debug, Clone, Default)]
-pub struct More {
-    /// Tag 1, in milliseconds.
-    pub tolerance: Option<i64>,
-    /// Tag 2: whether the metadata's table of statistics is given. The answer then shows it; else it is empty.
-    pub statistics: bool,
-    /// Tag 3, the same of the metadata's partition statistics.
-    pub partition_statistics: bool,
-}
-
-/// The tolerance of a run that is given none, in milliseconds.
-pub const DEFAULT_TOLERANCE: i64 = 60_000;
-
-/// The tolerances that a run may be given.
-pub const TOLERANCES: RangeInclusive<i64> = 0..=3_600_000;
-
-impl More {
-    pub fn tolerance(&self) -> i64 {
-        self.tolerance.unwrap_or(DEFAULT_TOLERANCE)
-    }
-
-    pub fn has_tables(&self) -> bool {
-        self.statistics || self.partition_statistics
-    }
-
-    /// Those of the metadata's tables that are given, each behind its tag.
-    pub fn tables<'a>(&self, m: &'a Metadata) -> Vec<(u8, &'a Vec<StatisticsFile>)> {
-        let both = [
-            (self.statistics, 2, &m.statistics),
-            (self.partition_statistics, 3, &m.partition_statistics),
-        ];
-        let given = both.into_iter().filter(|(given, ..)| *given);
-        given.map(|(_, tag, files)| (tag, files)).collect()
-    }
 }
 
 /// The part of a walk that both its entries share.

@@ -4,7 +4,7 @@ use std::io::BufRead;
 
 use super::*;
 
-type Read<T> = Result<T, BadCase>;
+pub type Read<T> = Result<T, BadCase>;
 
 pub struct CaseReader<R> {
     tokens: Tokens<R>,
@@ -93,6 +93,16 @@ impl<R: BufRead> CaseReader<R> {
                     more.partition_statistics = true;
                     metadata.partition_statistics = self.counted(Self::statistics_file)?;
                 }
+                4 => {
+                    more.schemas = true;
+                    metadata.schemas = self.counted(Self::named_schema)?;
+                }
+                5 => {
+                    more.specs = true;
+                    metadata.specs = self.counted(Self::spec)?;
+                    metadata.default_spec_id = self.number()?;
+                    metadata.last_partition_id = self.number()?;
+                }
                 _ => return Err(BadCase),
             }
             before = tag;
@@ -132,6 +142,9 @@ impl<R: BufRead> CaseReader<R> {
             default_order_id: self.number()?,
             statistics: Vec::new(),
             partition_statistics: Vec::new(),
+            specs: vec![Spec::unpartitioned()],
+            default_spec_id: DEFAULT_SPEC_ID,
+            last_partition_id: LAST_PARTITION_ID,
         })
     }
 
@@ -154,75 +167,11 @@ impl<R: BufRead> CaseReader<R> {
             15 => Update::RemoveStatistics(self.number()?),
             16 => Update::SetPartitionStatistics(self.statistics_file()?),
             17 => Update::RemovePartitionStatistics(self.number()?),
+            18 => Update::AddPartitionSpec(self.spec()?),
+            19 => Update::SetDefaultPartitionSpec(self.number()?),
+            20 => Update::RemovePartitionSpecs(self.counted(Self::number)?),
+            21 => Update::AddNamedSchema(self.named_schema()?),
             kind => Update::UnknownKind(kind),
-        })
-    }
-
-    fn snapshot(&mut self) -> Read<Snapshot> {
-        Ok(Snapshot {
-            id: self.number()?,
-            parent: self.flagged()?,
-            sequence: self.number()?,
-            timestamp_ms: self.number()?,
-            rows: Flagged {
-                present: self.flag()?,
-                value: (self.number()?, self.number()?),
-            },
-        })
-    }
-
-    fn reference(&mut self) -> Read<Ref> {
-        Ok(Ref {
-            name: self.bytes()?,
-            snapshot_id: self.number()?,
-            kind: self.number()?,
-            min_snapshots: self.flagged()?,
-            max_snapshot_age_ms: self.flagged()?,
-            max_ref_age_ms: self.flagged()?,
-        })
-    }
-
-    fn snapshot_log_entry(&mut self) -> Read<SnapshotLogEntry> {
-        Ok(SnapshotLogEntry {
-            snapshot_id: self.number()?,
-            timestamp_ms: self.number()?,
-        })
-    }
-
-    fn metadata_log_entry(&mut self) -> Read<MetadataLogEntry> {
-        Ok(MetadataLogEntry {
-            file: self.bytes()?,
-            timestamp_ms: self.number()?,
-        })
-    }
-
-    fn schema(&mut self) -> Read<Schema> {
-        Ok(Schema {
-            id: self.number()?,
-            fields: self.counted(Self::number)?,
-        })
-    }
-
-    fn order(&mut self) -> Read<Order> {
-        Ok(Order {
-            id: self.number()?,
-            fields: self.counted(Self::sort_field)?,
-        })
-    }
-
-    fn sort_field(&mut self) -> Read<SortField> {
-        Ok(SortField {
-            source_id: self.number()?,
-            direction: self.number()?,
-            nulls: self.number()?,
-        })
-    }
-
-    fn statistics_file(&mut self) -> Read<StatisticsFile> {
-        Ok(StatisticsFile {
-            snapshot_id: self.number()?,
-            path: self.bytes()?,
-            size: self.number()?,
         })
     }
 
@@ -241,23 +190,23 @@ impl<R: BufRead> CaseReader<R> {
         }
     }
 
-    fn bytes(&mut self) -> Read<Bytes> {
+    pub(super) fn bytes(&mut self) -> Read<Bytes> {
         self.counted(Self::number)
     }
 
-    fn counted<T>(&mut self, one: impl Fn(&mut Self) -> Read<T>) -> Read<Vec<T>> {
+    pub(super) fn counted<T>(&mut self, one: impl Fn(&mut Self) -> Read<T>) -> Read<Vec<T>> {
         let count: u64 = self.number()?;
         (0..count).map(|_| one(self)).collect()
     }
 
-    fn flagged<T: TryFrom<i128>>(&mut self) -> Read<Flagged<T>> {
+    pub(super) fn flagged<T: TryFrom<i128>>(&mut self) -> Read<Flagged<T>> {
         Ok(Flagged {
             present: self.flag()?,
             value: self.number()?,
         })
     }
 
-    fn flag(&mut self) -> Read<bool> {
+    pub(super) fn flag(&mut self) -> Read<bool> {
         match self.number::<u8>()? {
             0 => Ok(false),
             1 => Ok(true),
@@ -265,7 +214,7 @@ impl<R: BufRead> CaseReader<R> {
         }
     }
 
-    fn number<T: TryFrom<i128>>(&mut self) -> Read<T> {
+    pub(super) fn number<T: TryFrom<i128>>(&mut self) -> Read<T> {
         self.tokens.number()
     }
 }

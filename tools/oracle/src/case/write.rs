@@ -8,20 +8,35 @@ pub struct Line {
     text: String,
     /// An answer shows no more records or bytes than there are slots; a case shows all.
     slots_only: bool,
+    /// Logged schemas are written with names.
+    named: bool,
 }
 
 impl Line {
     /// The line of a case.
     pub fn of_case(case: &Case) -> String {
-        let (text, slots_only) = (String::new(), false);
-        let mut line = Self { text, slots_only };
+        let mut line = Self {
+            slots_only: false,
+            ..Self::for_answer()
+        };
         line.case(case);
         line.text
     }
 
     pub fn for_answer() -> Self {
-        let (text, slots_only) = (String::new(), true);
-        Self { text, slots_only }
+        Self {
+            text: String::new(),
+            slots_only: true,
+            named: false,
+        }
+    }
+
+    /// For the answer to a run that is given this: its log has schemas with names if it was given them so.
+    pub fn for_run(more: &More) -> Self {
+        Self {
+            named: more.schemas,
+            ..Self::for_answer()
+        }
     }
 
     pub fn into_text(self) -> String {
@@ -60,7 +75,7 @@ impl Line {
         self.counted(slots, list, |line, number| line.number(number))
     }
 
-    fn flagged<T: Display>(&mut self, value: &Flagged<T>) -> &mut Self {
+    pub(super) fn flagged<T: Display>(&mut self, value: &Flagged<T>) -> &mut Self {
         self.number(value.present as u8).number(&value.value)
     }
 
@@ -123,15 +138,24 @@ impl Line {
         if let Some(tolerance) = more.tolerance {
             self.number(1).number(tolerance);
         }
-        for (tag, files) in tables {
-            self.number(tag).statistics(files);
+        for (tag, table) in tables {
+            self.number(tag).table(table);
         }
         self
     }
 
-    /// A table of statistics files.
-    pub fn statistics(&mut self, files: &[StatisticsFile]) -> &mut Self {
-        self.counted(capacity::STATISTICS, files, Self::statistics_file)
+    /// A table that a run was given.
+    pub fn table(&mut self, table: Table) -> &mut Self {
+        match table {
+            Table::Statistics(files) => {
+                self.counted(capacity::STATISTICS, files, Self::statistics_file)
+            }
+            Table::Schemas(schemas) => self.counted(capacity::SCHEMAS, schemas, Self::named_schema),
+            Table::Specs(m) => {
+                self.counted(capacity::SPECS, &m.specs, Self::spec);
+                self.number(m.default_spec_id).number(m.last_partition_id)
+            }
+        }
     }
 
     fn walk_terms(&mut self, terms: &WalkTerms) -> &mut Self {
@@ -161,6 +185,9 @@ impl Line {
     }
 
     fn update(&mut self, update: &Update) -> &mut Self {
+        if let (Update::AddSchema(schema), true) = (update, self.named) {
+            return self.number(21).named_schema(schema);
+        }
         self.number(update.kind());
         match update {
             Update::AssignUuid(uuid) => self.numbers(uuid),
@@ -174,6 +201,7 @@ impl Line {
             Update::SetRef(reference) => self.reference(reference),
             Update::RemoveRef(name) => self.list(capacity::REF_NAME, name),
             Update::AddSchema(schema) => self.schema(schema),
+            Update::AddNamedSchema(schema) => self.named_schema(schema),
             Update::SetCurrentSchema(id) => self.number(id),
             Update::RemoveSchemas(ids) => self.list(capacity::REMOVAL_IDS, ids),
             Update::AddSortOrder(order) => self.order(order),
@@ -182,54 +210,10 @@ impl Line {
             Update::RemoveStatistics(id) => self.number(id),
             Update::SetPartitionStatistics(file) => self.statistics_file(file),
             Update::RemovePartitionStatistics(id) => self.number(id),
+            Update::AddPartitionSpec(spec) => self.spec(spec),
+            Update::SetDefaultPartitionSpec(id) => self.number(id),
+            Update::RemovePartitionSpecs(ids) => self.list(capacity::REMOVAL_IDS, ids),
             Update::UnknownKind(_) => self,
         }
-    }
-
-    fn snapshot(&mut self, s: &Snapshot) -> &mut Self {
-        let (first_row, added_rows) = s.rows.value;
-        self.number(s.id).flagged(&s.parent);
-        self.number(s.sequence).number(s.timestamp_ms);
-        self.number(s.rows.present as u8);
-        self.number(first_row).number(added_rows)
-    }
-
-    fn reference(&mut self, r: &Ref) -> &mut Self {
-        self.list(capacity::REF_NAME, &r.name);
-        self.number(r.snapshot_id).number(r.kind);
-        self.flagged(&r.min_snapshots);
-        self.flagged(&r.max_snapshot_age_ms);
-        self.flagged(&r.max_ref_age_ms)
-    }
-
-    fn snapshot_log(&mut self, entries: &[SnapshotLogEntry]) -> &mut Self {
-        self.counted(capacity::SNAPSHOT_LOG, entries, |line, entry| {
-            line.number(entry.snapshot_id).number(entry.timestamp_ms)
-        })
-    }
-
-    pub fn metadata_log(&mut self, entries: &[MetadataLogEntry]) -> &mut Self {
-        self.counted(capacity::METADATA_LOG, entries, |line, entry| {
-            line.list(capacity::FILE_NAME, &entry.file);
-            line.number(entry.timestamp_ms)
-        })
-    }
-
-    fn schema(&mut self, schema: &Schema) -> &mut Self {
-        self.number(schema.id);
-        self.list(capacity::SCHEMA_FIELDS, &schema.fields)
-    }
-
-    fn order(&mut self, order: &Order) -> &mut Self {
-        self.number(order.id);
-        self.counted(capacity::ORDER_FIELDS, &order.fields, |line, field| {
-            line.number(field.source_id);
-            line.number(field.direction).number(field.nulls)
-        })
-    }
-
-    fn statistics_file(&mut self, file: &StatisticsFile) -> &mut Self {
-        self.number(file.snapshot_id);
-        self.list(capacity::FILE_NAME, &file.path).number(file.size)
     }
 }

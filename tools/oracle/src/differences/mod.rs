@@ -2,15 +2,18 @@
 //! documents 01 and 02 say.
 
 mod rows;
+mod specs;
 
 use std::collections::BTreeSet;
 use std::io::{self, Write};
 
+use crate::TableUpdate;
 use crate::answer::answer;
-use crate::case::{Case, Line, Run, WalkTerms};
+use crate::case::{Case, Flagged, Line, Run, Update, WalkTerms};
 use crate::chrono;
 use crate::port;
 use crate::published::apply::{apply, call};
+use crate::published::from_published as from;
 use crate::published::number::in_words;
 use crate::published::to_published as to;
 use crate::spec::table_metadata_builder::TableMetadataBuilder;
@@ -45,7 +48,11 @@ pub fn cases(mut output: impl Write) -> io::Result<()> {
 fn here(case: &Case) -> String {
     if let Some((run, tolerance)) = case.run() {
         return match port::run(run, tolerance).answer {
-            Ok(accepted) => accepted_with(accepted.metadata.version, accepted.metadata.next_row_id),
+            Ok(accepted) => {
+                let (version, next_row_id) =
+                    (accepted.metadata.version, accepted.metadata.next_row_id);
+                accepted_with(version, next_row_id) + &logs(accepted.log.last())
+            }
             Err((number, place)) => format!("{number} at {place}"),
         };
     }
@@ -62,6 +69,29 @@ fn accepted_with(version: u8, next_row_id: u64) -> String {
     match version {
         3 => format!("accepted, next row id {next_row_id}"),
         _ => "accepted".to_owned(),
+    }
+}
+
+/// The entry of the change log, with the ids of a removal of specs in the order in which they are logged.
+fn as_logged(change: &TableUpdate) -> Update {
+    match change {
+        TableUpdate::RemovePartitionSpecs { spec_ids } => {
+            Update::RemovePartitionSpecs(spec_ids.clone())
+        }
+        change => from::update(change),
+    }
+}
+
+/// What the last entry says of partition specs, if it does: the ids of an added one's fields, or of those removed.
+fn logs(last: Option<&Update>) -> String {
+    match last {
+        Some(Update::AddPartitionSpec(spec)) => {
+            let id = |id: &Flagged<i32>| id.get().map_or("none".to_owned(), |id| id.to_string());
+            let ids: Vec<String> = spec.fields.iter().map(|f| id(&f.field_id)).collect();
+            format!(", logs a spec with field ids {}", ids.join(" "))
+        }
+        Some(Update::RemovePartitionSpecs(ids)) => format!(", logs the removal of {ids:?}"),
+        _ => String::new(),
     }
 }
 
@@ -91,10 +121,12 @@ fn run_alone(run: &Run) -> String {
         };
     }
     match in_words(|| builder.build()) {
-        Ok(built) => accepted_with(
-            built.metadata.format_version as u8,
-            built.metadata.next_row_id,
-        ),
+        Ok(built) => {
+            let (version, next_row_id) =
+                (built.metadata.format_version, built.metadata.next_row_id);
+            let logged = built.changes.last().map(as_logged);
+            accepted_with(version as u8, next_row_id) + &logs(logged.as_ref())
+        }
         Err(words) => format!("close: {words}"),
     }
 }

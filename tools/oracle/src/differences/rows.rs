@@ -1,5 +1,6 @@
 //! The inputs, in the order of the page, each as small as shows its row.
 
+use super::specs;
 use crate::case::{
     BRANCH, Case, Flagged, Metadata, MetadataLogEntry, More, Order, Ref, Run, Schema, Snapshot,
     SnapshotLogEntry, SortField, StatisticsFile, Update, WalkTerms, capacity,
@@ -15,6 +16,7 @@ pub fn all() -> Vec<(&'static str, Case)> {
         starts(),
         numbers_below_their_bounds(),
         picks(),
+        specs::all(),
         walks(),
     ]
     .into_iter()
@@ -23,7 +25,7 @@ pub fn all() -> Vec<(&'static str, Case)> {
 }
 
 /// Version 2, one schema and one order with id 0 and no fields, and nothing else.
-fn bare() -> Metadata {
+pub fn bare() -> Metadata {
     Metadata {
         version: 2,
         ..port::bare()
@@ -40,7 +42,7 @@ fn run_of(metadata: Metadata, updates: Vec<Update>) -> Run {
     }
 }
 
-fn run(metadata: Metadata, updates: Vec<Update>) -> Case {
+pub fn run(metadata: Metadata, updates: Vec<Update>) -> Case {
     Case::Run(Box::new(run_of(metadata, updates)))
 }
 
@@ -73,10 +75,7 @@ fn entry(snapshot_id: i64, timestamp_ms: i64) -> SnapshotLogEntry {
 }
 
 fn schema(id: i32, field: Option<i32>) -> Schema {
-    Schema {
-        id,
-        fields: field.into_iter().collect(),
-    }
+    Schema::unnamed(id, field)
 }
 
 fn by_field_1(id: i64, direction: u8) -> Order {

@@ -1,6 +1,7 @@
 //! Breaks one rule for well-formed records, and leaves the rest as it is.
 
 use super::random::Random;
+use super::specs;
 use super::start::fill_metadata_log;
 use crate::case::{
     Bytes, Flagged, Metadata, Order, Ref, Run, Schema, Snapshot, SnapshotLogEntry, SortField,
@@ -60,6 +61,7 @@ pub fn update(random: &mut Random, update: &mut Update) {
         Update::RemoveSnapshots(ids) => removal(random, ids, -1),
         Update::SetRef(r) => reference(random, r),
         Update::AddSchema(s) => schema(random, s),
+        Update::AddNamedSchema(s) => specs::damage_schema(random, s),
         Update::SetCurrentSchema(id) => *id = random.one_of(&[-2, i32::MIN]),
         Update::RemoveSchemas(ids) => removal(random, ids, -1),
         Update::AddSortOrder(o) => order(random, o),
@@ -68,8 +70,11 @@ pub fn update(random: &mut Random, update: &mut Update) {
         Update::RemoveStatistics(id) | Update::RemovePartitionStatistics(id) => {
             *id = random.one_of(&[-1, i64::MIN])
         }
+        Update::AddPartitionSpec(s) => specs::damage_offer(random, s),
+        Update::SetDefaultPartitionSpec(id) => *id = random.one_of(&[-2, i32::MIN]),
+        Update::RemovePartitionSpecs(ids) => removal(random, ids, -1),
         Update::AssignUuid(_) | Update::UnknownKind(_) => {
-            *update = Update::UnknownKind(random.one_of(&[0, 18, 255]))
+            *update = Update::UnknownKind(random.one_of(&[0, 22, 255]))
         }
     }
 }
@@ -86,7 +91,7 @@ fn statistics(random: &mut Random, files: &mut Vec<StatisticsFile>) {
 }
 
 /// Damages a keyed table: its order, the inequality of its keys, its count, or one of its records.
-fn table<R: Clone>(
+pub fn table<R: Clone>(
     random: &mut Random,
     records: &mut Vec<R>,
     slots: usize,
@@ -163,7 +168,7 @@ fn single_fields(random: &mut Random, m: &mut Metadata) {
     }
 }
 
-fn too_long(random: &mut Random, text: &mut Bytes, slots: usize) {
+pub fn too_long(random: &mut Random, text: &mut Bytes, slots: usize) {
     let length = slots + 1 + random.one_of(&[0, 0, 30]);
     text.resize(length, random.one_of(b"x/"));
 }
@@ -203,9 +208,9 @@ fn reference(random: &mut Random, r: &mut Ref) {
 fn schema(random: &mut Random, s: &mut Schema) {
     match random.below(4) {
         0 => s.id = random.one_of(&[-1, i32::MIN]),
-        1 => s.fields = (1..=capacity::SCHEMA_FIELDS as i32 + 1).collect(),
-        2 => s.fields = vec![4, 5, 4],
-        _ => s.fields = vec![1, random.one_of(&[0, -1, i32::MIN])],
+        1 => *s = Schema::unnamed(s.id, 1..=capacity::SCHEMA_FIELDS as i32 + 1),
+        2 => *s = Schema::unnamed(s.id, [4, 5, 4]),
+        _ => *s = Schema::unnamed(s.id, [1, random.one_of(&[0, -1, i32::MIN])]),
     }
 }
 

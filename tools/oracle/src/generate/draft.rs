@@ -5,7 +5,7 @@ use super::random::Random;
 use super::start;
 use super::world::World;
 use super::{damage, leaves};
-use crate::case::{More, Order, Run, Update, capacity};
+use crate::case::{More, Order, Run, Spec, Update, capacity};
 use crate::port::{self, Owns};
 use crate::published::from_published as from;
 use crate::spec::table_metadata_builder::TableMetadataBuilder;
@@ -98,6 +98,7 @@ impl Draft {
         for _ in 0..6 {
             let mending = match self.close() {
                 20 => vec![unsorted(), Update::SetDefaultSortOrder(-1)],
+                31 | 32 => vec![unpartitioned(), Update::SetDefaultPartitionSpec(-1)],
                 21 | 22 if random.percent(50) => vec![Update::RemoveRef(b"main".to_vec())],
                 21 | 22 => vec![self.main_to_any(random)],
                 _ => break,
@@ -122,4 +123,8 @@ impl Draft {
 fn unsorted() -> Update {
     let (id, fields) = (0, Vec::new());
     Update::AddSortOrder(Order { id, fields })
+}
+
+fn unpartitioned() -> Update {
+    Update::AddPartitionSpec(Spec::unpartitioned())
 }

@@ -1,5 +1,5 @@
 //! A seeded generator of cases: deep accepted runs, every refusal, boundaries, damaged records, walks, the small entry points,
-//! tolerances, and tables of statistics files.
+//! tolerances, tables of statistics files, and partition specs.
 
 mod damage;
 mod draft;
@@ -8,6 +8,7 @@ mod propose;
 mod provoke;
 mod random;
 mod runs;
+mod specs;
 mod start;
 mod statistics;
 mod tolerances;
@@ -26,16 +27,18 @@ pub enum Kind {
     Limit,
     Tolerance,
     Statistics,
+    Specs,
     Mixed,
 }
 
 /// What a mixed lot has, each as often as it is to come.
-const MIXED: [(Kind, usize); 5] = [
+const MIXED: [(Kind, usize); 6] = [
     (Kind::Run, 6),
     (Kind::Walk, 2),
     (Kind::Limit, 2),
     (Kind::Tolerance, 2),
     (Kind::Statistics, 2),
+    (Kind::Specs, 6),
 ];
 
 pub fn generate(seed: u64, count: u64, kind: Kind, mut output: impl Write) -> std::io::Result<()> {
@@ -53,6 +56,7 @@ fn case(random: &mut Random, kind: Kind) -> Case {
         Kind::Limit => leaves::leaf(random),
         Kind::Tolerance => tolerances::given(random),
         Kind::Statistics => statistics::given(random),
+        Kind::Specs => specs::given(random),
         Kind::Mixed => {
             let kind = random.weighted(&MIXED);
             case(random, kind)

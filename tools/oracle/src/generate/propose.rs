@@ -1,6 +1,7 @@
 //! One update that suits the metadata as it stands: mostly one that takes effect, often one that repeats or undoes another.
 
 use super::random::Random;
+use super::specs;
 use super::start;
 use super::world::World;
 use crate::case::{
@@ -38,6 +39,9 @@ const KINDS: [(u8, usize); 17] = [
 ];
 
 pub fn propose(random: &mut Random, now: &Now) -> Update {
+    if let Some(pools) = now.world.specs.as_ref().filter(|_| random.percent(50)) {
+        return specs::propose(random, now, pools);
+    }
     let kind = match now.world.statistics && random.percent(35) {
         true => random.one_of(&[14, 14, 15, 16, 16, 17]),
         false => random.weighted(&KINDS),
@@ -56,7 +60,7 @@ pub fn of_kind(random: &mut Random, now: &Now, kind: u8) -> Update {
         6 => Update::RemoveSnapshots(snapshot_removal(random, now)),
         7 => set_ref(random, now),
         8 => Update::RemoveRef(ref_name(random, now)),
-        9 => Update::AddSchema(schema(random, now)),
+        9 => specs::add_schema(schema(random, now)),
         10 => Update::SetCurrentSchema(known_or(random, &schema_ids(m), -1)),
         11 => Update::RemoveSchemas(schema_removal(random, m)),
         12 => Update::AddSortOrder(order(random, now)),
@@ -188,7 +192,10 @@ fn snapshot_removal(random: &mut Random, now: &Now) -> Vec<i64> {
 fn schema(random: &mut Random, now: &Now) -> Schema {
     let fields = match random.any_of(&now.metadata.schemas) {
         Some(twin) if random.percent(50) => twin.fields,
-        _ => start::fields(random, now.world),
+        _ => {
+            let ids = start::field_ids(random, now.world);
+            specs::offered_fields(random, now.world, ids)
+        }
     };
     let id = random.one_of(&[0, 0, 1, 7, i32::MAX]);
     Schema { id, fields }
@@ -240,16 +247,20 @@ fn statistics_id(random: &mut Random, now: &Now, files: &[StatisticsFile], share
 }
 
 /// Half of the time `last added`, else one of the ids.
-fn known_or<T: Clone>(random: &mut Random, ids: &[T], last_added: T) -> T {
+pub fn known_or<T: Clone>(random: &mut Random, ids: &[T], last_added: T) -> T {
     match random.percent(50) {
         true => last_added,
         false => random.one_of(ids),
     }
 }
 
-pub fn current_fields(m: &Metadata) -> Vec<i32> {
+pub fn current_schema(m: &Metadata) -> &Schema {
     let current = m.schemas.iter().find(|s| s.id == m.current_schema_id);
-    current.map_or(Vec::new(), |s| s.fields.clone())
+    current.expect("the current schema is held")
+}
+
+pub fn current_fields(m: &Metadata) -> Vec<i32> {
+    current_schema(m).field_ids()
 }
 
 pub fn default_sort_fields(m: &Metadata) -> Vec<SortField> {

@@ -3,15 +3,34 @@
 use super::damage;
 use super::propose::{self, Now};
 use super::random::Random;
+use super::specs;
 use super::start;
 use crate::case::{
     Flagged, Metadata, Order, Run, Schema, Snapshot, StatisticsFile, TAG, Update, capacity,
 };
 
+/// What a run is to be refused with.
+#[derive(Clone, Copy)]
+pub struct Aim {
+    pub number: u8,
+    /// By an update of partition specs or of a named schema.
+    pub of_specs: bool,
+}
+
+impl Aim {
+    /// In a run about specs a number that other updates are refused with too is aimed at either way.
+    pub fn new(random: &mut Random, about_specs: bool, number: u8) -> Self {
+        let either = about_specs && [14, 15, 18, 19].contains(&number);
+        let of_specs = number > 30 || either && random.percent(60);
+        Self { number, of_specs }
+    }
+}
+
 /// What a start needs for this number and would seldom have by itself.
-pub fn prepare(random: &mut Random, run: &mut Run, number: u8) {
+pub fn prepare(random: &mut Random, run: &mut Run, aim: Aim) {
     let m = &mut run.metadata;
-    match number {
+    match aim.number {
+        number if aim.of_specs => specs::prepare(random, m, number),
         18 if random.percent(50) => {
             let last = m.schemas.last_mut().expect("a start has a schema");
             if last.id != m.current_schema_id {
@@ -39,7 +58,14 @@ fn overfill_metadata_log(random: &mut Random, run: &mut Run) {
 }
 
 /// What may stand before the refused update.
-pub fn lead(random: &mut Random, now: &Now, number: u8) -> Vec<Update> {
+pub fn lead(random: &mut Random, now: &Now, aim: Aim) -> Vec<Update> {
+    match (aim.number, &now.world.specs) {
+        (number, Some(pools)) if aim.of_specs => specs::lead(random, now, pools, number),
+        (number, _) => lead_plainly(random, now, number),
+    }
+}
+
+fn lead_plainly(random: &mut Random, now: &Now, number: u8) -> Vec<Update> {
     match number {
         9 if now.metadata.version == 3 && random.percent(40) => vec![gap(random, now)],
         19 if random.percent(10) => statistics_files(random),
@@ -73,8 +99,16 @@ fn set_statistics(random: &mut Random) -> fn(StatisticsFile) -> Update {
     }
 }
 
-/// An update that may be refused with this number, 3 to 19; nothing where the metadata forbids it from the outset.
-pub fn update(random: &mut Random, now: &Now, number: u8) -> Option<Update> {
+/// An update that may be refused with this number; nothing where the metadata forbids it from the outset.
+pub fn update(random: &mut Random, now: &Now, aim: Aim) -> Option<Update> {
+    match (aim.number, &now.world.specs) {
+        (number, Some(pools)) if aim.of_specs => specs::update(random, now, pools, number),
+        (number, _) => plain_update(random, now, number),
+    }
+}
+
+/// The number is 3 to 19.
+fn plain_update(random: &mut Random, now: &Now, number: u8) -> Option<Update> {
     let m = &now.metadata;
     match number {
         3 => {
@@ -106,17 +140,17 @@ pub fn update(random: &mut Random, now: &Now, number: u8) -> Option<Update> {
     }
 }
 
-/// Updates after which the close may be refused with this number, 20 to 23.
+/// Updates after which the close may be refused with this number, 20 to 23, 31 or 32.
 pub fn closing(random: &mut Random, now: &Now, number: u8) -> Option<Vec<Update>> {
     let m = &now.metadata;
     let current = m.current_snapshot_id.get();
     match number {
         20 => {
             let sorted_by = propose::default_sort_fields(m).first()?.source_id;
-            let mut fields = propose::current_fields(m);
-            fields.retain(|id| *id != sorted_by);
-            let schema = Schema { id: 0, fields };
-            let mut causes = vec![Update::AddSchema(schema), Update::SetCurrentSchema(-1)];
+            let mut fields = propose::current_schema(m).fields.clone();
+            fields.retain(|f| f.id != sorted_by);
+            let schema = specs::add_schema(Schema { id: 0, fields });
+            let mut causes = vec![schema, Update::SetCurrentSchema(-1)];
             if let (Some(current), true) = (current, random.percent(30)) {
                 causes.push(Update::RemoveSnapshots(vec![current]));
             }
@@ -133,6 +167,7 @@ pub fn closing(random: &mut Random, now: &Now, number: u8) -> Option<Vec<Update>
                 Update::AddSnapshot(again),
             ])
         }
+        31 | 32 => specs::closing(random, now, number),
         _ => Some(Vec::new()),
     }
 }
@@ -201,8 +236,8 @@ fn new_order(random: &mut Random, m: &Metadata) -> Update {
 fn new_schema_or_order(random: &mut Random, m: &Metadata) -> Update {
     match random.percent(50) {
         true => {
-            let fields = vec![500 + random.below(99) as i32];
-            Update::AddSchema(Schema { id: 0, fields })
+            let field = 500 + random.below(99) as i32;
+            Update::AddSchema(Schema::unnamed(0, [field]))
         }
         false => new_order(random, m),
     }

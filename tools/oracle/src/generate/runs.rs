@@ -2,8 +2,9 @@
 
 use super::damage;
 use super::draft::Draft;
-use super::provoke;
+use super::provoke::{self, Aim};
 use super::random::Random;
+use super::specs;
 use crate::case::{More, Run, Update, capacity};
 use crate::port;
 
@@ -42,7 +43,7 @@ fn as_it_comes(random: &mut Random, more: &More) -> Run {
     draft.run
 }
 
-/// A run that is refused with this number, 1 to 23; one that is accepted if no draft allows it.
+/// A run that is refused with this number, 1 to 23 or 31 to 34; one that is accepted if no draft allows it.
 pub fn refused(random: &mut Random, more: &More, number: u8) -> Run {
     let found = (0..TRIES).find_map(|_| refused_if(random, more, number));
     found.unwrap_or_else(|| accepted(random, more))
@@ -53,8 +54,9 @@ fn refused_if(random: &mut Random, more: &More, number: u8) -> Option<Run> {
     let run = match number {
         1 => ill_formed_start(random, more),
         2 => too_long(random, more),
-        3..20 => refused_update(random, more, number)?,
-        _ => refused_close(random, more, number)?,
+        20..24 => refused_close(random, more, number)?,
+        31 | 32 if random.percent(35) => refused_close(random, more, number)?,
+        _ => refused_update(random, more, number)?,
     };
     let answer = port::run(&run, more.tolerance()).answer;
     let wanted = matches!(answer, Err((given, _)) if given == number);
@@ -66,7 +68,10 @@ fn ill_formed_start(random: &mut Random, more: &More) -> Run {
         true => too_long(random, more),
         false => accepted(random, more),
     };
-    damage::start(random, &mut run);
+    match more.has_specs() && random.percent(60) {
+        true => specs::damage_start(random, &mut run.metadata),
+        false => damage::start(random, &mut run),
+    }
     run
 }
 
@@ -88,15 +93,16 @@ fn too_long(random: &mut Random, more: &More) -> Run {
 
 /// Some accepted updates, at times some that lead up to it, then the refused one, then some that are never reached.
 fn refused_update(random: &mut Random, more: &More, number: u8) -> Option<Run> {
+    let aim = Aim::new(random, more.has_specs(), number);
     let mut draft = Draft::new(random, more, |random, run| {
-        provoke::prepare(random, run, number)
+        provoke::prepare(random, run, aim)
     });
     let sum = random.below(12);
     draft.grow(random, sum);
-    for update in provoke::lead(random, &draft.now(), number) {
+    for update in provoke::lead(random, &draft.now(), aim) {
         let _ = draft.offer(update);
     }
-    let update = provoke::update(random, &draft.now(), number)?;
+    let update = provoke::update(random, &draft.now(), aim)?;
     if draft.offer(update.clone()) != Err(number) {
         return None;
     }
@@ -107,8 +113,9 @@ fn refused_update(random: &mut Random, more: &More, number: u8) -> Option<Run> {
 }
 
 fn refused_close(random: &mut Random, more: &More, number: u8) -> Option<Run> {
+    let aim = Aim::new(random, more.has_specs(), number);
     let mut draft = Draft::new(random, more, |random, run| {
-        provoke::prepare(random, run, number)
+        provoke::prepare(random, run, aim)
     });
     let sum = random.below(12);
     draft.grow(random, sum);

@@ -6,8 +6,9 @@ use crate::case::{
     BRANCH, Bytes, Flagged, Metadata, MetadataLogEntry, More, Order, Ref, Schema, Snapshot,
     SnapshotLogEntry, SortField, StatisticsFile, TAG, capacity,
 };
+use crate::generate::specs;
 
-/// The start of a run that is given this: a table of statistics files that is not given is empty.
+/// The start of a run that is given this: a table that is not given is what it is without.
 pub fn start(random: &mut Random, world: &World, more: &More) -> Metadata {
     let snapshots = snapshots(random, world);
     let held: Vec<i64> = snapshots.iter().map(|s| s.id).collect();
@@ -15,6 +16,7 @@ pub fn start(random: &mut Random, world: &World, more: &More) -> Metadata {
     let schemas = schemas(random, world);
     let current_schema = random.one_of(&schemas);
     let orders = orders(random, world, &current_schema);
+    let (specs, default_spec_id, last_partition_id) = specs::start(random, world, &current_schema);
     Metadata {
         version: random.one_of(&[1, 2, 2, 3, 3]),
         uuid: uuid(random),
@@ -34,6 +36,9 @@ pub fn start(random: &mut Random, world: &World, more: &More) -> Metadata {
         orders,
         statistics: statistics(random, world, more.statistics),
         partition_statistics: statistics(random, world, more.partition_statistics),
+        specs,
+        default_spec_id,
+        last_partition_id,
     }
 }
 
@@ -202,7 +207,10 @@ fn schemas(random: &mut Random, world: &World) -> Vec<Schema> {
     for _ in 0..random.fill(capacity::SCHEMAS).max(1) {
         let fields = match random.any_of(&schemas) {
             Some(twin) if random.percent(25) => twin.fields,
-            _ => fields(random, world),
+            _ => {
+                let ids = field_ids(random, world);
+                specs::start_fields(random, world, ids)
+            }
         };
         schemas.push(Schema { id, fields });
         id += 1 + random.below(2) as i32;
@@ -213,8 +221,8 @@ fn schemas(random: &mut Random, world: &World) -> Vec<Schema> {
     schemas
 }
 
-/// A field list: some of the pool in any order, at times none, at times as many as there are slots.
-pub fn fields(random: &mut Random, world: &World) -> Vec<i32> {
+/// A list of fields: some of the pool in any order, at times none, at times as many as there are slots.
+pub fn field_ids(random: &mut Random, world: &World) -> Vec<i32> {
     let full: Vec<i32> = (1..=capacity::SCHEMA_FIELDS as i32).collect();
     let mut fields = match random.below(100) {
         0..3 => return full,
@@ -256,12 +264,12 @@ fn orders(random: &mut Random, world: &World, current: &Schema) -> Vec<Order> {
         .min(capacity::ORDERS - orders.len());
     for _ in 0..others {
         let sources = match current.fields.is_empty() || random.percent(15) {
-            true => &world.field_ids,
-            false => &current.fields,
+            true => world.field_ids.clone(),
+            false => current.field_ids(),
         };
         let fields = match orders.iter().rfind(|o| o.id > 0) {
             Some(twin) if random.percent(25) => twin.fields.clone(),
-            _ => sort_fields(random, sources),
+            _ => sort_fields(random, &sources),
         };
         orders.push(Order { id, fields });
         id += 1 + random.below(2) as i64;
@@ -274,7 +282,8 @@ fn orders(random: &mut Random, world: &World, current: &Schema) -> Vec<Order> {
 
 /// Mostly one that the current schema bears, so that a close passes 20.
 fn default_order(random: &mut Random, orders: &[Order], schema: &Schema) -> i64 {
-    let known = |f: &SortField| schema.fields.contains(&f.source_id);
+    let ids = schema.field_ids();
+    let known = |f: &SortField| ids.contains(&f.source_id);
     let borne: Vec<Order> = orders
         .iter()
         .filter(|o| o.fields.iter().all(known))

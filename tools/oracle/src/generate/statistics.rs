@@ -12,6 +12,7 @@ pub fn given(random: &mut Random) -> Case {
         tolerance: random.percent(20).then(|| tolerances::tolerance(random)),
         statistics,
         partition_statistics,
+        ..More::default()
     };
     let run = match random.below(20) {
         0 => runs::refused(random, &more, 1),

@@ -1,6 +1,7 @@
 //! What the records of one case are made of. The pools are small, so that ids, names and fields meet again and again.
 
 use super::random::Random;
+use super::specs;
 use crate::case::{Bytes, More, capacity};
 
 pub struct World {
@@ -13,6 +14,8 @@ pub struct World {
     pub gaps: bool,
     /// Updates are often of statistics files.
     pub statistics: bool,
+    /// What partition specs and named schemas are made of, if the run is about them.
+    pub specs: Option<specs::Pools>,
     pub snapshot_ids: Vec<i64>,
     pub ref_names: Vec<Bytes>,
     pub field_ids: Vec<i32>,
@@ -27,16 +30,21 @@ impl World {
             78..92 => random.one_of(&[0, -100_000, -100_000]),
             _ => random.one_of(&ends),
         };
-        Self {
+        let mut world = Self {
             time,
             tolerance: more.tolerance(),
             far: random.percent(8),
             gaps: random.percent(30),
-            statistics: more.has_tables(),
+            statistics: more.has_statistics(),
+            specs: None,
             snapshot_ids: snapshot_ids(random),
             ref_names: ref_names(random),
             field_ids: field_ids(random),
+        };
+        if more.has_specs() {
+            world.specs = Some(specs::Pools::new(random, &world.field_ids));
         }
+        world
     }
 
     /// A time near the world's, or anywhere.

@@ -44,7 +44,7 @@ pub fn apply_near(mut builder: TableMetadataBuilder, update: &Update, time: i64)
     let mut builder = match attempt(|| apply(builder, call(update))) {
         Ok(builder) => builder,
         Err(Refusal::Number(number)) => return Err(number),
-        Err(Refusal::TimeOverflow) => unreachable!("every difference fits"),
+        Err(_) => unreachable!("every difference fits, and it adds no schema, order or spec"),
     };
 
     // The run's own last update is now the snapshot's time.

@@ -1,8 +1,9 @@
 //! Well-formed records: reply 1 for a start, reply 3 for an update.
 
+use super::formed_specs::{held_spec, schema, spec};
 use crate::case::{
-    BRANCH, Flagged, Metadata, Order, Ref, Run, Schema, Snapshot, SortField, StatisticsFile, TAG,
-    Update, capacity,
+    BRANCH, Flagged, Metadata, Order, Ref, Run, Snapshot, SortField, StatisticsFile, TAG, Update,
+    capacity,
 };
 use crate::spec::MAIN_BRANCH;
 
@@ -29,13 +30,16 @@ pub fn update(update: &Update) -> bool {
         Update::RemoveSnapshots(ids) => removal(ids),
         Update::SetRef(r) => reference(r),
         Update::RemoveRef(name) => ref_name(name),
-        Update::AddSchema(s) => schema(s),
+        Update::AddSchema(s) | Update::AddNamedSchema(s) => schema(s),
         Update::SetCurrentSchema(id) => *id >= -1,
         Update::RemoveSchemas(ids) => removal(ids),
         Update::AddSortOrder(o) => order(o),
         Update::SetDefaultSortOrder(id) => *id >= -1,
         Update::SetStatistics(f) | Update::SetPartitionStatistics(f) => statistics_file(f),
         Update::RemoveStatistics(id) | Update::RemovePartitionStatistics(id) => *id >= 0,
+        Update::AddPartitionSpec(s) => spec(s),
+        Update::SetDefaultPartitionSpec(id) => *id >= -1,
+        Update::RemovePartitionSpecs(ids) => removal(ids),
         Update::UnknownKind(_) => false,
     }
 }
@@ -50,11 +54,14 @@ pub fn metadata(m: &Metadata) -> bool {
         && table(&m.orders, capacity::ORDERS, |o| &o.id, held_order)
         && statistics(&m.statistics)
         && statistics(&m.partition_statistics)
+        && table(&m.specs, capacity::SPECS, |s| &s.id, held_spec)
         && logs(m)
         && m.refs.iter().all(|r| holds_snapshot(m, r.snapshot_id))
         && current_is_main(m)
         && m.schemas.iter().any(|s| s.id == m.current_schema_id)
         && m.orders.iter().any(|o| o.id == m.default_order_id)
+        && m.specs.iter().any(|s| s.id == m.default_spec_id)
+        && m.last_partition_id >= 0
 }
 
 /// A keyed table: within its capacity, ascending with unequal keys, its records well formed.
@@ -123,15 +130,6 @@ fn ref_name(name: &[u8]) -> bool {
     name.len() <= capacity::REF_NAME
 }
 
-fn schema(s: &Schema) -> bool {
-    let mut ids = s.fields.clone();
-    ids.sort_unstable();
-    s.id >= 0
-        && ids.len() <= capacity::SCHEMA_FIELDS
-        && ids.iter().all(|id| *id >= 1)
-        && ids.is_sorted_by(|a, b| a < b)
-}
-
 /// An offered order's own id need only be at least 0.
 fn order(o: &Order) -> bool {
     let field = |f: &SortField| f.source_id >= 1 && f.direction <= 1 && f.nulls <= 1;
@@ -153,6 +151,6 @@ fn removal<T: Default + PartialOrd>(ids: &[T]) -> bool {
 }
 
 /// The value behind a flag of 0 is 0.
-fn blank<T: Default + PartialEq>(value: &Flagged<T>) -> bool {
+pub fn blank<T: Default + PartialEq>(value: &Flagged<T>) -> bool {
     value.present || value.value == T::default()
 }

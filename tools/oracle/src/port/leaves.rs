@@ -4,8 +4,8 @@ use super::own::{Own, Owns};
 use super::run::{Outcome, run};
 use super::steps::{begin, step};
 use crate::case::{
-    DEFAULT_TOLERANCE, Flagged, Metadata, MetadataLogEntry, Order, Run, Schema, Snapshot,
-    SnapshotLogEntry, Update,
+    DEFAULT_SPEC_ID, DEFAULT_TOLERANCE, Flagged, LAST_PARTITION_ID, Metadata, MetadataLogEntry,
+    Order, Run, Schema, Snapshot, SnapshotLogEntry, Spec, Update,
 };
 use crate::published::to_published as to;
 use crate::spec::table_metadata_builder::TableMetadataBuilder;
@@ -29,10 +29,7 @@ pub fn bare() -> Metadata {
         refs: Vec::new(),
         snapshot_log: Vec::new(),
         metadata_log: Vec::new(),
-        schemas: vec![Schema {
-            id: 0,
-            fields: Vec::new(),
-        }],
+        schemas: vec![Schema::unnamed(0, [])],
         current_schema_id: 0,
         orders: vec![Order {
             id: 0,
@@ -41,6 +38,9 @@ pub fn bare() -> Metadata {
         default_order_id: 0,
         statistics: Vec::new(),
         partition_statistics: Vec::new(),
+        specs: vec![Spec::unpartitioned()],
+        default_spec_id: DEFAULT_SPEC_ID,
+        last_partition_id: LAST_PARTITION_ID,
     }
 }
 

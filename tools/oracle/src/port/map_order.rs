@@ -1,6 +1,6 @@
-//! The published search for an equal schema or order takes the first in its map's order, document 01 the smallest id. Where
+//! The published search for an equal schema, order or spec takes the first in its map's order, documents 01 and 02 the smallest id. Where
 //! several are equal the map is made anew, with another order, until the smallest comes first: the builder's own pick, and all
-//! that follows from it, is then document 01's.
+//! that follows from it, is then theirs.
 
 use std::collections::HashMap;
 use std::hash::Hash;
@@ -13,13 +13,19 @@ use crate::spec::table_metadata_builder::TableMetadataBuilder;
 pub fn steer_pick(builder: &mut TableMetadataBuilder, update: &Update) -> bool {
     let (metadata, _) = builder.steered();
     match update {
-        Update::AddSchema(offered) => {
+        Update::AddSchema(offered) | Update::AddNamedSchema(offered) => {
             let offered = to::schema(offered);
             put_smallest_first(&mut metadata.schemas, |s| offered.is_same_schema(s))
         }
         Update::AddSortOrder(offered) if !offered.fields.is_empty() => {
             let offered = to::sort_order(offered);
             put_smallest_first(&mut metadata.sort_orders, |o| o.fields == offered.fields)
+        }
+        Update::AddPartitionSpec(offered) => {
+            let offered = to::spec(offered);
+            put_smallest_first(&mut metadata.partition_specs, |s| {
+                offered.is_compatible_with(s)
+            })
         }
         _ => false,
     }

@@ -4,10 +4,12 @@
 mod current_at;
 mod exact_time;
 mod formed;
+mod formed_specs;
 mod leaves;
 mod map_order;
 mod own;
 mod reply;
+mod reuse;
 mod row_gap;
 mod rows_apart;
 mod run;
@@ -18,9 +20,11 @@ mod walk;
 
 pub use current_at::current_at;
 pub use formed::{list_sum, statistics as statistics_formed, update as update_formed};
+pub use formed_specs::redundant;
 pub use leaves::{bare, limit, row_ids, time_window, trim};
 pub use own::{Own, Owns};
 pub use reply::Reply;
+pub use reuse::matching_ids;
 pub use rows_apart::rows_apart;
 pub use run::{Outcome, run};
 pub use steps::{begin, close, step};

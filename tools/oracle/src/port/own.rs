@@ -36,7 +36,13 @@ pub enum Own {
     LargeLimit,
     /// A text that is not UTF-8 cannot be given to the published code.
     NotUtf8,
-    /// Allowance: several schemas or orders equal the offered one; the map's order was steered to the smallest id.
+    /// Several held partition fields with unequal ids match an offered one that has none; it was given the smallest.
+    SmallestFieldId,
+    /// Removed specs are logged in table order; the published log has them in the order of the update.
+    RemovedSpecs,
+    /// A spec with fields was bound or had its sources looked at, by stand-ins for what is not in the published files.
+    Binding,
+    /// Allowance: several schemas, orders or specs equal the offered one; the map's order was steered to the smallest id.
     PickOfEquals,
     /// Allowance: a removal of two or more ids was put into table order.
     OrderOfIds,
@@ -65,7 +71,12 @@ impl Own {
             Own::ExactTime => "exact times: the published time subtraction overflows",
             Own::LargeLimit => "limit above what the published log can show",
             Own::NotUtf8 => "a text that is not UTF-8, the published texts are",
-            Own::PickOfEquals => "allowance: pick among several equal schemas or orders, steered",
+            Own::SmallestFieldId => "smallest of several field ids: the published pick is any",
+            Own::RemovedSpecs => "removed specs: the published log has them as they were named",
+            Own::Binding => "binding of specs: by stand-ins, the published files have none",
+            Own::PickOfEquals => {
+                "allowance: pick among several equal schemas, orders or specs, steered"
+            }
             Own::OrderOfIds => "allowance: map order of two or more logged ids, sorted",
         }
     }

@@ -2,7 +2,7 @@
 
 use super::own::{Own, Owns};
 use super::reply::{Accepted, Step};
-use super::{exact_time, formed, map_order, row_gap, texts};
+use super::{exact_time, formed, map_order, reuse, row_gap, texts};
 use crate::TableUpdate;
 use crate::case::{Run, TOLERANCES, Update, capacity};
 use crate::chrono;
@@ -51,7 +51,17 @@ pub fn step_as_published(builder: TableMetadataBuilder, update: &Update, owns: &
         owns.insert(Own::UpdateNotFormed);
         return Err(3);
     }
-    let builder = apply_exactly(builder, update, owns)?;
+    let after = match reuse::pick_ids(builder.held(), update) {
+        Some(picked) => {
+            owns.insert(Own::SmallestFieldId);
+            apply_exactly(builder, &picked, owns)
+        }
+        None => apply_exactly(builder, update, owns),
+    };
+    if was_bound(update, &after) {
+        owns.insert(Own::Binding);
+    }
+    let builder = after?;
     if outgrown(builder.held()) {
         owns.insert(Own::TableFull);
         return Err(19);
@@ -73,13 +83,25 @@ fn apply_exactly(mut builder: TableMetadataBuilder, update: &Update, owns: &mut 
     attempt(|| apply(builder, call(update))).map_err(|refusal| number(refusal, owns))
 }
 
+/// A spec with fields was offered or made the default. 32 comes of nothing else.
+fn was_bound(update: &Update, after: &Step) -> bool {
+    match (update, after) {
+        (Update::AddPartitionSpec(offered), _) => !offered.fields.is_empty(),
+        (Update::SetDefaultPartitionSpec(_), Ok(builder)) => default_has_fields(builder),
+        (_, after) => matches!(after, Err(32)),
+    }
+}
+
+fn default_has_fields(builder: &TableMetadataBuilder) -> bool {
+    !builder.held().default_spec.fields().is_empty()
+}
+
 fn number(refusal: Refusal, owns: &mut Owns) -> u8 {
     match refusal {
-        Refusal::Number(number) => {
-            if number == 18 {
-                owns.insert(Own::LargestId);
-            }
-            number
+        Refusal::Number(number) => number,
+        Refusal::IdOverflow => {
+            owns.insert(Own::LargestId);
+            18
         }
         Refusal::TimeOverflow => unreachable!("far times have been asked for"),
     }
@@ -91,12 +113,16 @@ fn outgrown(m: &TableMetadata) -> bool {
         || m.snapshot_log.len() > capacity::SNAPSHOT_LOG
         || m.schemas.len() > capacity::SCHEMAS
         || m.sort_orders.len() > capacity::ORDERS
+        || m.partition_specs.len() > capacity::SPECS
         || m.statistics.len() > capacity::STATISTICS
         || m.partition_statistics.len() > capacity::STATISTICS
 }
 
-/// 20 and 21 are the published close's; 22 stands after them, and 23 after the metadata log's expiry.
+/// 31, 32, 20 and 21 are the published close's; 22 stands after them, and 23 after the metadata log's expiry.
 pub fn close(builder: TableMetadataBuilder, owns: &mut Owns) -> Result<Accepted, u8> {
+    if default_has_fields(&builder) {
+        owns.insert(Own::Binding);
+    }
     let built = attempt(|| builder.build()).map_err(|refusal| number(refusal, owns))?;
     if main_disagrees(&built.metadata) {
         owns.insert(Own::MainDisagrees);
@@ -108,6 +134,9 @@ pub fn close(builder: TableMetadataBuilder, owns: &mut Owns) -> Result<Accepted,
     }
     if built.changes.iter().any(removes_several) {
         owns.insert(Own::OrderOfIds);
+    }
+    if built.changes.iter().any(removes_specs_otherwise) {
+        owns.insert(Own::RemovedSpecs);
     }
     Ok(accepted(&built))
 }
@@ -121,6 +150,14 @@ fn removes_several(change: &TableUpdate) -> bool {
     match change {
         TableUpdate::RemoveSnapshots { snapshot_ids } => snapshot_ids.len() > 1,
         TableUpdate::RemoveSchemas { schema_ids } => schema_ids.len() > 1,
+        _ => false,
+    }
+}
+
+/// Specs, and not in table order.
+fn removes_specs_otherwise(change: &TableUpdate) -> bool {
+    match change {
+        TableUpdate::RemovePartitionSpecs { spec_ids } => !spec_ids.is_sorted(),
         _ => false,
     }
 }

@@ -47,7 +47,7 @@ pub fn call(update: &Update) -> Call {
 
 fn schema_order_or_statistics(update: &Update) -> TableUpdate {
     match update {
-        Update::AddSchema(schema) => TableUpdate::AddSchema {
+        Update::AddSchema(schema) | Update::AddNamedSchema(schema) => TableUpdate::AddSchema {
             schema: to::schema(schema),
         },
         Update::SetCurrentSchema(id) => TableUpdate::SetCurrentSchema { schema_id: *id },
@@ -68,6 +68,19 @@ fn schema_order_or_statistics(update: &Update) -> TableUpdate {
         Update::RemovePartitionStatistics(id) => {
             TableUpdate::RemovePartitionStatistics { snapshot_id: *id }
         }
+        update => partition_spec(update),
+    }
+}
+
+fn partition_spec(update: &Update) -> TableUpdate {
+    match update {
+        Update::AddPartitionSpec(spec) => TableUpdate::AddSpec {
+            spec: to::unbound_spec(spec),
+        },
+        Update::SetDefaultPartitionSpec(id) => TableUpdate::SetDefaultSpec { spec_id: *id },
+        Update::RemovePartitionSpecs(ids) => TableUpdate::RemovePartitionSpecs {
+            spec_ids: ids.clone(),
+        },
         _ => not_taken("an unknown kind of update"),
     }
 }
@@ -102,6 +115,9 @@ pub fn apply(builder: TableMetadataBuilder, call: Call) -> Result<TableMetadataB
         RemovePartitionStatistics { snapshot_id } => {
             Ok(builder.remove_partition_statistics(snapshot_id))
         }
+        AddSpec { spec } => builder.add_partition_spec(spec),
+        SetDefaultSpec { spec_id } => builder.set_default_partition_spec(spec_id),
+        RemovePartitionSpecs { spec_ids } => builder.remove_partition_specs(&spec_ids),
         _ => not_taken("this update"),
     }
 }

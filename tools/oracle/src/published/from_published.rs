@@ -1,13 +1,14 @@
 //! From the stand-in types back to the case format's records. Maps become ascending tables, and the ids of a logged removal,
-//! which the builder writes in its map's order, go into table order.
+//! which the builder writes in its map's order, of specs in the order of the update, go into table order.
 
 use std::collections::HashMap;
 
 use crate::TableUpdate;
 use crate::case::{self, Flagged, Update};
 use crate::spec::{
-    MetadataLog, Schema, Snapshot, SnapshotReference, SnapshotRetention, SortOrder, StatisticsFile,
-    TableMetadata, not_taken,
+    MetadataLog, PartitionSpec, PrimitiveType, Schema, Snapshot, SnapshotReference,
+    SnapshotRetention, SortOrder, StatisticsFile, TableMetadata, Transform, UnboundPartitionSpec,
+    not_taken,
 };
 
 /// The bytes that `to_published::text` made the characters of.
@@ -50,9 +51,50 @@ fn reference(name: &str, r: &SnapshotReference) -> case::Ref {
 }
 
 fn schema(s: &Schema) -> case::Schema {
+    let fields = s.fields().iter().map(|f| case::SchemaField {
+        id: f.id,
+        name: bytes(&f.name),
+        field_type: match f.field_type {
+            PrimitiveType::Long => case::LONG,
+            PrimitiveType::Timestamp => case::TIMESTAMP,
+        },
+    });
     case::Schema {
         id: s.schema_id(),
-        fields: s.field_ids().to_vec(),
+        fields: fields.collect(),
+    }
+}
+
+/// The transform and its number.
+fn transform(transform: Transform) -> (u8, i32) {
+    match transform {
+        Transform::Identity => (case::IDENTITY, 0),
+        Transform::Year => (case::YEAR, 0),
+        Transform::Month => (case::MONTH, 0),
+        Transform::Day => (case::DAY, 0),
+        Transform::Bucket(number) => (case::BUCKET, number),
+    }
+}
+
+/// A held spec is one all of whose fields have ids.
+fn held_spec(s: &PartitionSpec) -> case::Spec {
+    spec(&s.clone().into_unbound())
+}
+
+fn spec(s: &UnboundPartitionSpec) -> case::Spec {
+    let fields = s.fields.iter().map(|f| {
+        let (transform, number) = transform(f.transform);
+        case::PartitionField {
+            source_id: f.source_id,
+            field_id: Flagged::of(f.field_id),
+            name: bytes(&f.name),
+            transform,
+            number,
+        }
+    });
+    case::Spec {
+        id: s.spec_id.expect("the builder gives every spec its id"),
+        fields: fields.collect(),
     }
 }
 
@@ -116,6 +158,9 @@ pub fn metadata(m: &TableMetadata) -> case::Metadata {
         default_order_id: m.default_sort_order_id,
         statistics: table(&m.statistics, |_, f| statistics_file(f)),
         partition_statistics: table(&m.partition_statistics, |_, f| statistics_file(f)),
+        specs: table(&m.partition_specs, |_, s| held_spec(s)),
+        default_spec_id: m.default_spec.spec_id(),
+        last_partition_id: m.last_partition_id,
     }
 }
 
@@ -158,6 +203,17 @@ pub fn update(change: &TableUpdate) -> Update {
         } => Update::SetPartitionStatistics(statistics_file(partition_statistics)),
         TableUpdate::RemovePartitionStatistics { snapshot_id } => {
             Update::RemovePartitionStatistics(*snapshot_id)
+        }
+        change => spec_update(change),
+    }
+}
+
+fn spec_update(change: &TableUpdate) -> Update {
+    match change {
+        TableUpdate::AddSpec { spec: added } => Update::AddPartitionSpec(spec(added)),
+        TableUpdate::SetDefaultSpec { spec_id } => Update::SetDefaultPartitionSpec(*spec_id),
+        TableUpdate::RemovePartitionSpecs { spec_ids } => {
+            Update::RemovePartitionSpecs(ascending(spec_ids))
         }
         _ => not_taken("this entry of the change log"),
     }

@@ -1,13 +1,13 @@
-//! Document 01's numbers for what the published code says: by the text of an error, or by the arithmetic that stopped.
+//! The numbers of documents 01 and 02 for what the published code says: by the text of an error, or by the arithmetic that stopped.
 
 use std::cell::Cell;
 use std::panic::{self, AssertUnwindSafe};
 
 use crate::error::Result;
-use crate::spec::SortOrder;
+use crate::spec::{PartitionSpecBuilder, SortOrder};
 
 /// How a text begins, a part it has, and the number it stands for. A ref's name stands in two texts, so these go by the beginning.
-const TEXTS: [(&str, &str, u8); 19] = [
+const TEXTS: [(&str, &str, u8); 32] = [
     ("Cannot downgrade", "FormatVersion", 4),
     ("Snapshot already exists", "", 5),
     ("Cannot add snapshot with sequence number", "", 6),
@@ -20,15 +20,33 @@ const TEXTS: [(&str, &str, u8); 19] = [
     ("Cannot append snapshot", "", 13),
     ("Cannot set current schema to last added", "", 14),
     ("Cannot set default sort order to last added", "", 14),
+    ("Cannot set default partition spec to last added", "", 14),
     ("Cannot set current schema to unknown", "", 15),
     ("Cannot set default sort order to unknown", "", 15),
+    ("Cannot set default partition spec to unknown", "", 15),
     ("Cannot remove current schema", "", 16),
     ("Sort order to add", SortOrder::UNKNOWN_SOURCE, 17),
     (SortOrder::UNKNOWN_SOURCE, "", 20),
     ("Cannot set invalid snapshot log", "", 21),
-    // The only addition of the published code that can pass its type's end is that of a new schema's or order's id.
-    ("attempt to add with overflow", "", 18),
+    (PartitionSpecBuilder::NO_ID_LEFT, "", 18),
+    (
+        "Cannot add schema field",
+        "existing partition field name",
+        31,
+    ),
+    ("Cannot create partition with name", "not an identity", 31),
+    ("Cannot create identity partition", "different field", 31),
+    (PartitionSpecBuilder::NAME_IN_SCHEMA, "", 31),
+    (PartitionSpecBuilder::NAME_TWICE, "", 31),
+    (PartitionSpecBuilder::REDUNDANT, "", 31),
+    (PartitionSpecBuilder::ID_TWICE, "", 31),
+    (PartitionSpecBuilder::NO_SOURCE, "", 32),
+    (PartitionSpecBuilder::WRONG_TYPE, "", 32),
+    ("Cannot add partition spec with non-sequential", "", 33),
+    ("Cannot remove default partition spec", "", 34),
 ];
+
+const IDS: &str = "attempt to add with overflow";
 
 /// What the only subtractions of the published code that can pass their type's ends say: those of two times.
 const TIMES: &str = "attempt to subtract with overflow";
@@ -37,6 +55,8 @@ const TIMES: &str = "attempt to subtract with overflow";
 #[derive(Debug, PartialEq)]
 pub enum Refusal {
     Number(u8),
+    /// A new schema's, order's or spec's id does not fit its type. It is the only sum of the published code that can pass its type's end.
+    IdOverflow,
     /// A difference of times does not fit 64 bits.
     TimeOverflow,
 }
@@ -76,8 +96,10 @@ pub fn in_words<T>(call: impl FnOnce() -> Result<T>) -> std::result::Result<T, S
 }
 
 fn refusal(text: &str) -> Refusal {
-    if text == TIMES {
-        return Refusal::TimeOverflow;
+    match text {
+        IDS => return Refusal::IdOverflow,
+        TIMES => return Refusal::TimeOverflow,
+        _ => (),
     }
     let row = TEXTS
         .iter()

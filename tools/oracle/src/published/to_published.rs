@@ -5,9 +5,10 @@ use std::sync::Arc;
 
 use crate::case;
 use crate::spec::{
-    DEFAULT_PARTITION_SPEC_ID, FormatVersion, MetadataLog, PartitionSpec, Schema, Snapshot,
-    SnapshotLog, SnapshotReference, SnapshotRetention, SortField, SortOrder, StatisticsFile,
-    StructType, TableMetadata, TableProperties, UNPARTITIONED_LAST_ASSIGNED_ID,
+    FormatVersion, MetadataLog, NestedField, PartitionField, PartitionSpec, PrimitiveType, Schema,
+    Snapshot, SnapshotLog, SnapshotReference, SnapshotRetention, SortField, SortOrder,
+    StatisticsFile, StructType, TableMetadata, TableProperties, Transform, UnboundPartitionField,
+    UnboundPartitionSpec,
 };
 use crate::uuid::Uuid;
 
@@ -52,7 +53,50 @@ pub fn reference(r: &case::Ref) -> SnapshotReference {
 }
 
 pub fn schema(s: &case::Schema) -> Schema {
-    Schema::of_longs(s.id, s.fields.clone())
+    let field = |f: &case::SchemaField| NestedField {
+        id: f.id,
+        name: text(&f.name),
+        field_type: match f.field_type {
+            case::LONG => PrimitiveType::Long,
+            _ => PrimitiveType::Timestamp,
+        },
+    };
+    Schema::of_fields(s.id, s.fields.iter().map(field).collect())
+}
+
+pub fn transform(f: &case::PartitionField) -> Transform {
+    match f.transform {
+        case::IDENTITY => Transform::Identity,
+        case::YEAR => Transform::Year,
+        case::MONTH => Transform::Month,
+        case::DAY => Transform::Day,
+        _ => Transform::Bucket(f.number),
+    }
+}
+
+/// A held spec, whose fields have ids; or an offered one, where ids are not looked at.
+pub fn spec(s: &case::Spec) -> PartitionSpec {
+    let field = |f: &case::PartitionField| PartitionField {
+        source_id: f.source_id,
+        field_id: f.field_id.value,
+        name: text(&f.name),
+        transform: transform(f),
+    };
+    PartitionSpec::of_fields(s.id, s.fields.iter().map(field).collect())
+}
+
+/// An offered spec.
+pub fn unbound_spec(s: &case::Spec) -> UnboundPartitionSpec {
+    let field = |f: &case::PartitionField| UnboundPartitionField {
+        source_id: f.source_id,
+        field_id: f.field_id.get(),
+        name: text(&f.name),
+        transform: transform(f),
+    };
+    UnboundPartitionSpec {
+        spec_id: Some(s.id),
+        fields: s.fields.iter().map(field).collect(),
+    }
 }
 
 pub fn sort_order(o: &case::Order) -> SortOrder {
@@ -107,7 +151,15 @@ fn table<R, K: std::hash::Hash + Eq, V>(
     records.iter().map(entry).collect()
 }
 
+/// The published metadata has a copy of its default spec beside the table.
+fn default_spec(specs: &HashMap<i32, Arc<PartitionSpec>>, id: i32) -> Arc<PartitionSpec> {
+    let unpartitioned = || PartitionSpec::unpartition_spec().with_spec_id(id);
+    let held = specs.get(&id).cloned();
+    held.unwrap_or_else(|| Arc::new(unpartitioned()))
+}
+
 pub fn metadata(m: &case::Metadata, limit: Option<&[u8]>) -> TableMetadata {
+    let partition_specs = table(&m.specs, |s| (s.id, Arc::new(spec(s))));
     let of_snapshot = |f: &case::StatisticsFile| (f.snapshot_id, statistics_file(f));
     TableMetadata {
         format_version: format_version(m.version),
@@ -118,13 +170,10 @@ pub fn metadata(m: &case::Metadata, limit: Option<&[u8]>) -> TableMetadata {
         last_column_id: m.last_column_id,
         schemas: table(&m.schemas, |s| (s.id, Arc::new(schema(s)))),
         current_schema_id: m.current_schema_id,
-        partition_specs: HashMap::from([(
-            DEFAULT_PARTITION_SPEC_ID,
-            Arc::new(PartitionSpec::unpartition_spec()),
-        )]),
-        default_spec: Arc::new(PartitionSpec::unpartition_spec()),
+        default_spec: default_spec(&partition_specs, m.default_spec_id),
+        partition_specs,
         default_partition_type: StructType,
-        last_partition_id: UNPARTITIONED_LAST_ASSIGNED_ID,
+        last_partition_id: m.last_partition_id,
         properties: properties(limit),
         current_snapshot_id: m.current_snapshot_id.get(),
         snapshots: table(&m.snapshots, |s| (s.id, Arc::new(snapshot(s)))),

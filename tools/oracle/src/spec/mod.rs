@@ -3,11 +3,13 @@
 mod minute;
 mod not_taken;
 mod partition;
+mod partition_builder;
 mod schema;
 mod snapshot;
 mod sort;
 mod statistics;
 mod table_metadata;
+mod transform;
 // A part of the published file is taken; the rest is compiled and never called.
 #[allow(dead_code, clippy::all)]
 pub mod table_metadata_builder;
@@ -15,10 +17,11 @@ pub mod table_metadata_builder;
 pub use minute::{MINUTE_MS, ONE_MINUTE_MS, set_tolerance};
 pub use not_taken::{EncryptedKey, not_taken};
 pub use partition::{
-    DEFAULT_PARTITION_SPEC_ID, PartitionSpec, PartitionSpecBuilder, StructType, Transform,
-    UNPARTITIONED_LAST_ASSIGNED_ID, UnboundPartitionSpec,
+    DEFAULT_PARTITION_SPEC_ID, PartitionField, PartitionSpec, StructType,
+    UNPARTITIONED_LAST_ASSIGNED_ID, UnboundPartitionField, UnboundPartitionSpec,
 };
-pub use schema::{DEFAULT_SCHEMA_ID, Schema, SchemaRef};
+pub use partition_builder::PartitionSpecBuilder;
+pub use schema::{DEFAULT_SCHEMA_ID, NestedField, PrimitiveType, Schema, SchemaRef};
 pub use snapshot::{
     MAIN_BRANCH, Snapshot, SnapshotLog, SnapshotRef, SnapshotReference, SnapshotRetention,
 };
@@ -28,3 +31,4 @@ pub use table_metadata::{
     FormatVersion, INITIAL_ROW_ID, MIN_FORMAT_VERSION_ROW_LINEAGE, MetadataLog, TableMetadata,
     TableMetadataRef, TableProperties,
 };
+pub use transform::Transform;

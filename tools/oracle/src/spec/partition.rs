@@ -1,20 +1,16 @@
-//! Stand-ins for partition specs. The only spec is unpartitioned: it has no fields, binds to any schema and its type is empty.
+//! Stand-ins for partition specs. What they answer is our reading of document 02, request (ix): the published text of these types is not
+//! among the two files.
 
-use std::sync::Arc;
-
-use super::{Schema, SchemaRef, not_taken};
+use super::{PartitionSpecBuilder, Schema, SchemaRef, Transform};
 use crate::error::Result;
 
 pub const DEFAULT_PARTITION_SPEC_ID: i32 = 0;
 pub const UNPARTITIONED_LAST_ASSIGNED_ID: i32 = 999;
 
-const SPECS: &str = "partition specs";
+/// The first of the sequential field ids that version 1 demands.
+const FIRST_SEQUENTIAL_ID: i32 = 1000;
 
-#[derive(Debug, Clone, Copy, PartialEq, Eq, Hash)]
-pub enum Transform {
-    Identity,
-}
-
+/// The type of a partition. Nothing looks at it, so it says nothing.
 #[derive(Debug, Clone, PartialEq)]
 pub struct StructType;
 
@@ -28,6 +24,7 @@ impl StructType {
 pub struct PartitionField {
     pub source_id: i32,
     pub field_id: i32,
+    pub name: String,
     pub transform: Transform,
 }
 
@@ -42,48 +39,67 @@ pub struct UnboundPartitionField {
 #[derive(Debug, Clone, PartialEq)]
 pub struct PartitionSpec {
     spec_id: i32,
+    fields: Vec<PartitionField>,
 }
 
 impl PartitionSpec {
+    pub fn of_fields(spec_id: i32, fields: Vec<PartitionField>) -> Self {
+        Self { spec_id, fields }
+    }
+
     pub fn unpartition_spec() -> Self {
-        Self {
-            spec_id: DEFAULT_PARTITION_SPEC_ID,
-        }
+        Self::of_fields(DEFAULT_PARTITION_SPEC_ID, Vec::new())
     }
 
     pub fn with_spec_id(self, spec_id: i32) -> Self {
-        Self { spec_id }
+        Self { spec_id, ..self }
     }
 
     pub fn spec_id(&self) -> i32 {
         self.spec_id
     }
 
+    pub fn fields(&self) -> &[PartitionField] {
+        &self.fields
+    }
+
     pub fn into_unbound(self) -> UnboundPartitionSpec {
+        let field = |f: PartitionField| UnboundPartitionField {
+            source_id: f.source_id,
+            field_id: Some(f.field_id),
+            name: f.name,
+            transform: f.transform,
+        };
         UnboundPartitionSpec {
             spec_id: Some(self.spec_id),
-            fields: Vec::new(),
+            fields: self.fields.into_iter().map(field).collect(),
         }
     }
 
-    pub fn partition_type(&self, _schema: &Schema) -> Result<StructType> {
+    /// Refused if a field's source is not in the schema or is of the wrong type.
+    pub fn partition_type(&self, schema: &Schema) -> Result<StructType> {
+        for field in &self.fields {
+            PartitionSpecBuilder::check_source(field.source_id, field.transform, schema)?;
+        }
         Ok(StructType)
     }
 
-    pub fn fields(&self) -> &[PartitionField] {
-        not_taken(SPECS)
+    /// Equal sources, transforms and names in the same order. Ids, of the specs and of their fields, are not compared.
+    pub fn is_compatible_with(&self, other: &PartitionSpec) -> bool {
+        let same = |(a, b): (&PartitionField, &PartitionField)| {
+            a.source_id == b.source_id && a.transform == b.transform && a.name == b.name
+        };
+        self.fields.len() == other.fields.len() && self.fields.iter().zip(&other.fields).all(same)
     }
 
-    pub fn is_compatible_with(&self, _other: &PartitionSpec) -> bool {
-        not_taken(SPECS)
-    }
-
+    /// 1000, 1001, .. in order.
     pub fn has_sequential_ids(&self) -> bool {
-        not_taken(SPECS)
+        let ids = self.fields.iter().map(|f| f.field_id);
+        ids.eq((FIRST_SEQUENTIAL_ID..).take(self.fields.len()))
     }
 
     pub fn highest_field_id(&self) -> Option<i32> {
-        not_taken(SPECS)
+        self.fields.iter().map(|f| f.field_id).max()
     }
 }
 
@@ -94,45 +110,16 @@ pub struct UnboundPartitionSpec {
 }
 
 impl UnboundPartitionSpec {
-    pub fn bind(self, _schema: SchemaRef) -> Result<PartitionSpec> {
-        let spec_id = self.spec_id.unwrap_or(DEFAULT_PARTITION_SPEC_ID);
-        Ok(PartitionSpec { spec_id })
+    pub fn bind(self, schema: SchemaRef) -> Result<PartitionSpec> {
+        PartitionSpecBuilder::new_from_unbound(self, schema)?.build()
     }
 
     pub fn fields(&self) -> &[UnboundPartitionField] {
-        not_taken(SPECS)
+        &self.fields
     }
 
-    pub fn with_spec_id(self, _spec_id: i32) -> Self {
-        not_taken(SPECS)
-    }
-}
-
-pub struct PartitionSpecBuilder;
-
-impl PartitionSpecBuilder {
-    pub fn new(_schema: impl Into<Arc<Schema>>) -> Self {
-        not_taken(SPECS)
-    }
-
-    pub fn new_from_unbound(_spec: UnboundPartitionSpec, _schema: SchemaRef) -> Result<Self> {
-        not_taken(SPECS)
-    }
-
-    pub fn add_partition_field(
-        self,
-        _source_name: &str,
-        _name: &str,
-        _transform: Transform,
-    ) -> Result<Self> {
-        not_taken(SPECS)
-    }
-
-    pub fn with_last_assigned_field_id(self, _field_id: i32) -> Self {
-        not_taken(SPECS)
-    }
-
-    pub fn build(self) -> Result<PartitionSpec> {
-        not_taken(SPECS)
+    pub fn with_spec_id(self, spec_id: i32) -> Self {
+        let spec_id = Some(spec_id);
+        Self { spec_id, ..self }
     }
 }

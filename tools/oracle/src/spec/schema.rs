@@ -1,4 +1,4 @@
-//! Stand-in for schemas: a flat list of optional longs, each named by its field id.
+//! Stand-in for schemas: a flat list of optional fields, each with a name and a type.
 
 use std::collections::HashMap;
 use std::sync::Arc;
@@ -10,31 +10,50 @@ pub const DEFAULT_SCHEMA_ID: i32 = 0;
 
 pub type SchemaRef = Arc<Schema>;
 
+/// Document 02 has these two.
+#[derive(Debug, Clone, Copy, PartialEq, Eq)]
+pub enum PrimitiveType {
+    Long,
+    Timestamp,
+}
+
+#[derive(Debug, Clone, PartialEq)]
+pub struct NestedField {
+    pub id: i32,
+    pub name: String,
+    pub field_type: PrimitiveType,
+}
+
 #[derive(Debug, Clone, PartialEq)]
 pub struct Schema {
     schema_id: i32,
     fields: Arc<Fields>,
 }
 
+/// The fields in order, and the maps by which they are found.
 #[derive(Debug, PartialEq)]
 struct Fields {
-    ids: Vec<i32>,
-    names: HashMap<i32, String>,
-}
-
-pub struct NestedField {
-    pub id: i32,
+    list: Vec<NestedField>,
+    id_to_name: HashMap<i32, String>,
+    id_to_place: HashMap<i32, usize>,
+    name_to_place: HashMap<String, usize>,
 }
 
 impl Schema {
-    pub fn of_longs(schema_id: i32, ids: Vec<i32>) -> Self {
-        let names = ids.iter().map(|id| (*id, id.to_string())).collect();
-        let fields = Arc::new(Fields { ids, names });
+    pub fn of_fields(schema_id: i32, list: Vec<NestedField>) -> Self {
+        let by_name = |(place, f): (usize, &NestedField)| (f.name.clone(), place);
+        let by_id = |(place, f): (usize, &NestedField)| (f.id, place);
+        let fields = Arc::new(Fields {
+            id_to_name: list.iter().map(|f| (f.id, f.name.clone())).collect(),
+            id_to_place: list.iter().enumerate().map(by_id).collect(),
+            name_to_place: list.iter().enumerate().map(by_name).collect(),
+            list,
+        });
         Self { schema_id, fields }
     }
 
-    pub fn field_ids(&self) -> &[i32] {
-        &self.fields.ids
+    pub fn fields(&self) -> &[NestedField] {
+        &self.fields.list
     }
 
     pub fn schema_id(&self) -> i32 {
@@ -46,26 +65,27 @@ impl Schema {
     }
 
     pub fn field_id_to_name_map(&self) -> &HashMap<i32, String> {
-        &self.fields.names
+        &self.fields.id_to_name
     }
 
-    /// All fields are optional longs named by their ids, so their ids in order are all there is to compare.
+    /// The same fields in the same order: ids, names and types.
     pub fn is_same_schema(&self, other: &Schema) -> bool {
-        self.fields.ids == other.fields.ids
+        self.fields.list == other.fields.list
     }
 
     /// No fields count as 0.
     pub fn highest_field_id(&self) -> i32 {
-        self.fields.ids.iter().copied().max().unwrap_or(0)
+        self.fields.list.iter().map(|f| f.id).max().unwrap_or(0)
     }
 
-    pub fn field_by_name(&self, name: &str) -> Option<NestedField> {
-        let id = name.parse().ok()?;
-        self.has_field(id).then_some(NestedField { id })
+    pub fn field_by_name(&self, name: &str) -> Option<&NestedField> {
+        let place = self.fields.name_to_place.get(name)?;
+        self.fields.list.get(*place)
     }
 
-    pub fn has_field(&self, id: i32) -> bool {
-        self.fields.names.contains_key(&id)
+    pub fn field_by_id(&self, id: i32) -> Option<&NestedField> {
+        let place = self.fields.id_to_place.get(&id)?;
+        self.fields.list.get(*place)
     }
 
     pub fn into_builder(self) -> SchemaBuilder {

@@ -66,10 +66,14 @@ impl SortOrderBuilder {
         self
     }
 
-    /// An identity field fits every long, so a source id is refused only if the schema has no such field.
+    /// An identity field fits either type, so a source id is refused only if the schema has no such field.
     pub fn build(&mut self, schema: &Schema) -> Result<SortOrder> {
         let order = self.order.clone();
-        match order.fields.iter().all(|f| schema.has_field(f.source_id)) {
+        match order
+            .fields
+            .iter()
+            .all(|f| schema.field_by_id(f.source_id).is_some())
+        {
             true => Ok(order),
             false => Err(Error::new(
                 ErrorKind::DataInvalid,

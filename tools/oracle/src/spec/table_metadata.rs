@@ -77,9 +77,10 @@ impl TableMetadata {
         self.snapshots.get(&snapshot_id)
     }
 
-    /// The only spec has no fields.
-    pub fn partition_name_exists(&self, _name: &str) -> bool {
-        false
+    /// A field of some held spec has this name.
+    pub fn partition_name_exists(&self, name: &str) -> bool {
+        let fields = self.partition_specs.values().flat_map(|s| s.fields());
+        fields.map(|f| &f.name).any(|held| held == name)
     }
 
     pub fn name_exists_in_any_schema(&self, name: &str) -> bool {

@@ -5,10 +5,10 @@ use Rattle.case_writer.proofs.table.put_table.Statement.{statement}
 use Rattle.case_writer.proofs.table.put_table.Tie as tie
 
 abbrev Inv-loop : tie.InvT-loop
-Inv-loop output₀ end₀ metadata table layouts count n i₀ output end i = Unit {0}
+Inv-loop output₀ end₀ metadata table layouts chosen is-named count n i₀ output end i = Unit {0}
 
 abbrev μ-loop : tie.MeasureT-loop
-μ-loop output₀ end₀ metadata table layouts count n i₀ output end i = n - i
+μ-loop output₀ end₀ metadata table layouts chosen is-named count n i₀ output end i = n - i
 
 pub put-table-spec : {M : Type 1} → statement M
 put-table-spec =
@@ -26,4 +26,6 @@ put-table-spec =
     (λ c. search needs)
     (λ c. search needs)
     (λ c. search needs)
+    (λ c κs. search needs)
+    (λ c κs. search needs)
     (λ c. search needs))

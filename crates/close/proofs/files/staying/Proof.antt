@@ -8,7 +8,6 @@ use native.Mathlib.Omega.{arith}
 use borrow.Author.Needs.{needs}
 use borrow.Author.Tests.{not-true, not-false}
 use lib.ListN.{length, drop, set, length-drop}
-use lib.Seq.{take-all}
 use Rattle.records.specs.declared.counters.Time.{Time}
 use Rattle.records.specs.declared.metadata.MetadataLog.{MetadataLog}
 use Rattle.records.specs.declared.run.RunTerms.{RunTerms}
@@ -50,7 +49,7 @@ module _ (c : tie.Joined1) where
   left : c .if1 .log ≡ laidMetadataLog (drop gone entries)
   left =
       ⊎-elim
-      (λ w. w .2 ∙ w .1 .ensures ∙ ap (λ (l : List FileEntry). laidMetadataLog (drop gone l)) (take-all (c .before .before .args .t1 .count) entries (omega (arith, count-is))))
+      (λ w. w .2 ∙ w .1 .ensures)
       (λ w. let z : 0 ≡ gone = omega (arith, w .0 .left) in
       w .1 ∙ sym (c .before .before .pre .0 .back) ∙ ap (λ (k : ℕ). laidMetadataLog (drop k entries)) z)
       (c .if1 .came)
@@ -67,7 +66,7 @@ pub staying-spec : {M : Type 1} → statement M
 staying-spec =
     tie.close
     (tie.spec
-    (λ c κs. (c .before .before .pre .0, (c .before .before .pre .1 .0, search needs)))
+    (λ c κs. (c .before .before .pre .0, c .before .before .pre .1 .0))
     (λ c. left (c .before) ∙ alone (c .before .before .before .args .terms) (c .before .before .before .args .old) (drop (gone (c .before)) (entries (c .before))) (not-true _ (c .if2 .taken)))
     (λ c κs. c .before .before .before .pre .1 .1 (not-false _ (c .if2 .left)) .1)
     (λ c. omega (arith, place (c .before .before) (not-false _ (c .before .if2 .left))))

@@ -10,7 +10,7 @@ use Rattle.rules.specs.SchemaUpdates.{sameSchemaField}
 use Rattle.rules.specs.Layout.{readSchemaField, laidSchemaField, laidSchema}
 use Rattle.equality.proofs.Abreast.{slots}
 use Rattle.equality.proofs.Readings.{counts-differ, laid-agree}
-use Rattle.equality.proofs.Told.{schema-fields-told, plain-fields-told}
+use Rattle.equality.proofs.Told.{told-alike, schema-fields-told, plain-fields-told}
 use Rattle.equality.proofs.read.same_fields.Statement.{statement}
 use Rattle.equality.proofs.read.same_fields.Tie as tie
 
@@ -24,5 +24,5 @@ same-fields-spec =
     (λ c. let s = c .before .before in let a = s .args in
     let p : length (a .a .items) ≡ 32 = search (needs, slots) in
     let q : length (a .b .items) ≡ 32 = search (needs, slots) in
-    laid-agree readSchemaField sameSchemaField noSchemaField (a .a .items) (a .b .items) (a .a .count) (a .b .count) schema-fields-told plain-fields-told laidSchemaField schemaFieldRoom (c .before .if1 .left)
+    laid-agree readSchemaField sameSchemaField noSchemaField (a .a .items) (a .b .items) (a .a .count) (a .b .count) laidSchemaField schemaFieldRoom (told-alike readSchemaField laidSchemaField schema-fields-told plain-fields-told) (c .before .if1 .left)
     (omega (arith, s .pre .0 .1)) (omega (arith, s .pre .0 .1)) (ap (λ (x : Schema). x .items) (s .pre .0 .0)) (ap (λ (x : Schema). x .items) (s .pre .1 .0)) (c .same-fields .ensures)))

@@ -17,15 +17,20 @@ fields-fault-spec =
     (λ c κs. search needs)
     (λ c κs. search needs)
     (λ c κs. search needs)
+    (λ c κs. search needs)
+    (λ c κs. search needs)
     (λ c. let s = c .before .before .before in
-    let l = s .before .before .before .before .before .before .before .args .f .location in
+    let p = s .before .before .before .before in
+    let l = p .before .before .before .before .before .before .args .f .location in
     rw (
-      c .unless4 .ensures,
-      c .before .unless3 .ensures,
+      c .unless5 .ensures,
+      c .before .unless4 .ensures,
       c .before .before .text-fits .ensures,
-      s .unless2 .ensures,
+      s .unless3 .ensures,
       s .before .sequence-formed .ensures,
-      s .before .before .unless .ensures,
+      s .before .before .unless2 .ensures,
       s .before .before .before .same-snapshot .ensures,
+      p .unless .ensures,
+      p .before .last-partition-formed .ensures,
       length-counted 0 (l .bytes) (l .len),
     )))

@@ -24,6 +24,6 @@ metadata-log-fault-spec =
     (λ c κs. search needs)
     (λ c. let t = c .before .before .args .t in
     c .log-fault .ensures
-    ∙ log-asked 13 metadataLogRoom (isTidyMetadataLog t) (λ (e : plain.FileEntry). fileNameFormed (e .file)) (readMetadataLog t)
+    ∙ log-asked 14 metadataLogRoom (isTidyMetadataLog t) (λ (e : plain.FileEntry). fileNameFormed (e .file)) (readMetadataLog t)
     (ap (λ (n : ℕ). leb n metadataLogRoom) (sym (read-length readMetadataLogEntry noMetadataLogEntry (t .items) (t .count))))
     (c .before .metadata-log-formed .ensures)))

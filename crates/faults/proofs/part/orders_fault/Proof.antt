@@ -21,10 +21,9 @@ orders-fault-spec =
     (tie.spec
     (λ c κs. search needs)
     (λ c κs. search needs)
-    (λ c κs. search needs)
-    (λ c. let t = c .before .before .before .args .t in
+    (λ c. let k = c .before in let t = k .before .args .t in
     c .table-fault .ensures
-    ∙ table-asked 18 sortOrderRoom (isTidySortOrders t) orderFormed (readSortOrders t) orderBelow
+    ∙ table-asked 19 sortOrderRoom (isTidySortOrders t) orderFormed (readSortOrders t) orderBelow
     (ap (λ (n : ℕ). leb n sortOrderRoom) (sym (read-length readSortOrder noSortOrder (t .items) (t .count))))
-    (c .before .before .orders-filled .ensures)
-    (c .before .orders-formed .ensures)))
+    (k .order-keys .ensures .slots)
+    (k .order-keys .ensures .order)))

@@ -24,7 +24,7 @@ refs-fault-spec =
     (λ c κs. search needs)
     (λ c. let t = c .before .before .before .args .t in
     c .table-fault .ensures
-    ∙ table-asked 8 refRoom (isTidyRefs t) refFormed (readRefs t) refBelow
+    ∙ table-asked 9 refRoom (isTidyRefs t) refFormed (readRefs t) refBelow
     (ap (λ (n : ℕ). leb n refRoom) (sym (read-length readRef noRef (t .items) (t .count))))
     (c .before .before .refs-filled .ensures)
     (c .before .refs-formed .ensures)))

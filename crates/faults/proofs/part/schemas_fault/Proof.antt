@@ -21,10 +21,9 @@ schemas-fault-spec =
     (tie.spec
     (λ c κs. search needs)
     (λ c κs. search needs)
-    (λ c κs. search needs)
-    (λ c. let t = c .before .before .before .args .t in
+    (λ c. let k = c .before in let t = k .before .args .t in
     c .table-fault .ensures
-    ∙ table-asked 15 schemaRoom (isTidySchemas t) schemaFormed (readSchemas t) schemaBelow
+    ∙ table-asked 16 schemaRoom (isTidySchemas t) schemaFormed (readSchemas t) schemaBelow
     (ap (λ (n : ℕ). leb n schemaRoom) (sym (read-length readSchema noSchema (t .items) (t .count))))
-    (c .before .before .schemas-filled .ensures)
-    (c .before .schemas-formed .ensures)))
+    (k .schema-keys .ensures .slots)
+    (k .schema-keys .ensures .order)))

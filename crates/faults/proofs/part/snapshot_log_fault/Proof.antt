@@ -25,6 +25,6 @@ snapshot-log-fault-spec =
     (λ c κs. search needs)
     (λ c. let t = c .before .before .args .t in
     c .log-fault .ensures
-    ∙ log-asked 11 snapshotLogRoom (isTidySnapshotLog t) (λ (e : plain.LogEntry). nonNeg (e .snapshot)) (readSnapshotLog t)
+    ∙ log-asked 12 snapshotLogRoom (isTidySnapshotLog t) (λ (e : plain.LogEntry). nonNeg (e .snapshot)) (readSnapshotLog t)
     (ap (λ (n : ℕ). leb n snapshotLogRoom) (sym (read-length readLogEntry noLogEntry (t .items) (t .count))))
     (c .before .snapshot-log-formed .ensures)))

@@ -21,10 +21,9 @@ snapshots-fault-spec =
     (tie.spec
     (λ c κs. search needs)
     (λ c κs. search needs)
-    (λ c κs. search needs)
-    (λ c. let t = c .before .before .before .args .t in
+    (λ c. let k = c .before in let t = k .before .args .t in
     c .table-fault .ensures
-    ∙ table-asked 5 snapshotRoom (isTidySnapshots t) snapshotFormed (readSnapshots t) snapshotBelow
+    ∙ table-asked 6 snapshotRoom (isTidySnapshots t) snapshotFormed (readSnapshots t) snapshotBelow
     (ap (λ (n : ℕ). leb n snapshotRoom) (sym (read-length readSnapshot noSnapshot (t .items) (t .count))))
-    (c .before .before .snapshots-filled .ensures)
-    (c .before .snapshots-formed .ensures)))
+    (k .snapshot-keys .ensures .slots)
+    (k .snapshot-keys .ensures .order)))

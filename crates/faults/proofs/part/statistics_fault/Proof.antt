@@ -21,10 +21,9 @@ statistics-fault-spec =
     (tie.spec
     (λ c κs. search needs)
     (λ c κs. search needs)
-    (λ c κs. search needs)
-    (λ c. let t = c .before .before .before .args .t in
+    (λ c. let k = c .before in let t = k .before .args .t in
     c .table-fault .ensures
-    ∙ table-asked (c .before .before .before .args .first) statisticsRoom (isTidyStatistics t) statisticsFileFormed (readStatistics t) statisticsBelow
+    ∙ table-asked (k .before .args .first) statisticsRoom (isTidyStatistics t) statisticsFileFormed (readStatistics t) statisticsBelow
     (ap (λ (n : ℕ). leb n statisticsRoom) (sym (read-length readStatisticsFile noStatisticsFile (t .items) (t .count))))
-    (c .before .before .statistics-filled .ensures)
-    (c .before .statistics-formed .ensures)))
+    (k .statistics-keys .ensures .slots)
+    (k .statistics-keys .ensures .order)))

@@ -14,5 +14,7 @@ fields-formed-spec =
     (λ c κs. search needs)
     (λ c κs. search needs)
     (λ c κs. search needs)
-    (λ c. let l = c .before .before .before .before .before .before .args .f .location in
-    rw (c .before .before .text-fits .ensures, c .before .same-snapshot .ensures, c .sequence-formed .ensures, length-counted 0 (l .bytes) (l .len))))
+    (λ c κs. search needs)
+    (λ c. let s = c .before in
+    let l = s .before .before .before .before .before .before .before .args .f .location in
+    rw (s .before .before .text-fits .ensures, s .before .same-snapshot .ensures, s .sequence-formed .ensures, c .last-partition-formed .ensures, length-counted 0 (l .bytes) (l .len))))

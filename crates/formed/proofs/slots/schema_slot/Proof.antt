@@ -1,17 +1,14 @@
 -- What is asked of a slot, used or not, is asked first; of a schema that is used, the rest.
 use mathlib.Core.Path.{_≡_, sym, _∙_}
-use mathlib.Core.Bool.{Bool, true, false, cond, _&&_}
+use mathlib.Core.Bool.{true}
 use borrow.Author.Needs.{needs}
 use borrow.Author.Tests.{not-true, not-false}
 use Rattle.rules.specs.WellFormed.{schemaFormed}
 use Rattle.rules.specs.Blanks.{isTidySchema, isBlankSchema}
 use Rattle.rules.specs.Layout.{readSchema}
+use Rattle.formed.proofs.Bools.{unfit}
 use Rattle.formed.proofs.slots.schema_slot.Statement.{statement}
 use Rattle.formed.proofs.slots.schema_slot.Tie as tie
-
-fails : (used tidy formed blank : Bool) → cond used tidy blank ≡ false → false ≡ cond used (tidy && formed) blank
-fails true tidy formed blank e = sym (rw e)
-fails false tidy formed blank e = sym e
 
 -- one that is used is tidy
 tidy-used : (c : tie.Then2) → isTidySchema (c .before .before .before .args .s) ≡ true
@@ -23,7 +20,7 @@ schema-slot-spec =
     (tie.spec
     (λ c κs. search needs)
     (λ c. let f = c .before .schema-fits in let a = c .before .before .args in
-    fails (a .used) (isTidySchema (a .s)) (schemaFormed (readSchema (a .s))) (isBlankSchema (a .s)) (sym (f .ensures) ∙ not-true (f .result) (c .if1 .taken)))
+    unfit (a .used) (isTidySchema (a .s)) (schemaFormed (readSchema (a .s))) (isBlankSchema (a .s)) (sym (f .ensures) ∙ not-true (f .result) (c .if1 .taken)))
     (λ c κs. tidy-used c)
     (λ c. rw (c .before .if2 .taken, tidy-used (c .before)) (c .schema-formed .ensures))
     (λ c. let f = c .before .before .schema-fits in rw (c .if2 .left) (sym (not-false (f .result) (c .before .if1 .left)) ∙ rw (c .if2 .left) at (f .ensures))))

@@ -13,4 +13,5 @@ is-tidy-spec =
     (λ c κs. search needs)
     (λ c κs. search needs)
     (λ c κs. search needs)
-    (λ c. rw (c .before .before .before .before .before .fields-fit .ensures, c .before .before .before .before .snapshots-fit .ensures, c .before .before .before .refs-fit .ensures, c .before .before .schemas-fit .ensures, c .before .sort-orders-fit .ensures, c .statistics-fit .ensures)))
+    (λ c κs. search needs)
+    (λ c. rw (c .before .before .before .before .before .before .fields-fit .ensures, c .before .before .before .before .before .snapshots-fit .ensures, c .before .before .before .before .refs-fit .ensures, c .before .before .before .schemas-fit .ensures, c .before .before .sort-orders-fit .ensures, c .before .statistics-fit .ensures, c .partition-specs-fit .ensures)))

@@ -25,6 +25,9 @@ used-formed-spec =
     (λ c κs. search needs)
     (λ c κs. search needs)
     (λ c κs. search needs)
+    (λ c κs. search needs)
+    (λ c κs. search needs)
+    (λ c κs. search needs)
     (λ c. rw (c .match .keys1))
     (λ c. rw (c .match .keys2))
     (λ c. let l = c .before .args .u .fields .location in rw (c .match .keys3, length-counted 0 (l .bytes) (l .len)))
@@ -40,6 +43,9 @@ used-formed-spec =
     (λ c. rw (c .before .match .keys13, c .order-choice-formed .ensures))
     (λ c. c .statistics-file-formed .ensures ∙ sym (sets-statistics (c .before .before .args .u) (c .before .match .keys14)))
     (λ c. c .snapshot-id-formed .ensures ∙ sym (removes-statistics (c .before .before .args .u) (c .before .match .keys15)))
+    (λ c. rw (c .before .match .keys16, c .offered-ids-formed .ensures))
+    (λ c. rw (c .before .match .keys17, c .spec-choice-formed .ensures))
+    (λ c. rw (c .before .match .keys18, c .spec-ids-formed .ensures))
     (λ c. let k = c .before .args .u .kind in
     let n = c .match .rest in
-    rw (ne-eqb k 1 (n .0 .0 .0 .0 .0 .0 .0 .0 .0 .0 .0 .0 .0 .0 .1), ne-eqb k 2 (n .0 .0 .0 .0 .0 .0 .0 .0 .0 .0 .0 .0 .0 .1), ne-eqb k 3 (n .0 .0 .0 .0 .0 .0 .0 .0 .0 .0 .0 .0 .1), ne-eqb k 4 (n .0 .0 .0 .0 .0 .0 .0 .0 .0 .0 .0 .1), ne-eqb k 5 (n .0 .0 .0 .0 .0 .0 .0 .0 .0 .0 .1), ne-eqb k 6 (n .0 .0 .0 .0 .0 .0 .0 .0 .0 .1), ne-eqb k 7 (n .0 .0 .0 .0 .0 .0 .0 .0 .1), ne-eqb k 8 (n .0 .0 .0 .0 .0 .0 .0 .1), ne-eqb k 9 (n .0 .0 .0 .0 .0 .0 .1), ne-eqb k 10 (n .0 .0 .0 .0 .0 .1), ne-eqb k 11 (n .0 .0 .0 .0 .1), ne-eqb k 12 (n .0 .0 .0 .1), ne-eqb k 13 (n .0 .0 .1), ne-eqb k 14 (λ e. n .0 .1 (inl e)), ne-eqb k 15 (λ e. n .1 (inl e)), ne-eqb k 16 (λ e. n .0 .1 (inr e)), ne-eqb k 17 (λ e. n .1 (inr e)))))
+    rw (ne-eqb k 1 (n .0 .0 .0 .0 .0 .0 .0 .0 .0 .0 .0 .0 .0 .0 .0 .0 .0 .1), ne-eqb k 2 (n .0 .0 .0 .0 .0 .0 .0 .0 .0 .0 .0 .0 .0 .0 .0 .0 .1), ne-eqb k 3 (n .0 .0 .0 .0 .0 .0 .0 .0 .0 .0 .0 .0 .0 .0 .0 .1), ne-eqb k 4 (n .0 .0 .0 .0 .0 .0 .0 .0 .0 .0 .0 .0 .0 .0 .1), ne-eqb k 5 (n .0 .0 .0 .0 .0 .0 .0 .0 .0 .0 .0 .0 .0 .1), ne-eqb k 6 (n .0 .0 .0 .0 .0 .0 .0 .0 .0 .0 .0 .0 .1), ne-eqb k 7 (n .0 .0 .0 .0 .0 .0 .0 .0 .0 .0 .0 .1), ne-eqb k 8 (n .0 .0 .0 .0 .0 .0 .0 .0 .0 .0 .1), ne-eqb k 9 (n .0 .0 .0 .0 .0 .0 .0 .0 .0 .1), ne-eqb k 10 (n .0 .0 .0 .0 .0 .0 .0 .0 .1), ne-eqb k 11 (n .0 .0 .0 .0 .0 .0 .0 .1), ne-eqb k 12 (n .0 .0 .0 .0 .0 .0 .1), ne-eqb k 13 (n .0 .0 .0 .0 .0 .1), ne-eqb k 14 (λ e. n .0 .0 .0 .0 .1 (inl e)), ne-eqb k 15 (λ e. n .0 .0 .0 .1 (inl e)), ne-eqb k 16 (λ e. n .0 .0 .0 .0 .1 (inr e)), ne-eqb k 17 (λ e. n .0 .0 .0 .1 (inr e)), ne-eqb k 18 (n .0 .0 .1), ne-eqb k 19 (n .0 .1), ne-eqb k 20 (n .1))))

@@ -1,7 +1,7 @@
--- The code asks what the rule asks; the bytes from the end of the name on are those that the rule drops to.
+-- The code asks for a number and a name.
 use borrow.Author.Needs.{needs}
-use lib.Seq.{drop-drop}
-use Rattle.rules.specs.Offers.{nameLength}
+use mathlib.Core.Path.{sym}
+use Rattle.offers.proofs.Fields.{tidy-parts}
 use Rattle.offers.proofs.field.is_tidy_field.Statement.{statement}
 use Rattle.offers.proofs.field.is_tidy_field.Tie as tie
 
@@ -9,10 +9,6 @@ pub is-tidy-field-spec : {M : Type 1} → statement M
 is-tidy-field-spec =
     tie.close
     (tie.spec
-    (λ c. search needs)
     (λ c κs. search needs)
     (λ c κs. search needs)
-    (λ c. search needs)
-    (λ c κs. search needs)
-    (λ c. let n = c .before .before in let bs = n .before .before .before .args .bytes .now in
-    rw (c .zeros-from .ensures, c .before .number-of .ensures, n .count .ensures .0, drop-drop (nameLength bs) 6 bs)))
+    (λ c. rw (c .before .is-number-at .ensures, c .is-name-at .ensures) (sym (tidy-parts (c .before .before .before .args .bytes .now)))))

@@ -1,8 +1,5 @@
 -- None are held where the number is not 0.
-use native.Mathlib.Omega.{arith}
 use borrow.Author.Needs.{needs}
-use mir.Syntax.{w32}
-use Rattle.tables.proofs.Keyed.{zeros-fit}
 use Rattle.schema_updates.proofs.keys.keys_at_start.Statement.{statement}
 use Rattle.schema_updates.proofs.keys.keys_at_start.Tie as tie
 
@@ -12,4 +9,5 @@ keys-at-start-spec =
     (tie.spec
     (λ c κs. c .before .pre (c .if1 .taken))
     (λ c. (c .keys-of .ensures .0, λ z. c .keys-of .ensures .1))
-    (λ c. (record { within = omega arith; narrow = zeros-fit w32 16 }, λ z. absurd (c .if1 .left z))))
+    (λ c κs. search needs)
+    (λ c. (c .no-keys .ensures .0, λ z. absurd (c .before .if1 .left z))))

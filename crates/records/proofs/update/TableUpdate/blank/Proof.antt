@@ -5,4 +5,4 @@ use Rattle.records.proofs.update.TableUpdate.blank.Tie as tie
 
 pub blank-spec : {M : Type 1} → statement M
 unfolding noUpdate
-blank-spec = tie.close (tie.spec (λ c κs. tt) (λ c κs. tt) (λ c κs. tt) (λ c κs. tt) (λ c κs. tt) (λ c κs. tt) (λ c. cc))
+blank-spec = tie.close (tie.spec (λ c κs. tt) (λ c κs. tt) (λ c κs. tt) (λ c κs. tt) (λ c κs. tt) (λ c κs. tt) (λ c κs. tt) (λ c. cc))

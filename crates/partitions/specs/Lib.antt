@@ -1,0 +1,3 @@
+-- What the contracts cite beside the rules.
+pub mod Ids
+pub mod Numbering

@@ -1,0 +1,3 @@
+-- What the contracts of the updates of partition specs cite beside the rules.
+pub mod Additions
+pub mod Family
