@@ -4,14 +4,14 @@ use mathlib.Core.Path.{_≡_, refl, sym, ap, _∙_}
 use mathlib.Core.Bool.{Bool, true, false, cond, _||_}
 use mathlib.Core.List.{List, [], _∷_}
 use lib.Dec.{eqb}
-use Rattle.records.specs.Blanks.{noFieldsPart, noSnapshotsPart, noRef, noSchemasPart, noSortOrdersPart, noStatisticsPart, noPartitionSpecsPart}
+use Rattle.records.specs.Blanks.{noFieldsPart, noSnapshotsPart, noRefsPart, noSchemasPart, noSortOrdersPart, noStatisticsPart, noPartitionSpecsPart}
 use Rattle.records.specs.declared.part.FieldsPart.{FieldsPart}
 use Rattle.records.specs.declared.part.SnapshotsPart.{SnapshotsPart}
 use Rattle.records.specs.declared.part.SchemasPart.{SchemasPart}
 use Rattle.records.specs.declared.part.SortOrdersPart.{SortOrdersPart}
 use Rattle.records.specs.declared.part.StatisticsPart.{StatisticsPart}
 use Rattle.records.specs.declared.part.PartitionSpecsPart.{PartitionSpecsPart}
-use Rattle.records.specs.declared.reference.NamedRef.{NamedRef}
+use Rattle.records.specs.declared.part.RefsPart.{RefsPart}
 use Rattle.records.specs.declared.update.TableUpdate.{TableUpdate}
 use Rattle.rules.specs.Words.{any}
 use Rattle.rules.specs.WellFormed.{updateFormed}
@@ -65,10 +65,10 @@ own-snapshots k p e =
       removed = fits-is snapshotIdsKinds k (isBlankSnapshotIds (p .removed)) (isTidySnapshotIds (p .removed)) (blank-snapshot-ids (p .removed)) (h .1 .0) i;
     }
 
-abbrev refsBy : ℕ → NamedRef → NamedRef
-refsBy k p = record { name = used refNameKinds k (p .name) (noRef .name); reference = used referenceKinds k (p .reference) (noRef .reference) }
+abbrev refsBy : ℕ → RefsPart → RefsPart
+refsBy k p = record { name = used refNameKinds k (p .name) (noRefsPart .name); reference = used referenceKinds k (p .reference) (noRefsPart .reference) }
 
-own-refs : (k : ℕ) (p : NamedRef) → isTidyRefsPart k p ≡ true → p ≡ refsBy k p
+own-refs : (k : ℕ) (p : RefsPart) → isTidyRefsPart k p ≡ true → p ≡ refsBy k p
 unfolding isTidyRefsPart
 own-refs k p e =
     let h = parts (fitsKinds refNameKinds k (isBlankName (p .name)) (isTidyName (p .name))) (fitsKinds referenceKinds k (isBlankReference (p .reference)) (isTidyReference (p .reference)) ∷ []) e in

@@ -5,7 +5,7 @@ use mathlib.Core.Bool.{true, _||_}
 use borrow.Author.Tests.{eqb-true}
 use lib.Dec.{eqb}
 use lib.ListN.{length}
-use Rattle.records.specs.Blanks.{noRef, noSnapshotsPart}
+use Rattle.records.specs.Blanks.{noRefsPart, noSnapshotsPart}
 use Rattle.records.specs.declared.text.Name.{Name}
 use Rattle.records.specs.declared.snapshot.Snapshot.{Snapshot}
 use Rattle.records.specs.declared.reference.SnapshotReference.{SnapshotReference}
@@ -25,10 +25,10 @@ withKind k u = record { kind = k; fields = u .fields; snapshots = u .snapshots; 
 module _ (u : TableUpdate) (e : isTidyUpdate u ≡ true) where
   -- what an addition logs is laid out from its snapshot
   pub added : (eqb (u .kind) addSnapshotKind || eqb (u .kind) setBranchSnapshotKind) ≡ true
-      → withRefsPart noRef (withKind addSnapshotKind u) ≡ laidUpdate (AddSnapshot (readSnapshot (u .snapshots .added)))
+      → withRefsPart noRefsPart (withKind addSnapshotKind u) ≡ laidUpdate (AddSnapshot (readSnapshot (u .snapshots .added)))
   unfolding laidUpdate
   added =
-      let entry : TableUpdate → TableUpdate = λ u. withRefsPart noRef (withKind addSnapshotKind u) in
+      let entry : TableUpdate → TableUpdate = λ u. withRefsPart noRefsPart (withKind addSnapshotKind u) in
       let laid = ap (λ (s : Snapshot). withSnapshotsPart (withSnapshot s noSnapshotsPart) (ofKind addSnapshotKind)) (sym (back-snapshot (u .snapshots .added) (snapshot-tidy u e))) in
       by-either (eqb (u .kind) addSnapshotKind) (eqb (u .kind) setBranchSnapshotKind)
       (λ t. ap entry (of-kind u e addSnapshotKind (eqb-true (u .kind) addSnapshotKind t)) ∙ laid)

@@ -122,6 +122,11 @@ impl Card {
         self
     }
 
+    pub fn with_unsigned(mut self, unsigned: [u64; UNSIGNED]) -> Card {
+        self.unsigned = unsigned;
+        self
+    }
+
     pub fn with_text(mut self, text: Text) -> Card {
         self.text = text;
         self

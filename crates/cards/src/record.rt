@@ -15,6 +15,7 @@ use records::partition::PartitionSpec;
 use records::partition::SpecIds;
 use records::reference::NamedRef;
 use records::reference::SnapshotReference;
+use records::run::FIRST_OFFICE;
 use records::schema::Schema;
 use records::schema::SchemaIds;
 use records::snapshot::Snapshot;
@@ -74,9 +75,12 @@ fn file_name(name: records::text::Text) -> Text {
     text_of(&bytes, name.len)
 }
 
-// name; what a ref has
+// name; what a ref has; owner, whether people are told it
 pub fn named_ref(named: NamedRef) -> Card {
-    reference(named.reference).with_text(name_text(named.name))
+    let owner = named.owner;
+    let is_told = owner != FIRST_OFFICE;
+    let card = reference(named.reference).with_text(name_text(named.name));
+    card.with_unsigned([owner as u64, is_told as u64])
 }
 
 // snapshot id, time

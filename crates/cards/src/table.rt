@@ -52,6 +52,9 @@ pub const TABLES: usize = 9;
 // The schemas once more, for whoever writes their fields with names and types.
 pub const OF_NAMED_SCHEMAS: usize = 9;
 
+// The refs once more, for whoever writes their owners.
+pub const OF_OWNERS: usize = 10;
+
 fn snapshot_at(table: Snapshots, i: usize) -> Card {
     let at = with_slots(i, SNAPSHOTS - 1);
     let s = table.items[at];
@@ -103,7 +106,7 @@ fn spec_at(table: PartitionSpecs, i: usize) -> Card {
 pub fn card_at(metadata: TableMetadata, table: usize, i: usize) -> Card {
     match table {
         OF_SNAPSHOTS => snapshot_at(metadata.snapshots, i),
-        OF_REFS => ref_at(metadata.refs, i),
+        OF_REFS | OF_OWNERS => ref_at(metadata.refs, i),
         OF_ENTRIES => entry_at(metadata.snapshot_log, i),
         OF_FILES => file_at(metadata.metadata_log, i),
         OF_SCHEMAS | OF_NAMED_SCHEMAS => schema_at(metadata.schemas, i),
@@ -117,7 +120,7 @@ pub fn card_at(metadata: TableMetadata, table: usize, i: usize) -> Card {
 pub fn count_of(metadata: TableMetadata, table: usize) -> usize {
     match table {
         OF_SNAPSHOTS => metadata.snapshots.count,
-        OF_REFS => metadata.refs.count,
+        OF_REFS | OF_OWNERS => metadata.refs.count,
         OF_ENTRIES => metadata.snapshot_log.count,
         OF_FILES => metadata.metadata_log.count,
         OF_SCHEMAS | OF_NAMED_SCHEMAS => metadata.schemas.count,
@@ -131,7 +134,7 @@ pub fn count_of(metadata: TableMetadata, table: usize) -> usize {
 pub fn slots_of(table: usize) -> usize {
     match table {
         OF_SNAPSHOTS => SNAPSHOTS,
-        OF_REFS => REFS,
+        OF_REFS | OF_OWNERS => REFS,
         OF_ENTRIES => SNAPSHOT_LOG,
         OF_FILES => METADATA_LOG,
         OF_SCHEMAS | OF_NAMED_SCHEMAS => SCHEMAS,

@@ -5,8 +5,7 @@ use crate::schema::read_schemas;
 use crate::snapshot::read_snapshot_log;
 use crate::snapshot::read_snapshots;
 use crate::sort_order::read_sort_orders;
-use crate::text::read_file_name;
-use crate::text::read_location;
+use crate::text::read_text;
 use crate::text::read_uuid;
 use cards::partition::UNPARTITIONED_LAST_ASSIGNED_ID;
 use records::capacities::METADATA_LOG;
@@ -34,7 +33,7 @@ use tokens::input::Place;
 use tokens::input::is_good;
 
 fn read_log_entry(input: &mut Input, place: &mut Place) -> MetadataLogEntry {
-    let metadata_file = read_file_name(input, place);
+    let metadata_file = read_text(input, place);
     let timestamp_ms = read_i64(input, place);
     MetadataLogEntry {
         metadata_file,
@@ -62,7 +61,7 @@ fn read_metadata_log(input: &mut Input, place: &mut Place) -> MetadataLog {
 // are 0 here. What goes with the partition specs stands elsewhere, and is the usual here.
 fn read_fields(format_version: u8, input: &mut Input, place: &mut Place) -> SingleFields {
     let table_uuid = read_uuid(input, place);
-    let location = read_location(input, place);
+    let location = read_text(input, place);
     let last_updated_ms = read_i64(input, place);
     let last_sequence_number = read_i64(input, place);
     let next_row_id = read_u64(input, place);

@@ -15,12 +15,17 @@ pub const SCHEMAS: u64 = 4;
 
 pub const PARTITION_SPECS: u64 = 5;
 
-// Which tables have a tag: an answer has these too.
+pub const OFFICE: u64 = 6;
+
+pub const OWNERS: u64 = 7;
+
+// Which tables have a tag, and whether the owners of refs have: an answer has these too.
 pub struct Given {
     pub statistics: bool,
     pub partition_statistics: bool,
     pub schemas: bool,
     pub partition_specs: bool,
+    pub owners: bool,
 }
 
 impl Given {
@@ -30,16 +35,18 @@ impl Given {
             partition_statistics: false,
             schemas: false,
             partition_specs: false,
+            owners: false,
         }
     }
 
-    // A tag with a table is given too.
+    // A tag is given too.
     pub fn with(mut self, tag: u64) -> Given {
         match tag {
             STATISTICS => self.statistics = true,
             PARTITION_STATISTICS => self.partition_statistics = true,
             SCHEMAS => self.schemas = true,
             PARTITION_SPECS => self.partition_specs = true,
+            OWNERS => self.owners = true,
             _ => {}
         }
         self
@@ -49,7 +56,7 @@ impl Given {
 // A tag that is not above the last one, or unknown, spoils the input.
 pub fn read_tag(last: u64, input: &mut Input, place: &mut Place) -> u64 {
     let tag = read_u64(input, place);
-    if tag <= last || tag > PARTITION_SPECS {
+    if tag <= last || tag > OWNERS {
         spoil(place, TAG, last);
     }
     tag

@@ -1,5 +1,6 @@
 // Refs: a name, and what it refers to.
 use crate::text::read_name;
+use crate::text::read_slots;
 use records::capacities::REFS;
 use records::counters::Age;
 use records::counters::MinSnapshots;
@@ -7,6 +8,7 @@ use records::counters::SnapshotId;
 use records::reference::NamedRef;
 use records::reference::Refs;
 use records::reference::SnapshotReference;
+use records::run::FIRST_OFFICE;
 use tokens::field::read_count;
 use tokens::field::read_flag;
 use tokens::field::read_i32;
@@ -15,6 +17,8 @@ use tokens::field::read_u8;
 use tokens::input::Input;
 use tokens::input::Place;
 use tokens::input::is_good;
+use tokens::input::spoil;
+use tokens::wanted;
 
 // What stands after the name.
 pub fn read_reference(input: &mut Input, place: &mut Place) -> SnapshotReference {
@@ -38,10 +42,15 @@ pub fn read_reference(input: &mut Input, place: &mut Place) -> SnapshotReference
     }
 }
 
+// Owners stand elsewhere: here every ref is the first office's.
 fn read_ref(input: &mut Input, place: &mut Place) -> NamedRef {
     let name = read_name(input, place);
     let reference = read_reference(input, place);
-    NamedRef { name, reference }
+    NamedRef {
+        name,
+        reference,
+        owner: FIRST_OFFICE,
+    }
 }
 
 pub fn read_refs(input: &mut Input, place: &mut Place) -> Refs {
@@ -58,4 +67,27 @@ pub fn read_refs(input: &mut Input, place: &mut Place) -> Refs {
     }
     table.count = count;
     table
+}
+
+fn with_owners(mut table: Refs, owners: [u8; REFS]) -> Refs {
+    let mut i = 0;
+    while i < REFS {
+        let mut named = table.items[i];
+        named.owner = owners[i];
+        table.items[i] = named;
+        i += 1;
+    }
+    table
+}
+
+// The refs with their owners, of which there are as many: another count spoils the input. A slot without a ref has no owner.
+pub fn read_owners(table: Refs, input: &mut Input, place: &mut Place) -> Refs {
+    let held = table.count;
+    let count = read_count(input, place);
+    if count != held {
+        spoil(place, wanted::OWNERS, held as u64);
+    }
+    let mut owners = [0u8; REFS];
+    read_slots(input, place, &mut owners, count);
+    with_owners(table, owners)
 }

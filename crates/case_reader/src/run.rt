@@ -5,22 +5,21 @@ use crate::limit_text::read_limit_text;
 use crate::metadata::read_metadata;
 use crate::metadata::read_metadata_of;
 use crate::more::Given;
-use crate::more::PARTITION_SPECS;
-use crate::more::PARTITION_STATISTICS;
-use crate::more::SCHEMAS;
-use crate::more::STATISTICS;
+use crate::more::OFFICE;
 use crate::more::TOLERANCE;
 use crate::more::read_tag;
 use crate::partition::read_spec_fields;
 use crate::partition::read_specs;
+use crate::reference::read_owners;
 use crate::schema::read_schemas;
 use crate::statistics::read_statistics;
-use crate::text::read_file_name;
+use crate::text::read_text;
 use crate::update::read_updates;
 use records::counters::Age;
 use records::counters::Time;
 use records::metadata::TableMetadata;
 use records::run::DEFAULT_TOLERANCE_MS;
+use records::run::FIRST_OFFICE;
 use records::run::RunTerms;
 use records::text::Text;
 use records::update::UpdateList;
@@ -71,20 +70,66 @@ pub fn read_first_of_run(input: &mut Input, place: &mut Place) -> u64 {
     0
 }
 
-// The clock, a flag, and the file's name if it is set. The tolerance comes after the updates, and is the usual one here.
+// The clock, a flag, and the file's name if it is set. The tolerance and the office come after the updates, and are the usual ones here.
 fn read_terms(input: &mut Input, place: &mut Place) -> RunTerms {
     let clock_ms = Time(read_i64(input, place));
     let has_file = read_flag(input, place);
     let mut file = Text::blank();
     if has_file {
-        file = read_file_name(input, place);
+        file = read_text(input, place);
     }
     RunTerms {
         clock_ms,
         tolerance_ms: Age(DEFAULT_TOLERANCE_MS),
         has_file,
         file,
+        office: FIRST_OFFICE,
     }
+}
+
+fn read_tolerance(input: &mut Input, place: &mut Place) -> Age {
+    Age(read_i64(input, place))
+}
+
+// The terms with what this tag gives; other tags leave them.
+fn read_given_terms(
+    tag: u64,
+    mut terms: RunTerms,
+    input: &mut Input,
+    place: &mut Place,
+) -> RunTerms {
+    match tag {
+        TOLERANCE => terms.tolerance_ms = read_tolerance(input, place),
+        OFFICE => terms.office = read_u8(input, place),
+        _ => {}
+    }
+    terms
+}
+
+// Metadata with the tables that are given, which stand in the place of what it has, and with owners if they are.
+fn read_given(
+    given: Given,
+    mut metadata: TableMetadata,
+    input: &mut Input,
+    place: &mut Place,
+) -> TableMetadata {
+    if given.statistics {
+        metadata.statistics = read_statistics(input, place);
+    }
+    if given.partition_statistics {
+        metadata.partition_statistics = read_statistics(input, place);
+    }
+    if given.schemas {
+        metadata.schemas = read_schemas(true, input, place);
+    }
+    if given.partition_specs {
+        metadata.partition_specs = read_specs(input, place);
+        metadata.fields = read_spec_fields(metadata.fields, input, place);
+    }
+    if given.owners {
+        metadata.refs = read_owners(metadata.refs, input, place);
+    }
+    metadata
 }
 
 // How many tags a run has after its updates.
@@ -104,7 +149,7 @@ fn read_version(first: u64, input: &mut Input, place: &mut Place) -> u8 {
 }
 
 // The run that starts with this number, which is read already. What its updates offer is put among the offers. What is given after them stands in
-// place of what the metadata has; an unknown tag has no value. The tags are gone through here, where the metadata stands, so that less stack is needed.
+// place of what the metadata has; an unknown tag has no value.
 pub fn read_run(first: u64, input: &mut Input, place: &mut Place, offers: &mut [u8]) -> Run {
     let version = read_version(first, input, place);
     let mut metadata = read_metadata_of(version, input, place);
@@ -116,25 +161,11 @@ pub fn read_run(first: u64, input: &mut Input, place: &mut Place, offers: &mut [
     let mut last: u64 = 0;
     let mut i = 0;
     while i < count && is_good(place) {
-        last = read_tag(last, input, place);
-        match last {
-            TOLERANCE => {
-                let tolerance_ms = Age(read_i64(input, place));
-                terms.tolerance_ms = tolerance_ms;
-            }
-            STATISTICS => metadata.statistics = read_statistics(input, place),
-            PARTITION_STATISTICS => {
-                metadata.partition_statistics = read_statistics(input, place);
-            }
-            SCHEMAS => metadata.schemas = read_schemas(true, input, place),
-            PARTITION_SPECS => {
-                metadata.partition_specs = read_specs(input, place);
-                metadata.fields = read_spec_fields(metadata.fields, input, place);
-            }
-            _ => {}
-        }
-        given = given.with(last);
         i += 1;
+        last = read_tag(last, input, place);
+        given = given.with(last);
+        terms = read_given_terms(last, terms, input, place);
+        metadata = read_given(Given::none().with(last), metadata, input, place);
     }
     Run {
         metadata,
@@ -145,21 +176,8 @@ pub fn read_run(first: u64, input: &mut Input, place: &mut Place, offers: &mut [
     }
 }
 
-// The metadata that a run is to lead to, as an answer has it: with each table that the run was given.
+// The metadata that a run is to lead to, as an answer has it: with each table that the run was given, and with owners if it was.
 pub fn read_ending(given: Given, input: &mut Input, place: &mut Place) -> TableMetadata {
-    let mut ending = read_metadata(input, place);
-    if given.statistics {
-        ending.statistics = read_statistics(input, place);
-    }
-    if given.partition_statistics {
-        ending.partition_statistics = read_statistics(input, place);
-    }
-    if given.schemas {
-        ending.schemas = read_schemas(true, input, place);
-    }
-    if given.partition_specs {
-        ending.partition_specs = read_specs(input, place);
-        ending.fields = read_spec_fields(ending.fields, input, place);
-    }
-    ending
+    let ending = read_metadata(input, place);
+    read_given(given, ending, input, place)
 }

@@ -1,5 +1,5 @@
 // Statistics files, of either table.
-use crate::text::read_file_name;
+use crate::text::read_text;
 use records::capacities::STATISTICS;
 use records::counters::FileSize;
 use records::counters::SnapshotId;
@@ -13,7 +13,7 @@ use tokens::input::is_good;
 
 pub fn read_statistics_file(input: &mut Input, place: &mut Place) -> StatisticsFile {
     let snapshot_id = read_i64(input, place);
-    let statistics_path = read_file_name(input, place);
+    let statistics_path = read_text(input, place);
     let file_size_in_bytes = read_i64(input, place);
     StatisticsFile {
         snapshot_id: SnapshotId(snapshot_id),

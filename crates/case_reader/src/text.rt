@@ -10,7 +10,7 @@ use tokens::input::Input;
 use tokens::input::Place;
 use tokens::input::is_good;
 
-fn read_slots(input: &mut Input, place: &mut Place, slots: &mut [u8], len: usize) {
+pub fn read_slots(input: &mut Input, place: &mut Place, slots: &mut [u8], len: usize) {
     let mut i = 0;
     while i < len && is_good(place) {
         let byte = read_u8(input, place);
@@ -37,13 +37,8 @@ pub fn read_name(input: &mut Input, place: &mut Place) -> Name {
     Name { bytes, len }
 }
 
-pub fn read_location(input: &mut Input, place: &mut Place) -> Text {
-    let mut bytes = [0u8; TEXT];
-    let len = read_bytes(input, place, &mut bytes);
-    Text { bytes, len }
-}
-
-pub fn read_file_name(input: &mut Input, place: &mut Place) -> Text {
+// A location, a file's name or a path.
+pub fn read_text(input: &mut Input, place: &mut Place) -> Text {
     let mut bytes = [0u8; TEXT];
     let len = read_bytes(input, place, &mut bytes);
     Text { bytes, len }

@@ -9,8 +9,8 @@ use crate::snapshot::read_snapshot;
 use crate::snapshot::read_snapshot_ids;
 use crate::sort_order::read_sort_order;
 use crate::statistics::read_statistics_file;
-use crate::text::read_location;
 use crate::text::read_name;
+use crate::text::read_text;
 use crate::text::read_uuid;
 use cards::update::ADD_NAMED_SCHEMA;
 use records::capacities::UPDATES;
@@ -18,6 +18,13 @@ use records::counters::SchemaId;
 use records::counters::SnapshotId;
 use records::counters::SortOrderId;
 use records::counters::SpecId;
+use records::part::FieldsPart;
+use records::part::PartitionSpecsPart;
+use records::part::RefsPart;
+use records::part::SchemasPart;
+use records::part::SnapshotsPart;
+use records::part::SortOrdersPart;
+use records::part::StatisticsPart;
 use records::update::ADD_PARTITION_SPEC;
 use records::update::ADD_SCHEMA;
 use records::update::ADD_SNAPSHOT;
@@ -48,138 +55,134 @@ use tokens::input::Input;
 use tokens::input::Place;
 use tokens::input::is_good;
 
-// Kinds 1 to 6.
-fn read_early_kind(kind: u8, input: &mut Input, place: &mut Place) -> TableUpdate {
-    let mut u = TableUpdate::blank();
-    u.kind = kind;
-    let mut fields = u.fields;
-    let mut snapshots = u.snapshots;
-    let mut refs = u.refs;
+fn read_fields_part(kind: u8, input: &mut Input, place: &mut Place) -> FieldsPart {
+    let mut part = FieldsPart::blank();
     match kind {
         ASSIGN_UUID => {
             let uuid = read_uuid(input, place);
-            fields.uuid = uuid;
+            part.uuid = uuid;
         }
-        UPGRADE_FORMAT_VERSION => fields.format_version = read_u8(input, place),
-        SET_LOCATION => fields.location = read_location(input, place),
-        ADD_SNAPSHOT => snapshots.added = read_snapshot(input, place),
-        SET_BRANCH_SNAPSHOT => {
-            refs.name = read_name(input, place);
-            snapshots.added = read_snapshot(input, place);
-        }
-        REMOVE_SNAPSHOTS => snapshots.removed = read_snapshot_ids(input, place),
+        UPGRADE_FORMAT_VERSION => part.format_version = read_u8(input, place),
+        SET_LOCATION => part.location = read_text(input, place),
         _ => {}
     }
-    u.fields = fields;
-    u.snapshots = snapshots;
-    u.refs = refs;
-    u
+    part
 }
 
-// Kinds 7 to 13, but for 9.
-fn read_late_kind(kind: u8, input: &mut Input, place: &mut Place) -> TableUpdate {
-    let mut u = TableUpdate::blank();
-    u.kind = kind;
-    let mut refs = u.refs;
-    let mut schemas = u.schemas;
-    let mut orders = u.sort_orders;
+fn read_refs_part(kind: u8, input: &mut Input, place: &mut Place) -> RefsPart {
+    let mut part = RefsPart::blank();
     match kind {
+        SET_BRANCH_SNAPSHOT | REMOVE_REF => part.name = read_name(input, place),
         SET_REF => {
-            refs.name = read_name(input, place);
-            refs.reference = read_reference(input, place);
+            part.name = read_name(input, place);
+            part.reference = read_reference(input, place);
         }
-        REMOVE_REF => refs.name = read_name(input, place),
+        _ => {}
+    }
+    part
+}
+
+fn read_snapshots_part(kind: u8, input: &mut Input, place: &mut Place) -> SnapshotsPart {
+    let mut part = SnapshotsPart::blank();
+    match kind {
+        ADD_SNAPSHOT | SET_BRANCH_SNAPSHOT => part.added = read_snapshot(input, place),
+        REMOVE_SNAPSHOTS => part.removed = read_snapshot_ids(input, place),
+        _ => {}
+    }
+    part
+}
+
+// What an update offers is put among the offers, from a place of its own on.
+fn read_schemas_part(
+    kind: u8,
+    input: &mut Input,
+    place: &mut Place,
+    offers: &mut [u8],
+    at: usize,
+) -> SchemasPart {
+    let mut part = SchemasPart::blank();
+    match kind {
+        ADD_SCHEMA => part.added = read_schema_offer(false, input, place, offers, at),
+        ADD_NAMED_SCHEMA => part.added = read_schema_offer(true, input, place, offers, at),
         SET_CURRENT_SCHEMA => {
             let id = SchemaId(read_i32(input, place));
-            schemas.chosen = id;
+            part.chosen = id;
         }
-        REMOVE_SCHEMAS => schemas.removed = read_schema_ids(input, place),
-        ADD_SORT_ORDER => orders.added = read_sort_order(input, place),
+        REMOVE_SCHEMAS => part.removed = read_schema_ids(input, place),
+        _ => {}
+    }
+    part
+}
+
+fn read_sort_orders_part(kind: u8, input: &mut Input, place: &mut Place) -> SortOrdersPart {
+    let mut part = SortOrdersPart::blank();
+    match kind {
+        ADD_SORT_ORDER => part.added = read_sort_order(input, place),
         SET_DEFAULT_SORT_ORDER => {
             let id = SortOrderId(read_i64(input, place));
-            orders.chosen = id;
+            part.chosen = id;
         }
         _ => {}
     }
-    u.refs = refs;
-    u.schemas = schemas;
-    u.sort_orders = orders;
-    u
+    part
 }
 
-// Kinds 14 to 20, but for 18.
-fn read_last_kind(kind: u8, input: &mut Input, place: &mut Place) -> TableUpdate {
-    let mut u = TableUpdate::blank();
-    u.kind = kind;
-    let mut statistics = u.statistics;
-    let mut specs = u.partition_specs;
+fn read_statistics_part(kind: u8, input: &mut Input, place: &mut Place) -> StatisticsPart {
+    let mut part = StatisticsPart::blank();
     match kind {
         SET_STATISTICS | SET_PARTITION_STATISTICS => {
-            statistics.file = read_statistics_file(input, place);
+            part.file = read_statistics_file(input, place);
         }
         REMOVE_STATISTICS | REMOVE_PARTITION_STATISTICS => {
             let id = SnapshotId(read_i64(input, place));
-            statistics.removed = id;
+            part.removed = id;
         }
-        SET_DEFAULT_PARTITION_SPEC => {
-            let id = SpecId(read_i32(input, place));
-            specs.chosen = id;
-        }
-        REMOVE_PARTITION_SPECS => specs.removed = read_spec_ids(input, place),
         _ => {}
     }
-    u.statistics = statistics;
-    u.partition_specs = specs;
-    u
+    part
 }
 
-// Kinds 9 and 21, which are one update. What it offers is put among the offers, from a place of its own on.
-fn read_added_schema(
-    is_named: bool,
+fn read_specs_part(
+    kind: u8,
     input: &mut Input,
     place: &mut Place,
     offers: &mut [u8],
     at: usize,
-) -> TableUpdate {
-    let mut u = TableUpdate::blank();
-    u.kind = ADD_SCHEMA;
-    let mut schemas = u.schemas;
-    schemas.added = read_schema_offer(is_named, input, place, offers, at);
-    u.schemas = schemas;
-    u
+) -> PartitionSpecsPart {
+    let mut part = PartitionSpecsPart::blank();
+    match kind {
+        ADD_PARTITION_SPEC => part.added = read_spec_offer(input, place, offers, at),
+        SET_DEFAULT_PARTITION_SPEC => {
+            let id = SpecId(read_i32(input, place));
+            part.chosen = id;
+        }
+        REMOVE_PARTITION_SPECS => part.removed = read_spec_ids(input, place),
+        _ => {}
+    }
+    part
 }
 
-// Kind 18, likewise.
-fn read_added_spec(
-    input: &mut Input,
-    place: &mut Place,
-    offers: &mut [u8],
-    at: usize,
-) -> TableUpdate {
-    let mut u = TableUpdate::blank();
-    u.kind = ADD_PARTITION_SPEC;
-    let mut specs = u.partition_specs;
-    specs.added = read_spec_offer(input, place, offers, at);
-    u.partition_specs = specs;
-    u
+// A schema is added by either of two kinds, which are one update.
+fn kind_of(kind: u8) -> u8 {
+    if kind == ADD_NAMED_SCHEMA {
+        return ADD_SCHEMA;
+    }
+    kind
 }
 
+// Each part reads what its kinds have. The one kind that has two, a branch commit, has the name before the snapshot.
 fn read_update(input: &mut Input, place: &mut Place, offers: &mut [u8], at: usize) -> TableUpdate {
     let kind = read_u8(input, place);
-    let is_named = kind == ADD_NAMED_SCHEMA;
-    if is_named || kind == ADD_SCHEMA {
-        return read_added_schema(is_named, input, place, offers, at);
-    }
-    if kind == ADD_PARTITION_SPEC {
-        return read_added_spec(input, place, offers, at);
-    }
-    if kind < SET_REF {
-        return read_early_kind(kind, input, place);
-    }
-    if kind < SET_STATISTICS {
-        return read_late_kind(kind, input, place);
-    }
-    read_last_kind(kind, input, place)
+    let mut u = TableUpdate::blank();
+    u.kind = kind_of(kind);
+    u.fields = read_fields_part(kind, input, place);
+    u.refs = read_refs_part(kind, input, place);
+    u.snapshots = read_snapshots_part(kind, input, place);
+    u.schemas = read_schemas_part(kind, input, place, offers, at);
+    u.sort_orders = read_sort_orders_part(kind, input, place);
+    u.statistics = read_statistics_part(kind, input, place);
+    u.partition_specs = read_specs_part(kind, input, place, offers, at);
+    u
 }
 
 pub fn read_updates(input: &mut Input, place: &mut Place, offers: &mut [u8]) -> UpdateList {

@@ -23,9 +23,10 @@ pub fn put_table(output: &mut Output, end: &mut usize, metadata: TableMetadata, 
         aL$b\n\
         aL$b\n\
         aN\n\
-        aN\n";
+        aN\n\
+        A\n";
     // Behind the schemas stands the current one, behind the sort orders the default, behind the partition specs the default and the last partition id.
-    let chosen = b"\n\n\n\na\na\n\n\nab\n\n";
+    let chosen = b"\n\n\n\na\na\n\n\nab\n\n\n";
     let is_named = table == OF_NAMED_SCHEMAS;
     let count = count_of(metadata, table);
     put_count(output, end, count);

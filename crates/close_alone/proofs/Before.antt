@@ -77,7 +77,7 @@ module _ (m : TableMetadata) (terms : RunTerms) (text : List ℕ) where
         let T = E .tables in
         record {
           sound = E .sound;
-          since = record { files = E .since .files; old = E .since .old; back = E .since .back; short = E .since .short };
+          since = record { files = E .since .files; old = E .since .old; back = E .since .back; short = E .since .short; shared = E .since .shared };
           tables = record { builder = T .builder; snapshots = T .snapshots; ids = T .ids; refs = T .refs; log = T .log; last = T .last; ownTables = T .ownTables };
           logs = record { entries = refl; count = refl; added = refl; adds = refl; mainTargets = refl; mains = refl; removal = refl };
           room = omega arith;

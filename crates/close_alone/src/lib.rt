@@ -23,6 +23,7 @@ use records::metadata::TableMetadata;
 use records::replies::ACCEPTED;
 use records::run::Answer;
 use records::run::RunTerms;
+use records::run::SECOND_OFFICE;
 use records::snapshot::SnapshotLog;
 use records::update::UpdateList;
 use start::start_number;
@@ -72,7 +73,7 @@ fn ended(
 }
 
 // The calls that `register::run` makes after its last update; it has the place of the current schema, which is looked up here. `none` stands for the
-// ids that were added and for those to which `main` went.
+// ids that were added and for those to which `main` went. A removal is logged, of which the close of the second office is told nothing.
 fn close_once(m: TableMetadata, ids: &[i64], none: &[i64], terms: RunTerms, text: &[u8]) -> Closed
     requires { ⌜ startNumber m noUpdates terms ≡ 0 ⌝ }
     requires { ⌜ now ids ≡ idsOf (readSnapshots (m .snapshots)) ⌝ }
@@ -80,7 +81,8 @@ fn close_once(m: TableMetadata, ids: &[i64], none: &[i64], terms: RunTerms, text
 {
     let first = m.fields;
     let builder = TableMetadataBuilder::new_from_metadata(first);
-    let history = close_log(m.snapshot_log, ids, first, none, none, true);
+    let removes = terms.office != SECOND_OFFICE;
+    let history = close_log(m.snapshot_log, ids, first, none, none, removes);
     let most = limit(text);
     let stored = m.metadata_log.count;
     let gone = surplus(stored, terms.has_file, most);

@@ -1,5 +1,6 @@
 // What is written of a run that was wanted.
 use cards::table::OF_NAMED_SCHEMAS;
+use cards::table::OF_OWNERS;
 use cards::table::OF_PARTITION_SPECS;
 use cards::table::OF_PARTITION_STATISTICS;
 use cards::table::OF_STATISTICS;
@@ -10,7 +11,7 @@ use records::run::Answer;
 use tokens::output::Output;
 use tokens::output::put_line_end;
 
-// The answer in numbers, a line, with the tables that the run was given as the metadata that is answered has them.
+// The answer in numbers, a line, with the tables and owners that the run was given as the metadata that is answered has them.
 pub fn put_answer_of(
     output: &mut Output,
     end: &mut usize,
@@ -30,6 +31,9 @@ pub fn put_answer_of(
     }
     if given.partition_specs {
         put_table(output, end, answer.metadata, OF_PARTITION_SPECS);
+    }
+    if given.owners {
+        put_table(output, end, answer.metadata, OF_OWNERS);
     }
     put_line_end(output, *end);
 }

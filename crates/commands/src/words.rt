@@ -72,6 +72,12 @@ pub fn read_tour(at: usize, line: &mut [u8]) -> usize
         cases partitions.case|\
         \nDoes the log of the second run lead there? To a spec whose field has another name, to one spec more, to another default, to another last partition id?|\
         replay partitions-log.case|\
+        \nA register that two offices share, in words|\
+        run offices.case|\
+        \nThe same in numbers|\
+        cases offices.case|\
+        \nDoes the log of the first run lead there? By the other office? Does one that removes the other's ref? And where owners and refs are not as many?|\
+        replay offices-log.case|\
         \nAll examples|\
         examples|\
         \nThe dates of some times|\

@@ -149,12 +149,13 @@ unfolding sameRef
 refs-told =
     record {
       equal = λ a b e.
-          let k = parts (sameName (a .name) (b .name)) (sameReference (a .reference) (b .reference) ∷ []) e in
+          let k = parts (sameName (a .name) (b .name)) (sameReference (a .reference) (b .reference) ∷ eqb (a .owner) (b .owner) ∷ []) e in
           λ i. record {
             name = ref-names-told .equal (a .name) (b .name) (k .0) i;
             reference = references-told .equal (a .reference) (b .reference) (k .1 .0) i;
+            owner = counts-told .equal (a .owner) (b .owner) (k .1 .1 .0) i;
           };
-      itself = λ a. simp (ref-names-told .itself, references-told .itself);
+      itself = λ a. simp (ref-names-told .itself, references-told .itself, counts-told .itself);
     }
 
 pub file-entries-told : Tells sameFileEntry

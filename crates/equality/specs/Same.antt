@@ -55,7 +55,7 @@ sameReference a b =
     && eqZ (a .«max_ref_age_ms» .0) (b .«max_ref_age_ms» .0)
 
 unfoldable pub sameRef : NamedRef → NamedRef → Bool
-sameRef a b = sameName (a .name) (b .name) && sameReference (a .reference) (b .reference)
+sameRef a b = sameName (a .name) (b .name) && sameReference (a .reference) (b .reference) && eqb (a .owner) (b .owner)
 
 -- ---- the metadata log
 

@@ -62,7 +62,7 @@ pub fn same_reference(a: SnapshotReference, b: SnapshotReference) -> bool
 pub fn same_ref(a: NamedRef, b: NamedRef) -> bool
     ensures { λ r. ⌜ r ≡ sameRef a b ⌝ }
 {
-    same_name(a.name, b.name) & same_reference(a.reference, b.reference)
+    same_name(a.name, b.name) & same_reference(a.reference, b.reference) & (a.owner == b.owner)
 }
 
 pub fn same_file_entry(a: MetadataLogEntry, b: MetadataLogEntry) -> bool

@@ -1,17 +1,21 @@
 -- The parts of metadata in which no fault was found: each is tidy and well formed, and its tables are laid out as the functions on tables ask.
 use mathlib.Core.Path.{_≡_, refl, _∙_}
-use mathlib.Core.Bool.{Bool, true, _&&_, _||_}
+use mathlib.Core.Bool.{Bool, true, _&&_, _||_, and-false}
 use mathlib.Core.List.{List, [], _∷_, _++_}
 use borrow.Author.Tests.{not-false}
+use lib.Dec.{leb}
+use lib.ListN.{length}
 use lib.Signed.{nonNeg}
+use Rattle.records.specs.declared.reference.Refs.{Refs}
 use Rattle.records.specs.declared.metadata.TableMetadata.{TableMetadata}
-use Rattle.rules.specs.Words.{firstOf, Check}
+use Rattle.rules.specs.Words.{all, ascending, firstOf, Check}
 use Rattle.rules.specs.Capacities.{snapshotRoom, refRoom, snapshotLogRoom, metadataLogRoom, schemaRoom, sortOrderRoom, specRoom, statisticsRoom}
 use Rattle.rules.specs.Register as plain
-use Rattle.rules.specs.WellFormed.{versionFormed, locationFormed, fileNameFormed, snapshotFormed, refFormed, schemaFormed, orderFormed, specFormed, statisticsFileFormed, snapshotBelow, refBelow, schemaBelow, orderBelow, specBelow, statisticsBelow, snapshotsFormed, refsFormed, snapshotLogFormed, metadataLogFormed, schemasFormed, ordersFormed, specsFormed, statisticsFormed, fieldsFormed}
+use Rattle.rules.specs.WellFormed.{versionFormed, nameFormed, locationFormed, fileNameFormed, snapshotFormed, referenceFormed, ownerFormed, refFormed, schemaFormed, orderFormed, specFormed, statisticsFileFormed, snapshotBelow, refBelow, schemaBelow, orderBelow, specBelow, statisticsBelow, snapshotsFormed, refsFormed, snapshotLogFormed, metadataLogFormed, schemasFormed, ordersFormed, specsFormed, statisticsFormed, fieldsFormed}
 use Rattle.rules.specs.Blanks.{isZeroZ, isTidyText, isTidySnapshots, isTidyRefs, isTidySnapshotLog, isTidyMetadataLog, isTidySchemas, isTidySortOrders, isTidyPartitionSpecs, isTidyStatistics, isTidyFields}
 use Rattle.rules.specs.Layout.{readText, readSnapshots, readRefs, readSnapshotLog, readMetadataLog, readSchemas, readSortOrders, readPartitionSpecs, readStatistics, readFields}
 use Rattle.rules.proofs.Checks.{both, and-left, and-right, parts, numbered, Passed, passed, passed-before, passed-after, first-after}
+use Rattle.rules.proofs.Tables.{all-then}
 use Rattle.tables.specs.Laid.{LaidRefs, LaidSchemas, LaidOrders, LaidSpecs}
 use Rattle.formed.proofs.Laid.{laid-formed-refs, laid-schemas, laid-orders, laid-specs}
 use Rattle.faults.specs.Faults.{fieldFaults, snapshotFaults, refFaults, snapshotLogFaults, metadataLogFaults, schemaFaults, orderFaults, specFaults, statisticsFaults, partFaults, agreementFaults, metadataFaults}
@@ -51,6 +55,17 @@ fields-faultless m k =
     let f = m .fields in
     let p = parts (versionFormed (f .«format_version»)) (locationFormed (readText (f .location)) ∷ nonNeg (f .«last_sequence_number» .0) ∷ nonNeg (f .«last_partition_id» .0) ∷ []) (k .1) in
     rw (p .0, and-left (isTidyText (f .location)) (f .«has_current» || isZeroZ (f .«current_snapshot_id» .0)) (k .0), p .1 .0, p .1 .1 .0, and-right (isTidyText (f .location)) (f .«has_current» || isZeroZ (f .«current_snapshot_id» .0)) (k .0), p .1 .1 .1 .0)
+
+-- ---- refs
+
+-- the owner of a well-formed ref is well formed
+refs-faultless : (t : Refs) → Fine (isTidyRefs t) (refsFormed (readRefs t)) → firstOf (refFaults t) ≡ 0
+unfolding refFaults refsFormed
+refs-faultless t k =
+    let l = readRefs t in
+    let f = parts (leb (length l) refRoom) (all refFormed l ∷ ascending refBelow l ∷ []) (k .1) in
+    let o : all ownerFormed l ≡ true = all-then refFormed ownerFormed (λ r e. and-right (nameFormed (r .name) && referenceFormed (r .reference)) (ownerFormed r) e) l (f .1 .0) in
+    rw (o, and-false (leb (length l) refRoom)) (table-faultless 9 refRoom (isTidyRefs t) refFormed l refBelow k)
 
 -- ---- all parts
 
@@ -107,7 +122,7 @@ module _ (m : TableMetadata) where
       record {
         fields = fields-fine m (passed (fieldFaults (m .fields)) refl (passed-before (fieldFaults (m .fields)) fromSnapshots e));
         snapshots = table-fine 6 snapshotRoom (isTidySnapshots (m .snapshots)) snapshotFormed (readSnapshots (m .snapshots)) snapshotBelow (passed (snapshotFaults (m .snapshots)) refl (passed-before (snapshotFaults (m .snapshots)) fromRefs e1));
-        refs = table-fine 9 refRoom (isTidyRefs (m .refs)) refFormed (readRefs (m .refs)) refBelow (passed (refFaults (m .refs)) refl (passed-before (refFaults (m .refs)) fromSnapshotLog e2));
+        refs = table-fine 9 refRoom (isTidyRefs (m .refs)) refFormed (readRefs (m .refs)) refBelow (passed (refFaults (m .refs)) refl (passed-before (refFaults (m .refs)) fromSnapshotLog e2) .1);
         snapshotLog = log-fine 12 snapshotLogRoom (isTidySnapshotLog (m .«snapshot_log»)) (λ (x : plain.LogEntry). nonNeg (x .snapshot)) (readSnapshotLog (m .«snapshot_log»)) (passed (snapshotLogFaults (m .«snapshot_log»)) refl (passed-before (snapshotLogFaults (m .«snapshot_log»)) fromMetadataLog e3));
         metadataLog = log-fine 14 metadataLogRoom (isTidyMetadataLog (m .«metadata_log»)) (λ (x : plain.FileEntry). fileNameFormed (x .file)) (readMetadataLog (m .«metadata_log»)) (passed (metadataLogFaults (m .«metadata_log»)) refl (passed-before (metadataLogFaults (m .«metadata_log»)) fromSchemas e4));
         schemas = table-fine 16 schemaRoom (isTidySchemas (m .schemas)) schemaFormed (readSchemas (m .schemas)) schemaBelow (passed (schemaFaults (m .schemas)) refl (passed-before (schemaFaults (m .schemas)) fromOrders e5));
@@ -122,7 +137,7 @@ module _ (m : TableMetadata) where
   faultless-parts k =
       first-after (fieldFaults (m .fields)) fromSnapshots refl (fields-faultless m (k .fields))
       ∙ first-after (snapshotFaults (m .snapshots)) fromRefs refl (table-faultless 6 snapshotRoom (isTidySnapshots (m .snapshots)) snapshotFormed (readSnapshots (m .snapshots)) snapshotBelow (k .snapshots))
-      ∙ first-after (refFaults (m .refs)) fromSnapshotLog refl (table-faultless 9 refRoom (isTidyRefs (m .refs)) refFormed (readRefs (m .refs)) refBelow (k .refs))
+      ∙ first-after (refFaults (m .refs)) fromSnapshotLog refl (refs-faultless (m .refs) (k .refs))
       ∙ first-after (snapshotLogFaults (m .«snapshot_log»)) fromMetadataLog refl (log-faultless 12 snapshotLogRoom (isTidySnapshotLog (m .«snapshot_log»)) (λ (x : plain.LogEntry). nonNeg (x .snapshot)) (readSnapshotLog (m .«snapshot_log»)) (k .snapshotLog))
       ∙ first-after (metadataLogFaults (m .«metadata_log»)) fromSchemas refl (log-faultless 14 metadataLogRoom (isTidyMetadataLog (m .«metadata_log»)) (λ (x : plain.FileEntry). fileNameFormed (x .file)) (readMetadataLog (m .«metadata_log»)) (k .metadataLog))
       ∙ first-after (schemaFaults (m .schemas)) fromOrders refl (table-faultless 16 schemaRoom (isTidySchemas (m .schemas)) schemaFormed (readSchemas (m .schemas)) schemaBelow (k .schemas))

@@ -21,7 +21,7 @@ use Rattle.records.specs.declared.run.RunTerms.{RunTerms}
 use Rattle.rules.specs.Words.{ifSome, all, ascending, firstOf, Check}
 use Rattle.rules.specs.Capacities.{snapshotRoom, refRoom, snapshotLogRoom, metadataLogRoom, schemaRoom, sortOrderRoom, specRoom, statisticsRoom}
 use Rattle.rules.specs.Register as plain
-use Rattle.rules.specs.WellFormed.{versionFormed, locationFormed, fileNameFormed, snapshotFormed, refFormed, schemaFormed, orderFormed, specFormed, statisticsFileFormed, snapshotBelow, refBelow, schemaBelow, orderBelow, specBelow, statisticsBelow, refsHeld, mainAgrees, currentSchemaHeld, defaultOrderHeld, defaultSpecHeld}
+use Rattle.rules.specs.WellFormed.{versionFormed, locationFormed, fileNameFormed, snapshotFormed, ownerFormed, refFormed, schemaFormed, orderFormed, specFormed, statisticsFileFormed, snapshotBelow, refBelow, schemaBelow, orderBelow, specBelow, statisticsBelow, refsHeld, mainAgrees, currentSchemaHeld, defaultOrderHeld, defaultSpecHeld}
 use Rattle.rules.specs.Blanks.{isZeroZ, isTidyText, isTidySnapshots, isTidySnapshotLog, isTidyRefs, isTidySchemas, isTidySortOrders, isTidyPartitionSpecs, isTidyStatistics, isTidyMetadataLog}
 use Rattle.rules.specs.Layout.{readText, readSnapshots, readSnapshotLog, readRefs, readSchemas, readSortOrders, readPartitionSpecs, readStatistics, readMetadataLog, readMetadata}
 use Rattle.rules.specs.Answer.{readTerms}
@@ -48,8 +48,11 @@ fieldFaults f =
 unfoldable pub snapshotFaults : Snapshots → List Check
 snapshotFaults t = tableFaults 6 snapshotRoom (isTidySnapshots t) snapshotFormed snapshotBelow (readSnapshots t)
 
+-- refs that there is room for are asked their owners first
 unfoldable pub refFaults : Refs → List Check
-refFaults t = tableFaults 9 refRoom (isTidyRefs t) refFormed refBelow (readRefs t)
+refFaults t =
+    (leb (length (readRefs t)) refRoom && not (all ownerFormed (readRefs t)), 37)
+    ∷ tableFaults 9 refRoom (isTidyRefs t) refFormed refBelow (readRefs t)
 
 unfoldable pub snapshotLogFaults : SnapshotLog → List Check
 snapshotLogFaults t = logFaults 12 snapshotLogRoom (isTidySnapshotLog t) (λ (e : plain.LogEntry). nonNeg (e .snapshot)) (readSnapshotLog t)

@@ -1,5 +1,6 @@
-// The numbers of the faults, in the order in which they are looked for. A table has three, from its number on: it counts more than it has room for;
-// one of its records is not well formed, or an unused place is not blank; its keys do not ascend. A log has the first two.
+// The numbers of the faults, in the order in which they are looked for, but that the owners of refs are looked at before the other three of their table.
+// A table has three, from its number on: it counts more than it has room for; one of its records is not well formed, or an unused place is not blank; its
+// keys do not ascend. A log has the first two.
 pub const NONE: u8 = 0;
 
 pub const FORMAT_VERSION: u8 = 1;
@@ -43,3 +44,6 @@ pub const DEFAULT_SORT_ORDER_NOT_HELD: u8 = 34;
 pub const DEFAULT_SPEC_NOT_HELD: u8 = 35;
 
 pub const CURRENT_FILE_NAME: u8 = 36;
+
+// Of a table that has room for its refs.
+pub const REF_OWNER: u8 = 37;

@@ -1,9 +1,14 @@
 // A part of metadata by itself.
 ghost use mathlib.Core.Path.{_≡_};
-ghost use mathlib.Core.Bool.{not};
+ghost use mathlib.Core.Bool.{not, _&&_};
 ghost use mathlib.Core.List.{[], _∷_};
 ghost use Prim.Native.Nat.{_+_, _≤_};
-ghost use Rattle.rules.specs.Words.{firstOf};
+ghost use lib.Dec.{leb};
+ghost use lib.ListN.{length};
+ghost use Rattle.rules.specs.Words.{all, firstOf};
+ghost use Rattle.rules.specs.Capacities.{refRoom};
+ghost use Rattle.rules.specs.WellFormed.{ownerFormed};
+ghost use Rattle.rules.specs.Layout.{readRefs};
 ghost use Rattle.faults.specs.Faults.{fieldFaults, snapshotFaults, refFaults, snapshotLogFaults, metadataLogFaults, schemaFaults, orderFaults, specFaults, statisticsFaults};
 use crate::fault;
 use crate::pick::unless;
@@ -12,6 +17,7 @@ use formed::blanks::text_fits;
 use formed::bounds::last_partition_formed;
 use formed::bounds::sequence_formed;
 use formed::metadata::refs_formed;
+use formed::record::owner_formed;
 use formed::slots::metadata_log_formed;
 use formed::slots::order_keys;
 use formed::slots::refs_filled;
@@ -94,16 +100,35 @@ pub fn snapshots_fault(t: Snapshots) -> u8
     )
 }
 
+// Each ref belongs to an office, and `main` to the first. A table that counts more than it has room for is not asked.
+fn owners_formed(t: Refs) -> bool
+    ensures { λ r. ⌜ r ≡ not (leb (length (readRefs t)) refRoom && not (all ownerFormed (readRefs t))) ⌝ }
+{
+    let n = t.count;
+    if n > capacities::REFS {
+        return true;
+    }
+    let mut ok = true;
+    let mut i = 0;
+    while i < n {
+        let x = t.items[i];
+        ok = ok & owner_formed(x.name, x.owner);
+        i += 1;
+    }
+    ok
+}
+
 pub fn refs_fault(t: Refs) -> u8
     ensures { λ r. ⌜ r ≡ firstOf (refFaults t) ⌝ }
 {
     let n = t.count;
-    table_fault(
+    let from_table = table_fault(
         fault::REFS,
         n <= capacities::REFS,
         refs_filled(t),
         refs_formed(t),
-    )
+    );
+    unless(owners_formed(t), fault::REF_OWNER, from_table)
 }
 
 pub fn snapshot_log_fault(t: SnapshotLog) -> u8

@@ -19,7 +19,7 @@ use Rattle.records.specs.declared.partition.PartitionSpecs.{PartitionSpecs}
 use Rattle.rules.specs.Words.{all, ascending}
 use Rattle.rules.specs.Register as plain
 use Rattle.rules.specs.Capacities.{snapshotRoom, refRoom, nameRoom, schemaRoom, schemaFieldRoom, sortOrderRoom, sortFieldRoom, specRoom, partitionFieldRoom}
-use Rattle.rules.specs.WellFormed.{nameFormed, snapshotFormed, refFormed, schemaFormed, sortFieldFormed, offeredOrderFormed, orderFormed, partitionFieldFormed, specFormed, snapshotBelow, schemaBelow, orderBelow, specBelow, snapshotsFormed, refsFormed, schemasFormed, ordersFormed, specsFormed}
+use Rattle.rules.specs.WellFormed.{nameFormed, snapshotFormed, referenceFormed, ownerFormed, refFormed, schemaFormed, sortFieldFormed, offeredOrderFormed, orderFormed, partitionFieldFormed, specFormed, snapshotBelow, schemaBelow, orderBelow, specBelow, snapshotsFormed, refsFormed, schemasFormed, ordersFormed, specsFormed}
 use Rattle.rules.specs.Blanks.{isTidySnapshots, isBlankRef, isTidyRef, isTidyRefs, isTidySchemas, isTidySortOrders, isTidyPartitionSpecs}
 use Rattle.rules.specs.Layout.{pad, readName, readSnapshots, readRef, laidRef, readRefs, laidRefs, readSchemas, readSortOrders, readPartitionSpecs}
 use Rattle.rules.proofs.Checks.{both, and-left, and-right, parts, schemaTests, offered-of}
@@ -40,7 +40,7 @@ laid-refs t h y =
     record {
       back = λ i. record { items = r .0 i; count = r .1 i };
       fits = log-fits refRoom refFormed (readRefs t) f;
-      names = all-then refFormed (λ (x : plain.NamedRef). leb (length (x .name)) nameRoom) (λ x k. and-left (nameFormed (x .name)) _ k) (readRefs t) a;
+      names = all-then refFormed (λ (x : plain.NamedRef). leb (length (x .name)) nameRoom) (λ x k. parts (nameFormed (x .name)) (referenceFormed (x .reference) ∷ ownerFormed x ∷ []) k .0) (readRefs t) a;
     }
 
 pub laid-formed-refs : (t : Refs) → isTidyRefs t ≡ true → refsFormed (readRefs t) ≡ true → LaidRefs t

@@ -1,14 +1,17 @@
 // Well-formed records: those of the tables and those of updates.
 ghost use mathlib.Core.Path.{_≡_};
 ghost use Prim.Native.Nat.{_≤_};
-ghost use mathlib.Core.Bool.{true, not, _&&_};
+ghost use mathlib.Core.Bool.{true, not, _&&_, _||_};
+ghost use lib.Dec.{eqb};
 ghost use lib.ListN.{drop, take};
 ghost use Rattle.rules.specs.Words.{eqZ, ifSome, all, eachPair};
 ghost use Rattle.rules.specs.Capacities.{schemaFieldRoom, partitionFieldRoom};
+ghost use Rattle.rules.specs.Names.{isMain};
+ghost use Rattle.rules.specs.Offices.{firstOffice, secondOffice};
 ghost use Rattle.rules.specs.WellFormed.{atLeastOne, snapshotFormed, referenceFormed, schemaFieldFormed, schemaFormed, sortFieldFormed, offeredOrderFormed, orderFormed, transformFormed, partitionFieldFormed, offeredSpecFormed, specFormed, statisticsFileFormed, removalFormed, offeredIdsFormed};
 ghost use Rattle.rules.specs.Partitions.{isTime, isRedundant};
 ghost use Rattle.rules.specs.Blanks.{isTidySchema, isTidyPartitionSpec};
-ghost use Rattle.rules.specs.Layout.{readSnapshot, readSnapshotIds, readReference, readSchemaField, readSchema, readSchemaIds, readSortField, readSortOrder, readPartitionField, readPartitionSpec, readFieldId, readSpecOffer, readSpecIds, readStatisticsFile};
+ghost use Rattle.rules.specs.Layout.{readName, readSnapshot, readSnapshotIds, readReference, readSchemaField, readSchema, readSchemaIds, readSortField, readSortOrder, readPartitionField, readPartitionSpec, readFieldId, readSpecOffer, readSpecIds, readStatisticsFile};
 ghost use Rattle.equality.specs.Same.{sameName};
 use crate::bounds::age_formed;
 use crate::bounds::buckets_formed;
@@ -25,6 +28,7 @@ use equality::ids::same_field;
 use equality::ids::same_order;
 use equality::number::same_buckets;
 use equality::text::same_name;
+use primitives::names::is_main;
 use records::capacities::NAME;
 use records::capacities::PARTITION_FIELDS;
 use records::capacities::REMOVALS;
@@ -43,6 +47,8 @@ use records::partition::SpecIds;
 use records::partition::SpecOffer;
 use records::partition::YEAR;
 use records::reference::SnapshotReference;
+use records::run::FIRST_OFFICE;
+use records::run::SECOND_OFFICE;
 use records::schema::LONG;
 use records::schema::Schema;
 use records::schema::SchemaField;
@@ -96,6 +102,18 @@ pub fn reference_formed(r: SnapshotReference) -> bool
     snapshot_id_formed(id)
         & ((k == 1) | ((k == 2) & !a & !b))
         & (min_formed(a, x) & age_formed(b, y) & age_formed(c, z))
+}
+
+// The first office, or the second and the ref is not `main`. A name that is too long is none.
+pub fn owner_formed(name: Name, owner: u8) -> bool
+    ensures { λ r. ⌜ r ≡ (eqb owner firstOffice || (eqb owner secondOffice && not (isMain (readName name)))) ⌝ }
+{
+    let l = name.len;
+    let bytes = name.bytes;
+    if (owner != SECOND_OFFICE) | (l > NAME) {
+        return (owner == FIRST_OFFICE) | (owner == SECOND_OFFICE);
+    }
+    !is_main(&bytes[..l])
 }
 
 fn field_formed(f: SchemaField) -> bool

@@ -22,6 +22,7 @@ use crate::bounds::snapshot_id_formed;
 use crate::order::Keys;
 use crate::order::told;
 use crate::record::order_formed;
+use crate::record::owner_formed;
 use crate::record::reference_formed;
 use crate::record::schema_formed;
 use crate::record::snapshot_formed;
@@ -94,10 +95,12 @@ fn ref_slot(used: bool, r: NamedRef) -> bool
     let n = r.name;
     let l = n.len;
     let f = r.reference;
+    let o = r.owner;
     if used {
-        return (name_fits(true, n) & reference_fits(true, f)) & ((l <= NAME) & reference_formed(f));
+        return (name_fits(true, n) & reference_fits(true, f))
+            & ((l <= NAME) & reference_formed(f) & owner_formed(n, o));
     }
-    name_fits(false, n) & reference_fits(false, f)
+    name_fits(false, n) & reference_fits(false, f) & (o == 0)
 }
 
 pub fn refs_filled(t: Refs) -> bool

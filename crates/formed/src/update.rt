@@ -40,11 +40,11 @@ use records::counters::SortOrderId;
 use records::counters::SpecId;
 use records::part::FieldsPart;
 use records::part::PartitionSpecsPart;
+use records::part::RefsPart;
 use records::part::SchemasPart;
 use records::part::SnapshotsPart;
 use records::part::SortOrdersPart;
 use records::part::StatisticsPart;
-use records::reference::NamedRef;
 use records::update::ADD_PARTITION_SPEC;
 use records::update::ADD_SCHEMA;
 use records::update::ADD_SNAPSHOT;
@@ -86,7 +86,7 @@ fn snapshots_fit(k: u8, p: SnapshotsPart) -> bool
         & snapshot_ids_fit(k == REMOVE_SNAPSHOTS, p.removed)
 }
 
-fn refs_fit(k: u8, p: NamedRef) -> bool
+fn refs_fit(k: u8, p: RefsPart) -> bool
     ensures { λ r. ⌜ r ≡ isTidyRefsPart k p ⌝ }
 {
     name_fits(

@@ -12,6 +12,9 @@ ghost use lib.ListN.{length};
 ghost use Rattle.records.specs.Blanks.{noSchema, noPartitionSpec};
 ghost use Rattle.rules.specs.Words.{all};
 ghost use Rattle.rules.specs.Capacities.{schemaFieldRoom, fieldBytes};
+ghost use Rattle.rules.specs.Register.{Terms};
+ghost use Rattle.rules.specs.Updates.{offersFormed};
+ghost use Rattle.rules.specs.Kinds.{isTidyUpdate, readUpdate};
 ghost use Rattle.rules.specs.Offers.{isTidyField, offeredFields, offeredSchema};
 ghost use Rattle.rules.specs.Layout.{readSchemaOffer, laidSchema, readSpecOffer};
 ghost use Rattle.offers.specs.Offered.{Offered, SpecOffered};
@@ -29,6 +32,9 @@ use records::partition::PartitionSpec;
 use records::partition::SpecOffer;
 use records::schema::Schema;
 use records::schema::SchemaOffer;
+use records::update::ADD_PARTITION_SPEC;
+use records::update::ADD_SCHEMA;
+use records::update::TableUpdate;
 
 // Whether an offer is well formed, and the schema that it offers.
 pub struct OfferedSchema {
@@ -156,4 +162,21 @@ pub fn spec(o: SpecOffer, bytes: &[u8]) -> OfferedSpec
         formed: true,
         spec: s,
     }
+}
+
+// What an update offers is well formed; so is nothing.
+pub fn is_formed(u: TableUpdate, bytes: &[u8]) -> bool
+    requires { ⌜ isTidyUpdate u ≡ true ⌝ }
+    ensures { λ r. ⌜ ((terms : Terms) → terms .offers ≡ now (bytes .entry) → r ≡ offersFormed terms (readUpdate u)) ⌝ }
+{
+    let kind = u.kind;
+    if kind == ADD_SCHEMA {
+        let offered = schema(u.schemas.added, bytes);
+        return offered.formed;
+    }
+    if kind == ADD_PARTITION_SPEC {
+        let offered = spec(u.partition_specs.added, bytes);
+        return offered.formed;
+    }
+    true
 }

@@ -6,6 +6,7 @@ use mathlib.Core.List.{List, [], _∷_, map}
 use mathlib.Core.Option.{Option, none, some}
 use lib.ListN.{getD, drop}
 use Rattle.rules.specs.Words.{any, someWith, collect, unequalBy}
+use Rattle.rules.proofs.Tables.{any-none}
 use Rattle.tables.proofs.Table.{Kind, Tidy, listed}
 use Rattle.tables.proofs.Search.{any-map}
 use Rattle.partitions.proofs.Scans.{Scanned, scan-start, scan-on, scan-end, tests-join}
@@ -37,10 +38,6 @@ module _ {K : Kind} {same : K .Plain → K .Plain → Bool} {t : K .Whole} (h : 
 
 -- ---- by what each gives
 
-any-never : {A : Type 0} (l : List A) → any (λ (x : A). false) l ≡ false
-any-never [] = refl
-any-never (x ∷ l) = any-never l
-
 module _ {B : Type 0} where
   any-given : (p : B → Bool) (o : Option B) (l : List B) → any p (elim o [ none ↦ l | some y ↦ y ∷ l ]) ≡ (someWith p o || any p l)
   any-given p none l = refl
@@ -62,7 +59,7 @@ module _ {A B : Type 0} (same : B → B → Bool) where
     any-collect p (x ∷ l) = any-given p (f x) (collect f l) ∙ ap (λ (b : Bool). someWith p (f x) || b) (any-collect p l)
 
     given-among : (o : Option B) (l : List A) → any (λ (b : A). someWith (λ (x : B). someWith (same x) (f b)) o) l ≡ someWith (λ (y : B). any (same y) (collect f l)) o
-    given-among none l = any-never l
+    given-among none l = any-none (λ b. false) (λ b. refl) l
     given-among (some y) l = sym (any-collect (same y) l)
 
     pub unequal-collect : (l : List A) → unequalBy (λ (a b : A). someWith (λ (x : B). someWith (same x) (f b)) (f a)) l ≡ unequalBy same (collect f l)

@@ -9,7 +9,7 @@ use tokens::input::Fault;
 use tokens::input::Place;
 use tokens::input::fault_of;
 use tokens::output::Output;
-use tokens::wanted::REPEATED;
+use tokens::wanted::OWNERS;
 use tokens::wanted::SIGNED;
 use tokens::wanted::UP_TO;
 
@@ -37,11 +37,12 @@ fn say_wanted(output: &mut Output, end: &mut usize, wanted: usize, bound: usize)
         there should be a number from -\n\
         there should be the kind of a case, from 1 to \n\
         there should be the kind of a run, 1 or \n\
-        there should be a tag of at most 5 and above \n\
+        there should be a tag of at most 7 and above \n\
         there should be a kind from 0 to 3 or \n\
+        there should be as many owners as refs, which is \n\
         there should be the end of the input\n";
     say_line(output, end, words, wanted);
-    if wanted >= UP_TO && wanted <= REPEATED {
+    if wanted >= UP_TO && wanted <= OWNERS {
         say_count(output, end, bound);
     }
     if wanted == SIGNED && bound > 0 {

@@ -34,7 +34,7 @@ pub fn say_record(output: &mut Output, end: &mut usize, record: usize, card: Car
     let templates =
         b"#0 (?1{no parent|parent #2}, sequence #3, at #4 (@4)?5{|, %1 rows from row %0})\
         ;?1{ref of kind #1|branch|tag~ref of kind #1} $ at snapshot #0\
-        ?2{|, keeps at least #3 snapshots}?4{|, keeps snapshots for #5 ms}?6{|, stays for #7 ms}\
+        ?2{|, keeps at least #3 snapshots}?4{|, keeps snapshots for #5 ms}?6{|, stays for #7 ms}!1{|, of office %0}\
         ;#0 from #1 (@1)\
         ;$ from #0 (@0)\
         ;#0 (fields: *)\

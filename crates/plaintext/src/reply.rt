@@ -50,12 +50,12 @@ fn say_fault(output: &mut Output, end: &mut usize, fault: u8) {
         refs: one names a snapshot that is not held\n\
         current snapshot: it and ref `main` disagree\n\
         current schema: not held\ndefault sort order: not held\ndefault partition spec: not held\n\
-        current metadata file: its name is longer than 96 bytes\n";
+        current metadata file: its name is longer than 96 bytes\nrefs: an owner is not 1 or 2, or that of `main` is not 1\n";
     say_line(output, end, faults, fault as usize);
 }
 
-// What a run is refused for: its numbers are 1 to 23, 26 and 31 to 34. A line stands for each number, also for the two of a walk; those of 27 to 30, which
-// are no answers yet, are empty.
+// What a run is refused for: its numbers are 1 to 23, 26, 31 to 35 and 39. A line stands for each number, also for the two of a walk; those of 27 to 30 and
+// of 36 to 38, which are no answers yet, are empty.
 fn say_number(output: &mut Output, end: &mut usize, number: u8) {
     let reasons = b"accepted\n\
         the start is not well formed\n\
@@ -87,7 +87,9 @@ fn say_number(output: &mut Output, end: &mut usize, number: u8) {
         name clash, redundant field or one field id twice in a spec\n\
         source missing or of the wrong type\n\
         ids not sequential\n\
-        default spec removed\n";
+        default spec removed\n\
+        not this office's to change: the other's ref, a snapshot that the other needs, or what office 1 keeps\n\n\n\n\
+        office not 1 or 2\n";
     say_line(output, end, reasons, number as usize);
 }
 

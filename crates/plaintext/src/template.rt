@@ -1,8 +1,8 @@
 // A template is a sentence with marks for what a card holds. `#3` is its signed number 3, counted from 0, `%0` its unsigned number 0, and
 // `@4` the date of its signed number 4, a moment; `$` is its text as a name and `^` its text as a uuid.
 // `?1{no parent|parent #2}` says the alternative that its signed number 1 chooses, counted from 0; what stands after a `~` is said for every
-// number that chooses none of those before it. Many templates in one literal are parted by `;`, and one is chosen by its number. A `*` stands
-// for the card's list, and parts a template in two.
+// number that chooses none of those before it. `!1{|, of office %0}` says the second alternative where its unsigned number 1 is above 0.
+// Many templates in one literal are parted by `;`, and one is chosen by its number. A `*` stands for the card's list, and parts a template in two.
 // So a record is said by one call: words that depend on its numbers ask for no branch that prints.
 use crate::name::say_text;
 use crate::name::say_uuid;
@@ -52,7 +52,7 @@ fn next_option(option: u8) -> u8 {
 // A mark that a digit follows.
 fn mark_of(byte: u8) -> u8 {
     match byte {
-        b'#' | b'%' | b'@' | b'?' => byte,
+        b'#' | b'%' | b'@' | b'?' | b'!' => byte,
         _ => NO_MARK,
     }
 }
@@ -98,13 +98,16 @@ fn after(r: Reading, byte: u8, card: Card) -> Reading {
     if mark == b'?' {
         return choosing(t, signed_at(card, digit(byte)));
     }
+    if mark == b'!' {
+        return choosing(t, (unsigned_at(card, digit(byte)) > 0) as i64);
+    }
     t
 }
 
 fn kind_of(byte: u8) -> u8 {
     match byte {
         b'$' | b'^' => byte,
-        b'#' | b'%' | b'@' | b'?' | b'{' | b'|' | b'~' | b'}' | b';' | b'*' => NOTHING,
+        b'#' | b'%' | b'@' | b'?' | b'!' | b'{' | b'|' | b'~' | b'}' | b';' | b'*' => NOTHING,
         _ => ITSELF,
     }
 }

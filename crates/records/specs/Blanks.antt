@@ -37,6 +37,7 @@ use Rattle.records.specs.declared.metadata.SingleFields.{SingleFields}
 use Rattle.records.specs.declared.metadata.TableMetadata.{TableMetadata}
 use Rattle.records.specs.declared.part.FieldsPart.{FieldsPart}
 use Rattle.records.specs.declared.part.SnapshotsPart.{SnapshotsPart}
+use Rattle.records.specs.declared.part.RefsPart.{RefsPart}
 use Rattle.records.specs.declared.part.SchemasPart.{SchemasPart}
 use Rattle.records.specs.declared.part.SortOrdersPart.{SortOrdersPart}
 use Rattle.records.specs.declared.part.StatisticsPart.{StatisticsPart}
@@ -96,7 +97,7 @@ noReference = record {
 }
 
 abbrev pub noRef : NamedRef
-noRef = record { name = noName; reference = noReference }
+noRef = record { name = noName; reference = noReference; owner = 0 }
 
 unfoldable pub noRefs : Refs
 noRefs = record { items = replicate 16 noRef; count = 0 }
@@ -211,6 +212,9 @@ noFieldsPart = record { uuid = replicate 16 0; «format_version» = 0; location 
 unfoldable pub noSnapshotsPart : SnapshotsPart
 noSnapshotsPart = record { added = noSnapshot; removed = noSnapshotIds }
 
+abbrev pub noRefsPart : RefsPart
+noRefsPart = record { name = noName; reference = noReference }
+
 unfoldable pub noSchemasPart : SchemasPart
 noSchemasPart = record { added = noSchemaOffer; chosen = noSchemaId; removed = noSchemaIds }
 
@@ -224,7 +228,7 @@ unfoldable pub noPartitionSpecsPart : PartitionSpecsPart
 noPartitionSpecsPart = record { added = noSpecOffer; chosen = noSpecId; removed = noSpecIds }
 
 unfoldable pub noUpdate : TableUpdate
-noUpdate = record { kind = 0; fields = noFieldsPart; snapshots = noSnapshotsPart; refs = noRef; schemas = noSchemasPart; «sort_orders» = noSortOrdersPart; statistics = noStatisticsPart; «partition_specs» = noPartitionSpecsPart }
+noUpdate = record { kind = 0; fields = noFieldsPart; snapshots = noSnapshotsPart; refs = noRefsPart; schemas = noSchemasPart; «sort_orders» = noSortOrdersPart; statistics = noStatisticsPart; «partition_specs» = noPartitionSpecsPart }
 
 unfoldable pub noUpdates : UpdateList
 noUpdates = record { items = replicate 64 noUpdate; count = 0 }

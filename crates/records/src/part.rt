@@ -1,18 +1,20 @@
-// The parts of an update, each named for the part of the metadata that it is about. A ref is offered as the refs hold it, with its name.
+// The parts of an update, each named for the part of the metadata that it is about.
 ghost use mathlib.Core.Path.{_≡_};
-ghost use Rattle.records.specs.Blanks.{noFieldsPart, noSnapshotsPart, noSchemasPart, noSortOrdersPart, noStatisticsPart, noPartitionSpecsPart};
+ghost use Rattle.records.specs.Blanks.{noFieldsPart, noSnapshotsPart, noRefsPart, noSchemasPart, noSortOrdersPart, noStatisticsPart, noPartitionSpecsPart};
 use crate::counters::SchemaId;
 use crate::counters::SnapshotId;
 use crate::counters::SortOrderId;
 use crate::counters::SpecId;
 use crate::partition::SpecIds;
 use crate::partition::SpecOffer;
+use crate::reference::SnapshotReference;
 use crate::schema::SchemaIds;
 use crate::schema::SchemaOffer;
 use crate::snapshot::Snapshot;
 use crate::snapshot::SnapshotIds;
 use crate::sort_order::SortOrder;
 use crate::statistics::StatisticsFile;
+use crate::text::Name;
 use crate::text::Text;
 
 pub struct FieldsPart {
@@ -24,6 +26,12 @@ pub struct FieldsPart {
 pub struct SnapshotsPart {
     pub added: Snapshot,
     pub removed: SnapshotIds,
+}
+
+// A ref has no owner here: the one that it gets is the office of the run.
+pub struct RefsPart {
+    pub name: Name,
+    pub reference: SnapshotReference,
 }
 
 pub struct SchemasPart {
@@ -69,6 +77,16 @@ impl SnapshotsPart {
         let added = Snapshot::blank();
         let removed = SnapshotIds::blank();
         SnapshotsPart { added, removed }
+    }
+}
+
+impl RefsPart {
+    pub fn blank() -> RefsPart
+        ensures { λ r. ⌜ r ≡ noRefsPart ⌝ }
+    {
+        let name = Name::blank();
+        let reference = SnapshotReference::blank();
+        RefsPart { name, reference }
     }
 }
 

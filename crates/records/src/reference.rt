@@ -19,9 +19,11 @@ pub struct SnapshotReference {
     pub max_ref_age_ms: Age,
 }
 
+// The owner is the office that made the ref, 1 or 2.
 pub struct NamedRef {
     pub name: Name,
     pub reference: SnapshotReference,
+    pub owner: u8,
 }
 
 // Ascending by name.
@@ -53,7 +55,11 @@ impl NamedRef {
     {
         let name = Name::blank();
         let reference = SnapshotReference::blank();
-        NamedRef { name, reference }
+        NamedRef {
+            name,
+            reference,
+            owner: 0,
+        }
     }
 }
 

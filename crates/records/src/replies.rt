@@ -64,3 +64,8 @@ pub const SOURCE_MISFIT: u8 = 32;
 pub const IDS_NOT_SEQUENTIAL: u8 = 33;
 
 pub const DEFAULT_SPEC_REMOVED: u8 = 34;
+
+// What the update would touch is the other office's, or kept for the first.
+pub const OTHERS_TO_CHANGE: u8 = 35;
+
+pub const OFFICE_UNKNOWN: u8 = 39;

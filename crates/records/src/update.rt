@@ -4,11 +4,11 @@ ghost use Rattle.records.specs.Blanks.{noUpdate, noUpdates};
 use crate::capacities::UPDATES;
 use crate::part::FieldsPart;
 use crate::part::PartitionSpecsPart;
+use crate::part::RefsPart;
 use crate::part::SchemasPart;
 use crate::part::SnapshotsPart;
 use crate::part::SortOrdersPart;
 use crate::part::StatisticsPart;
-use crate::reference::NamedRef;
 
 // The kinds, in the order of a table's life.
 pub const ASSIGN_UUID: u8 = 1;
@@ -55,7 +55,7 @@ pub struct TableUpdate {
     pub kind: u8,
     pub fields: FieldsPart,
     pub snapshots: SnapshotsPart,
-    pub refs: NamedRef,
+    pub refs: RefsPart,
     pub schemas: SchemasPart,
     pub sort_orders: SortOrdersPart,
     pub statistics: StatisticsPart,
@@ -74,7 +74,7 @@ impl TableUpdate {
     {
         let fields = FieldsPart::blank();
         let snapshots = SnapshotsPart::blank();
-        let refs = NamedRef::blank();
+        let refs = RefsPart::blank();
         let schemas = SchemasPart::blank();
         let sort_orders = SortOrdersPart::blank();
         let statistics = StatisticsPart::blank();

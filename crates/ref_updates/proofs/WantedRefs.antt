@@ -5,15 +5,12 @@ use mathlib.Core.Bool.{Bool, true, cond}
 use mathlib.Core.List.{List}
 use borrow.Table.Steps.{cases}
 use lib.Dec.{eqb}
-use Rattle.records.specs.declared.reference.SnapshotReference.{SnapshotReference}
 use Rattle.records.specs.declared.reference.NamedRef.{NamedRef}
-use Rattle.records.specs.declared.text.Name.{Name}
 use Rattle.records.specs.declared.update.TableUpdate.{TableUpdate}
 use Rattle.rules.specs.Register as plain
 use Rattle.rules.specs.RefUpdates.{refNamed, committed}
-use Rattle.rules.specs.Layout.{given, readReference, laidReference, readRef, laidRef}
+use Rattle.rules.specs.Layout.{given, readReference, laidReference, readRef}
 use Rattle.rules.specs.Kinds.{setRefKind}
-use Rattle.tables.specs.Laid.{LaidName, LaidRef}
 use Rattle.ref_updates.specs.Refs.{pointed, wantedRef}
 
 module _ (u : TableUpdate) (held : Bool) (old : NamedRef) where
@@ -34,8 +31,3 @@ module _ (u : TableUpdate) (held : Bool) (old : NamedRef) where
       cases (eqb (u .kind) setRefKind)
       (λ t. rw t own)
       (λ f. rw f (cases held (λ t. rw t (ap (pointed (u .snapshots .added .«snapshot_id»)) (kept t))) (λ n. rw n)))
-
--- a name and a ref that are laid out make a named ref that is
-pub laid-ref : (name : Name) (r : SnapshotReference) → LaidName name → laidReference (readReference r) ≡ r → LaidRef (record { name = name; reference = r })
-unfolding laidRef
-laid-ref name r n e = record { back = λ i. record { name = n .back i; reference = e i }; fits = n .fits }

@@ -12,6 +12,7 @@ use Rattle.records.specs.declared.counters.Time.{Time}
 use Rattle.records.specs.declared.reference.SnapshotReference.{SnapshotReference}
 use Rattle.records.specs.declared.reference.NamedRef.{NamedRef}
 use Rattle.records.specs.declared.reference.Refs.{Refs}
+use Rattle.records.specs.declared.part.RefsPart.{RefsPart}
 use Rattle.records.specs.declared.update.TableUpdate.{TableUpdate}
 use Rattle.rules.specs.Words.{any, isSome, firstOf}
 use Rattle.rules.specs.Capacities.{refRoom}
@@ -21,7 +22,7 @@ use Rattle.rules.specs.WellFormed.{branch, holdsSnapshot}
 use Rattle.rules.specs.RefUpdates.{hasName, refNamed, isHeldRef, setRefChecks, ownAfter, setRef, committed}
 use Rattle.rules.specs.Layout.{readName, readReference, laidReference, readRefs, laidRefs}
 use Rattle.rules.specs.Kinds.{setRefKind, laidUpdate}
-use Rattle.tables.specs.Laid.{LaidRef}
+use Rattle.tables.specs.Laid.{LaidRefsPart}
 use Rattle.builder.specs.declared.builder.TableMetadataBuilder.{TableMetadataBuilder}
 use Rattle.builder.specs.declared.decision.Decision.{Decision}
 use Rattle.builder.specs.Pieces.{laidBuilder}
@@ -91,8 +92,8 @@ pub record RefSet (terms : Terms) (st : State) (name : List ℕ) (w : plain.Refe
   pub entry : d .entry ≡ laidUpdate (SetRef name w)
 
 -- a ref that can be put into a table: laid out, and with room for it if its name is new
-pub record NewRef (t : Refs) (e : NamedRef) : Type 0 where
-  pub laid : LaidRef e
+pub record NewRef (t : Refs) (e : RefsPart) : Type 0 where
+  pub laid : LaidRefsPart e
   pub room : any (hasName (readName (e .name))) (readRefs t) ≡ false → t .count < refRoom
 
 pub record RefDecided (b : TableMetadataBuilder) (t : Refs) (held isAdded : Bool) (time : Time) (entries : ℕ) (clock : Time) (u : TableUpdate) (d : Decision) : Type 0 where

@@ -15,9 +15,9 @@ ghost use Rattle.rules.specs.Register as plain;
 ghost use Rattle.rules.specs.Register.{Terms, State, SetRef, withCurrent, withOwn, onFields};
 ghost use Rattle.rules.specs.WellFormed.{refBelow};
 ghost use Rattle.rules.specs.RefUpdates.{isTag, asMain};
-ghost use Rattle.rules.specs.Layout.{readName, readReference, laidReference, readRef, readRefs, laidRefs};
+ghost use Rattle.rules.specs.Layout.{readName, readReference, laidReference, readRefs, laidRefs};
 ghost use Rattle.rules.specs.Kinds.{setBranchSnapshotKind, setRefKind, removeRefKind, isTidyUpdate, laidUpdate};
-ghost use Rattle.tables.specs.Laid.{LaidName, LaidRefs};
+ghost use Rattle.tables.specs.Laid.{LaidName, LaidRefs, ownedRef};
 ghost use Rattle.builder.specs.Pieces.{laidBuilder};
 ghost use Rattle.builder.specs.Answers.{Decides};
 ghost use Rattle.ref_updates.specs.Refs.{wantedRef, askedRef, RefAsked, RefDecided, NewRef};
@@ -256,15 +256,15 @@ pub fn set_ref(
     }
 }
 
-// The refs after a set ref that takes effect.
-pub fn refs_after(t: Refs, d: Decision) -> Refs
+// The refs after a set ref that takes effect. A ref that is new is the office's.
+pub fn refs_after(t: Refs, d: Decision, office: u8) -> Refs
     requires { ⌜ LaidRefs t ⌝ }
     requires { ⌜ ascending refBelow (readRefs t) ≡ true ⌝ }
     requires { ⌜ (d .grows ≡ true → NewRef t (d .entry .refs)) ⌝ }
-    ensures { λ r. ⌜ r ≡ cond (d .grows) (laidRefs (put refBelow (readRef (d .entry .refs)) (readRefs t))) t ⌝ }
+    ensures { λ r. ⌜ r ≡ cond (d .grows) (laidRefs (put refBelow (ownedRef office (d .entry .refs) (readRefs t)) (readRefs t))) t ⌝ }
 {
     if d.grows {
-        return tables::refs::put(t, d.entry.refs);
+        return tables::refs::put(t, d.entry.refs, office);
     }
     t
 }

@@ -20,7 +20,8 @@ use Rattle.rules.specs.Register.Update.{AddSnapshot, SetBranchSnapshot}
 use Rattle.rules.specs.WellFormed.{updateFormed, snapshotFormed, nameFormed, snapshotBelow, holdsSnapshot}
 use Rattle.rules.specs.SnapshotUpdates.{addSnapshotChecks, addSnapshot}
 use Rattle.rules.specs.RefUpdates.{isTag, committed, setRefChecks, setBranchSnapshotChecks, setBranchSnapshot}
-use Rattle.rules.specs.Updates.{checks, effect}
+use Rattle.rules.specs.Updates.{offersFormed, checks, offerChecks, effect}
+use Rattle.rules.specs.Others.{isOthers}
 use Rattle.rules.specs.Run.{weight}
 use Rattle.rules.specs.Layout.{pad, readSnapshot, laidSnapshot, readSnapshots, laidSnapshots, readRefs}
 use Rattle.rules.specs.Kinds.{readUpdate, readUpdates, addSnapshotKind, setBranchSnapshotKind}
@@ -36,7 +37,7 @@ use Rattle.builder.specs.Pieces.{laidBuilder, idsOf, isAbove}
 use Rattle.snapshot_updates.specs.Snapshots.{SnapshotDecided}
 use Rattle.snapshot_updates.proofs.Last.{put-last}
 use Rattle.start.proofs.Reading.{read-add-snapshot, read-set-branch-snapshot}
-use Rattle.refinement.specs.Standing.{Given, termsOf, Pieces, withBuilder, withAddition, stored, Tables, Represents, Standing}
+use Rattle.refinement.specs.Standing.{Given, termsOf, Pieces, withBuilder, withAddition, stored, Tables, Represents, Passes, Standing}
 use Rattle.refinement.specs.Turns.{updateAt, nameAt, Midway, Decided}
 use Rattle.refinement.proofs.Effects.{Moves, add-moves}
 use Rattle.refinement.proofs.Logged.{one-more, push-addition}
@@ -95,7 +96,7 @@ pub untagged : (t : Bool) (n : ℕ) → cond t commitOnTag n ≡ 0 → (t ≡ fa
 untagged true n e = absurd (let y : _≡_ {A = ℕ} 13 0 = e in omega arith)
 untagged false n e = (refl, e)
 
-module _ {g : Given} {i : ℕ} {p : Pieces} (S : Standing g i p) (v : Update) (at : drop i (readUpdates (g .updates)) ≡ v ∷ drop (i + 1) (readUpdates (g .updates))) (one : 1 ≤ weight v) (e : updateFormed v ≡ true) (x : plain.Snapshot) where
+module _ {g : Given} {i : ℕ} {p : Pieces} (S : Standing g i p) (v : Update) (at : drop i (readUpdates (g .updates)) ≡ v ∷ drop (i + 1) (readUpdates (g .updates))) (one : 1 ≤ weight v) (e : Passes (g .terms .office) v (S .state)) (x : plain.Snapshot) where
   -- the tables after it: the snapshots grow, the builder is the new state's, the others stay
   tables : {b : _} {t : Snapshots} {is : List ℤ} → b ≡ laidBuilder (addSnapshot x (S .state)) → t ≡ laidSnapshots (put snapshotBelow x (S .state .metadata .snapshots)) → is ≡ pad 64 (pos 0) (idsOf (put snapshotBelow x (S .state .metadata .snapshots)))
       → (id : ℤ) → Tables (addSnapshot x (S .state)) (withBuilder b (grown t is id p .held))
@@ -103,12 +104,12 @@ module _ {g : Given} {i : ℕ} {p : Pieces} (S : Standing g i p) (v : Update) (a
   tables a b c id = let T = S .stands .tables in record { builder = a; snapshots = b; ids = c; refs = T .refs; log = T .log; last = T .last; ownTables = T .ownTables }
 
   -- a check that fails
-  refused-decided : (half : Bool) {d : Decision} → d .number ≡ firstOf (checks (termsOf g) v (S .state)) → (d .number ≡ 0 → ⊥) → Decided g i half p d
+  refused-decided : (half : Bool) {d : Decision} → d .number ≡ firstOf (offerChecks (termsOf g) v (S .state)) → (d .number ≡ 0 → ⊥) → Decided g i half p d
   refused-decided half n z = record { refuses = λ y. check-refused S v at e n z; room = λ y. entry-room S v at one; logs = λ y t. absurd (z y); stays = λ y t. absurd (z y) }
 
   module _ (w : v ≡ AddSnapshot x) {d : Decision} (D : SnapshotDecided false (termsOf g .tolerance) x (S .state) d) where
-    number : d .number ≡ firstOf (checks (termsOf g) v (S .state))
-    unfolding checks
+    number : d .number ≡ firstOf (offerChecks (termsOf g) v (S .state))
+    unfolding checks offersFormed
     number = rw w (D .number)
 
     pub addition-refused : (half : Bool) → (d .number ≡ 0 → ⊥) → Decided g i half p d
@@ -126,7 +127,7 @@ module _ {g : Given} {i : ℕ} {p : Pieces} (S : Standing g i p) (v : Update) (a
 
   module _ (w : v ≡ SetBranchSnapshot (nameAt g i) x) (u : x ≡ readSnapshot (updateAt g i .snapshots .added)) (five : updateAt g i .kind ≡ setBranchSnapshotKind) (f : updateFormed (readUpdate (updateAt g i)) ≡ true) {d : Decision} {t : Bool} (tag : t ≡ isTag (nameAt g i) (S .state .metadata .refs)) (D : SnapshotDecided t (termsOf g .tolerance) x (S .state) d) where
     pub commit-refused : (half : Bool) → (d .number ≡ 0 → ⊥) → Decided g i half p d
-    unfolding checks setBranchSnapshotChecks
+    unfolding checks offersFormed setBranchSnapshotChecks
     commit-refused half z =
         refused-decided half (
         D .number
@@ -144,27 +145,28 @@ module _ {g : Given} {i : ℕ} {p : Pieces} (S : Standing g i p) (v : Update) (a
       wanted = committed (nameAt g i) (x .id) (S .state .metadata .refs)
 
       -- the checks of the commit are those of setting its ref, once its snapshot is added
-      then : firstOf (checks (termsOf g) v (S .state)) ≡ firstOf (setRefChecks (nameAt g i) wanted (addSnapshot x (S .state)))
-      unfolding checks setBranchSnapshotChecks wanted
+      then : firstOf (offerChecks (termsOf g) v (S .state)) ≡ firstOf (setRefChecks (nameAt g i) wanted (addSnapshot x (S .state)))
+      unfolding checks offersFormed setBranchSnapshotChecks wanted
       then = rw (w, no-tag) (first-after (addSnapshotChecks (termsOf g .tolerance) x (S .state)) _ (add-snapshot-numbered (termsOf g .tolerance) x (S .state)) adds)
 
       midway : {s : Snapshots} {is : List ℤ} {id : ℤ} → s ≡ laidSnapshots (put snapshotBelow x (S .state .metadata .snapshots)) → is ≡ pad 64 (pos 0) (idsOf (put snapshotBelow x (S .state .metadata .snapshots))) → id ≡ x .id → Midway g i (stored d (grown s is id p))
-      unfolding effect setBranchSnapshot addSnapshot updateFormed wanted
+      unfolding effect setBranchSnapshot addSnapshot updateFormed isOthers wanted
       midway {id = id} a b c =
           let two : length (S .state .log) + 2 ≤ 64 = rw w at (fits S v at) in
           let M : Moves 1 (S .state) (addSnapshot x (S .state)) = add-moves x (S .state) in
-          let F : snapshotFormed x ≡ true = and-right (nameFormed (nameAt g i)) _ (rw w at e) in
+          let F : snapshotFormed x ≡ true = and-right (nameFormed (nameAt g i)) _ (rw w at (e .formed)) in
           let K = S .stands .since in
           record {
             state = addSnapshot x (S .state);
             stands = record {
               sound = add-snapshot-sound (termsOf g .tolerance) x (S .state) F adds (S .stands .sound);
-              since = record { files = K .files; old = K .old; back = K .back; short = K .short };
+              since = record { files = K .files; old = K .old; back = K .back; short = K .short; shared = K .shared };
               tables = tables (D .builder z) a b id;
               logs = rw c (push-addition (S .stands .logs) (omega arith) x (D .entry));
               room = omega (arith, M .light);
             };
             more = omega (arith, M .light);
+            own = rw w at (e .own);
             wanted = wanted;
             asks = rw (five, u);
             refuses = λ k y. check-refused S v at e (k ∙ sym then) y;
@@ -182,7 +184,7 @@ module _ {g : Given} {i : ℕ} {p : Pieces} (S : Standing g i p) (v : Update) (a
 
 -- ---- either of the two, of the update at a place
 
-module _ {g : Given} {i : ℕ} {p : Pieces} (S : Standing g i p) (at : drop i (readUpdates (g .updates)) ≡ readUpdate (updateAt g i) ∷ drop (i + 1) (readUpdates (g .updates))) (one : 1 ≤ weight (readUpdate (updateAt g i))) (e : updateFormed (readUpdate (updateAt g i)) ≡ true)
+module _ {g : Given} {i : ℕ} {p : Pieces} (S : Standing g i p) (at : drop i (readUpdates (g .updates)) ≡ readUpdate (updateAt g i) ∷ drop (i + 1) (readUpdates (g .updates))) (one : 1 ≤ weight (readUpdate (updateAt g i))) (e : Passes (g .terms .office) (readUpdate (updateAt g i)) (S .state))
     (k : (eqb (updateAt g i .kind) 4 || eqb (updateAt g i .kind) 5) ≡ true) {t : Bool} (tag : t ≡ (eqb (updateAt g i .kind) 5 && isTag (nameAt g i) (readRefs (p .held .refs)))) {d : Decision} (D : SnapshotDecided t (termsOf g .tolerance) (readSnapshot (updateAt g i .snapshots .added)) (S .state) d) where
   abbrev u : TableUpdate
   u = updateAt g i
@@ -196,8 +198,8 @@ module _ {g : Given} {i : ℕ} {p : Pieces} (S : Standing g i p) (at : drop i (r
   pub add-refused : (half : Bool) → (d .number ≡ 0 → ⊥) → Decided g i half p d
   add-refused half z =
       by-either (eqb (u .kind) addSnapshotKind) (eqb (u .kind) setBranchSnapshotKind)
-      (λ a. let q = eqb-true (u .kind) addSnapshotKind a in addition-refused S (readUpdate u) at one e (readSnapshot (u .snapshots .added)) (read-add-snapshot u e q) (by-itself q) half z)
-      (λ a. let q = eqb-true (u .kind) setBranchSnapshotKind a in commit-refused S (readUpdate u) at one e (readSnapshot (u .snapshots .added)) (read-set-branch-snapshot u e q) refl q e (tagged q) D half z)
+      (λ a. let q = eqb-true (u .kind) addSnapshotKind a in addition-refused S (readUpdate u) at one e (readSnapshot (u .snapshots .added)) (read-add-snapshot u (e .formed) q) (by-itself q) half z)
+      (λ a. let q = eqb-true (u .kind) setBranchSnapshotKind a in commit-refused S (readUpdate u) at one e (readSnapshot (u .snapshots .added)) (read-set-branch-snapshot u (e .formed) q) refl q (e .formed) (tagged q) D half z)
       k
 
   -- its checks pass where it is decided with 0
@@ -207,6 +209,6 @@ module _ {g : Given} {i : ℕ} {p : Pieces} (S : Standing g i p) (at : drop i (r
   pub add-decided : d .number ≡ 0 → {s : Snapshots} {is : List ℤ} {id : ℤ} → s ≡ laidSnapshots (put snapshotBelow (readSnapshot (u .snapshots .added)) (S .state .metadata .snapshots)) → is ≡ pad 64 (pos 0) (idsOf (put snapshotBelow (readSnapshot (u .snapshots .added)) (S .state .metadata .snapshots))) → id ≡ u .snapshots .added .«snapshot_id» .0 → Decided g i (eqb (u .kind) setBranchSnapshotKind) (grown s is id p) d
   add-decided z a b c =
       by-either (eqb (u .kind) addSnapshotKind) (eqb (u .kind) setBranchSnapshotKind)
-      (λ y. let q = eqb-true (u .kind) addSnapshotKind y in rw q (addition-decided S (readUpdate u) at one e (readSnapshot (u .snapshots .added)) (read-add-snapshot u e q) (by-itself q) z a b c))
-      (λ y. let q = eqb-true (u .kind) setBranchSnapshotKind y in rw q (commit-decided S (readUpdate u) at one e (readSnapshot (u .snapshots .added)) (read-set-branch-snapshot u e q) refl q e (tagged q) D z a b c))
+      (λ y. let q = eqb-true (u .kind) addSnapshotKind y in rw q (addition-decided S (readUpdate u) at one e (readSnapshot (u .snapshots .added)) (read-add-snapshot u (e .formed) q) (by-itself q) z a b c))
+      (λ y. let q = eqb-true (u .kind) setBranchSnapshotKind y in rw q (commit-decided S (readUpdate u) at one e (readSnapshot (u .snapshots .added)) (read-set-branch-snapshot u (e .formed) q) refl q (e .formed) (tagged q) D z a b c))
       k

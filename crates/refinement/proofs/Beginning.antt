@@ -20,7 +20,7 @@ use Rattle.rules.specs.Capacities.{snapshotRoom, refRoom, snapshotLogRoom, sche
 use Rattle.rules.specs.Register as plain
 use Rattle.rules.specs.Register.{StatisticsTable, State, statisticsOf}
 use Rattle.rules.specs.Register.StatisticsTable.{Statistics, PartitionStatistics}
-use Rattle.rules.specs.WellFormed.{snapshotFormed, refFormed, schemaFormed, orderFormed, specFormed, statisticsFileFormed, nameFormed, snapshotBelow, refBelow, schemaBelow, orderBelow, specBelow, statisticsBelow, snapshotsFormed, refsFormed, snapshotLogFormed, schemasFormed, ordersFormed, specsFormed, statisticsFormed, fieldsFormed, offeredOrderFormed, partitionFieldFormed, versionFormed, locationFormed, hasSchema, hasOrder, hasSpec, currentSchemaHeld, defaultOrderHeld, defaultSpecHeld}
+use Rattle.rules.specs.WellFormed.{snapshotFormed, referenceFormed, ownerFormed, refFormed, schemaFormed, orderFormed, specFormed, statisticsFileFormed, nameFormed, snapshotBelow, refBelow, schemaBelow, orderBelow, specBelow, statisticsBelow, snapshotsFormed, refsFormed, snapshotLogFormed, schemasFormed, ordersFormed, specsFormed, statisticsFormed, fieldsFormed, offeredOrderFormed, partitionFieldFormed, versionFormed, locationFormed, hasSchema, hasOrder, hasSpec, currentSchemaHeld, defaultOrderHeld, defaultSpecHeld}
 use lib.Signed.{nonNeg}
 use Rattle.rules.specs.ChangeLog.{logsMain, logsRemoval}
 use Rattle.rules.specs.Run.{started, listSum}
@@ -50,6 +50,20 @@ schemas-laid l {t} e f =
       back = rw q (sym e);
       fits = rw q (k .0);
       fields = rw q (all-then schemaFormed (λ (x : plain.Schema). leb (length (x .fields)) schemaFieldRoom) (λ x e. parts (nonNeg (x .id)) (schemaTests x) e .1 .0) l (k .1));
+    }
+
+name-fits : (x : plain.NamedRef) → refFormed x ≡ true → nameFormed (x .name) ≡ true
+name-fits x e = parts (nameFormed (x .name)) (referenceFormed (x .reference) ∷ ownerFormed x ∷ []) e .0
+
+pub start-refs : (g : Given) → Starts (g .metadata) (g .updates) (g .terms) → LaidRefs (g .metadata .refs)
+unfolding refsFormed laidMetadata
+start-refs g s =
+    let l : List plain.NamedRef = readRefs (g .metadata .refs) in
+    let k = table-parts refRoom refFormed refBelow l (formed-sound (readMetadata (g .metadata)) (s .formed) .refs) in
+    record {
+      back = ap (λ (x : TableMetadata). x .refs) (relaid (g .metadata) (s .tidy) (s .formed));
+      fits = k .0;
+      names = all-then refFormed (λ (x : plain.NamedRef). leb (length (x .name)) nameRoom) name-fits l (k .1);
     }
 
 module _ (g : Given) (z : startNumber (g .metadata) (g .updates) (g .terms) ≡ 0) where
@@ -88,7 +102,7 @@ module _ (g : Given) (z : startNumber (g .metadata) (g .updates) (g .terms) ≡ 
         left = omega (arith, start .sum);
         stands = record {
           sound = formed-sound (readMetadata (g .metadata)) (start .formed);
-          since = record { files = refl; old = refl; back = ap (λ (x : TableMetadata). x .«metadata_log») back; short = file-short (g .metadata) (g .updates) (g .terms) (start .file) };
+          since = record { files = refl; old = refl; back = ap (λ (x : TableMetadata). x .«metadata_log») back; short = file-short (g .metadata) (g .updates) (g .terms) (start .file); shared = refl };
           tables = record {
             builder = p ∙ ap fresh (sym (ap (λ (x : TableMetadata). x .fields) back));
             snapshots = sym (ap (λ (x : TableMetadata). x .snapshots) back);
@@ -168,7 +182,7 @@ module _ {g : Given} {st : State} {p : Pieces} (E : Represents g st p) where
       record {
         back = rw read-refs (sym (E .tables .refs));
         fits = rw read-refs refs-fit;
-        names = rw read-refs (all-then refFormed (λ (x : plain.NamedRef). leb (length (x .name)) nameRoom) (λ x e. and-left (nameFormed (x .name)) _ e) (st .metadata .refs) (table-parts refRoom refFormed refBelow (st .metadata .refs) (E .sound .refs) .1));
+        names = rw read-refs (all-then refFormed (λ (x : plain.NamedRef). leb (length (x .name)) nameRoom) name-fits (st .metadata .refs) (table-parts refRoom refFormed refBelow (st .metadata .refs) (E .sound .refs) .1));
       }
 
   pub laid-log : LaidSnapshotLog (p .held .log)

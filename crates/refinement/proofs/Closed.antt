@@ -2,7 +2,7 @@
 use Prim.Native.Nat.{ℕ, _+_, _-_, _≤_, _<_}
 use native.Mathlib.Omega.{arith}
 use mathlib.Core.Path.{_≡_, refl, sym, ap, _∙_}
-use mathlib.Core.Bool.{Bool, true, cond}
+use mathlib.Core.Bool.{Bool, true, cond, not, _&&_, and-true, and-false}
 use mathlib.Core.List.{List, _++_}
 use mathlib.Core.Option.{Option}
 use lib.Dec.{ltb}
@@ -10,6 +10,7 @@ use lib.IntN.{ℤ, pos}
 use lib.Signed.{ltZ}
 use lib.ListN.{length, take, drop, length-map}
 use borrow.Author.Tests.{ne-eqb, ltb-false}
+use borrow.Table.Steps.{cases}
 use Rattle.records.specs.declared.metadata.MetadataLog.{MetadataLog}
 use Rattle.records.specs.declared.metadata.SingleFields.{SingleFields}
 use Rattle.records.specs.declared.counters.Time.{Time}
@@ -18,14 +19,15 @@ use Rattle.records.specs.declared.snapshot.Snapshots.{Snapshots}
 use Rattle.records.specs.declared.run.Answer.{Answer}
 use Rattle.rules.specs.Words.{ascending, firstOf, orElse, Check}
 use Rattle.rules.specs.Capacities.{metadataLogRoom}
-use Rattle.rules.specs.Register.{State}
+use Rattle.rules.specs.Register.{Update, State}
 use Rattle.rules.specs.Register.Outcome.{Refused, Accepted}
 use Rattle.rules.specs.WellFormed.{snapshotBelow, metadataLogFormed, fileNameFormed}
-use Rattle.rules.specs.ChangeLog.{addition, logsMain, mainTarget}
+use Rattle.rules.specs.ChangeLog.{addition, logsMain, logsRemoval, mainTarget}
 use Rattle.rules.specs.Limit.{limitOf, isNumber, afterPlus}
 use Rattle.rules.proofs.Checks.{by-test, passed}
 use Rattle.rules.specs.Close.{staying, expired, closeChecks, closed}
-use Rattle.rules.specs.Run.{close}
+use Rattle.rules.specs.Others.{isSecond}
+use Rattle.rules.specs.Run.{close, closingLog}
 use Rattle.rules.specs.Layout.{given, pad, laidSnapshots, laidFields, laidMetadata, readMetadataLog, laidMetadataLog}
 use Rattle.rules.specs.Kinds.{laidUpdates}
 use Rattle.rules.specs.Answer.{laidOutcome}
@@ -107,15 +109,38 @@ module _ {g : Given} {st : State} {p : Pieces} (E : Represents g st p) where
   unfolding laidBuilder
   fields-laid = ap (λ (x : TableMetadataBuilder). x .fields) (E .tables .builder)
 
-  pub told : Told (st .log) (st .metadata) (p .held .log) (take (p .held .snapshots .count) (p .held .ids)) (p .held .builder .fields) (take (p .changes .adds) (p .changes .added)) (take (p .changes .mains) (p .changes .mainTargets)) (p .changes .removal)
-  told =
+  -- the close of the second office is told nothing of the change log, as if it were empty
+  abbrev pub second : Bool
+  second = isSecond (g .terms .office)
+
+  abbrev pub log : List Update
+  log = closingLog (termsOf g) st
+
+  abbrev pub closingAdds : ℕ
+  closingAdds = cond second 0 (p .changes .adds)
+
+  abbrev pub closingMains : ℕ
+  closingMains = cond second 0 (p .changes .mains)
+
+  closing-added : take closingAdds (p .changes .added) ≡ additions log
+  unfolding additions
+  closing-added = cases second (λ t. rw t) (λ f. rw f added-ids)
+
+  closing-main : take closingMains (p .changes .mainTargets) ≡ logsMain log
+  unfolding logsMain
+  closing-main = cases second (λ t. rw t) (λ f. rw f main-ids)
+
+  pub told : {adds mains : ℕ} {removes : Bool} → adds ≡ closingAdds → mains ≡ closingMains → removes ≡ (p .changes .removal && not second)
+      → Told log (st .metadata) (p .held .log) (take (p .held .snapshots .count) (p .held .ids)) (p .held .builder .fields) (take adds (p .changes .added)) (take mains (p .changes .mainTargets)) removes
+  unfolding logsRemoval
+  told a m r =
       record {
         history = read-log E;
         held = held-ids;
         current = rw fields-laid (ap (λ (x : plain.SingleFields). x .current) (reread-fields (st .metadata .fields)));
-        adds = added-ids;
-        sets = main-ids;
-        removes = E .logs .removal;
+        adds = rw a closing-added;
+        sets = rw m closing-main;
+        removes = r ∙ cases second (λ t. rw t (and-false (p .changes .removal))) (λ f. rw f (and-true (p .changes .removal) ∙ E .logs .removal));
       }
 
   pub handed : (s : Schema) → IsCurrent (st .metadata) s → Handed (st .metadata) (p .held .builder .fields) (p .held .refs) s (p .held .ownTables .orders) (p .held .ownTables .specs)
@@ -126,7 +151,7 @@ module _ {g : Given} {st : State} {p : Pieces} (E : Represents g st p) where
   files-laid = record { back = E .since .back; fits = rw (← (E .since .files)) (log-fits metadataLogRoom (λ (e : plain.FileEntry). fileNameFormed (e .file)) (st .metadata .metadataLog) (E .sound .metadataLog)) }
 
   abbrev pub checks : List Check
-  checks = closeChecks (termsOf g) (st .log) (st .metadata)
+  checks = closeChecks (termsOf g) log (st .metadata)
 
   pub files-fit : g .metadata .«metadata_log» .count ≤ 128
   files-fit = within (tidy-metadata-log files-laid)
@@ -158,11 +183,11 @@ module _ {g : Given} {st : State} {p : Pieces} (E : Represents g st p) where
     pub gone-is : {out : MetadataLog} → out ≡ laidMetadataLog (take gone (readMetadataLog (g .metadata .«metadata_log»))) → out ≡ laidMetadataLog (expired (termsOf g) (st .metadata))
     gone-is q = q ∙ ap laidMetadataLog (ap (λ (n : ℕ). take n (readMetadataLog (g .metadata .«metadata_log»))) k ∙ sym (expires filed))
 
-  pub close-refused : (place : ℕ) {n : ℕ} → n ≡ firstOf checks → (n ≡ 0 → ⊥) → laidOutcome (g .metadata) (Refused n place) ≡ laidOutcome (g .metadata) (close (termsOf g) place (st .log) st)
+  pub close-refused : (place : ℕ) {n : ℕ} → n ≡ firstOf checks → (n ≡ 0 → ⊥) → laidOutcome (g .metadata) (Refused n place) ≡ laidOutcome (g .metadata) (close (termsOf g) place log st)
   unfolding close
   close-refused place {n} e z = rw (← e, ne-eqb n 0 z)
 
-  accepts : firstOf checks ≡ 0 → (place : ℕ) → close (termsOf g) place (st .log) st ≡ Accepted (closed (termsOf g) (st .log) st) (st .log) (expired (termsOf g) (st .metadata))
+  accepts : firstOf checks ≡ 0 → (place : ℕ) → close (termsOf g) place log st ≡ Accepted (closed (termsOf g) log st) (st .log) (expired (termsOf g) (st .metadata))
   unfolding close
   accepts e place = rw e
 
@@ -170,11 +195,11 @@ module _ {g : Given} {st : State} {p : Pieces} (E : Represents g st p) where
   abbrev pub updated : Time → SingleFields → SingleFields
   updated x f = record { «format_version» = f .«format_version»; «table_uuid» = f .«table_uuid»; location = f .location; «last_updated_ms» = x; «last_sequence_number» = f .«last_sequence_number»; «next_row_id» = f .«next_row_id»; «last_column_id» = f .«last_column_id»; «has_current» = f .«has_current»; «current_snapshot_id» = f .«current_snapshot_id»; «current_schema_id» = f .«current_schema_id»; «default_sort_order_id» = f .«default_sort_order_id»; «default_spec_id» = f .«default_spec_id»; «last_partition_id» = f .«last_partition_id» }
 
-  pub close-accepted : (place : ℕ) → firstOf checks ≡ 0 → {y : History} → HistoryOf (st .log) (st .metadata) y
+  pub close-accepted : (place : ℕ) → firstOf checks ≡ 0 → {y : History} → HistoryOf log (st .metadata) y
       → {stay gone : MetadataLog} → stay ≡ laidMetadataLog (staying (termsOf g) (st .metadata)) → gone ≡ laidMetadataLog (expired (termsOf g) (st .metadata))
       → {x : Time} → x .0 ≡ orElse (given (p .held .builder .«has_own») (p .held .builder .own .0)) (g .terms .«clock_ms» .0)
       → _≡_ {A = Answer} (record { number = 0; place = 0; metadata = record { fields = updated x (p .held .builder .fields); snapshots = p .held .snapshots; refs = p .held .refs; «snapshot_log» = y .log; «metadata_log» = stay; schemas = p .held .ownTables .schemas .table; «sort_orders» = p .held .ownTables .orders; statistics = p .held .ownTables .statistics; «partition_statistics» = p .held .ownTables .partitionStatistics; «partition_specs» = p .held .ownTables .specs }; changes = record { items = p .changes .entries; count = p .changes .count }; expired = gone })
-      (laidOutcome (g .metadata) (close (termsOf g) place (st .log) st))
+      (laidOutcome (g .metadata) (close (termsOf g) place log st))
   unfolding laidOutcome closed laidMetadata laidFields laidUpdates
   close-accepted place e {y} Y S G {x} u =
       let T = E .tables in
@@ -187,17 +212,26 @@ module _ {g : Given} {st : State} {p : Pieces} (E : Represents g st p) where
   pub held-within : p .held .snapshots .count ≤ length (p .held .ids)
   held-within = lent-within (st .metadata .snapshots) (E .tables .snapshots) (E .tables .ids) (snapshots-fit E)
 
-  pub adds-within : p .changes .adds ≤ length (p .changes .added)
-  adds-within = omega (arith, adds-fit, ap length (E .logs .added) ∙ pad-length (pos 0) 64 (additions (st .log)) (omega (arith, adds-fit, E .logs .adds)))
+  pub adds-few : p .changes .adds ≤ length (p .changes .added)
+  adds-few = omega (arith, adds-fit, ap length (E .logs .added) ∙ pad-length (pos 0) 64 (additions (st .log)) (omega (arith, adds-fit, E .logs .adds)))
 
-  pub mains-within : p .changes .mains ≤ length (p .changes .mainTargets)
-  mains-within = omega (arith, mains-fit, ap length (E .logs .mainTargets) ∙ pad-length (pos 0) 64 (logsMain (st .log)) (omega (arith, mains-fit, E .logs .mains)))
+  pub adds-within : {n : ℕ} → n ≡ closingAdds → n ≤ length (p .changes .added)
+  adds-within q =
+      rw q (cases second (λ t. rw t (omega arith)) (λ f. rw f adds-few))
+
+  pub mains-within : {n : ℕ} → n ≡ closingMains → n ≤ length (p .changes .mainTargets)
+  mains-within q =
+      let few : p .changes .mains ≤ length (p .changes .mainTargets) = omega (arith, mains-fit, ap length (E .logs .mainTargets) ∙ pad-length (pos 0) 64 (logsMain (st .log)) (omega (arith, mains-fit, E .logs .mains))) in
+      rw q (cases second (λ t. rw t (omega arith)) (λ f. rw f few))
 
   pub held-slice : p .held .snapshots .count ≡ length (take (p .held .snapshots .count) (p .held .ids))
   held-slice = lent-slice (st .metadata .snapshots) (E .tables .snapshots) (E .tables .ids)
 
-  pub added-slice : p .changes .adds ≡ length (take (p .changes .adds) (p .changes .added))
-  added-slice = E .logs .adds ∙ sym (ap length added-ids)
+  pub added-slice : {n : ℕ} → n ≡ closingAdds → n ≡ length (take n (p .changes .added))
+  added-slice q = rw q (cases second (λ t. rw t) (λ f. rw f (E .logs .adds ∙ sym (ap length added-ids))))
 
-  pub main-slice : p .changes .mains ≡ length (take (p .changes .mains) (p .changes .mainTargets))
-  main-slice = E .logs .mains ∙ sym (ap length main-ids)
+  pub main-slice : {n : ℕ} → n ≡ closingMains → n ≡ length (take n (p .changes .mainTargets))
+  main-slice q = rw q (cases second (λ t. rw t) (λ f. rw f (E .logs .mains ∙ sym (ap length main-ids))))
+
+  pub adds-cut : p .changes .adds ≡ length (take (p .changes .adds) (p .changes .added))
+  adds-cut = E .logs .adds ∙ sym (ap length added-ids)

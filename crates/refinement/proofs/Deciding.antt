@@ -2,7 +2,7 @@
 use Prim.Native.Nat.{ℕ, _+_, _≤_, _<_}
 use native.Mathlib.Omega.{arith}
 use mathlib.Core.Path.{_≡_, refl, sym, ap, _∙_}
-use mathlib.Core.Bool.{Bool, true, false, not, true≢false, false≢true}
+use mathlib.Core.Bool.{Bool, true, false, cond, not, true≢false, false≢true}
 use mathlib.Core.List.{List, [], _∷_}
 use lib.Dec.{eqb}
 use lib.ListN.{drop}
@@ -15,20 +15,23 @@ use Rattle.rules.specs.Register.StatisticsTable.{Statistics, PartitionStatistic
 use Rattle.rules.specs.Register.Update.{RemoveRef}
 use Rattle.rules.specs.WellFormed.{updateFormed}
 use Rattle.rules.specs.RefUpdates.{hasName, refNamed, removeRef}
-use Rattle.rules.specs.Updates.{effect}
+use Rattle.rules.specs.Replies.{updateNotFormed, othersToChange}
+use Rattle.rules.specs.Others.{isOthers}
+use Rattle.rules.specs.Updates.{offersFormed, effect}
 use Rattle.rules.specs.Run.{weight}
 use Rattle.rules.specs.Layout.{readRefs, laidRefs, laidSortOrders, laidStatistics, laidPartitionSpecs}
-use Rattle.rules.specs.Kinds.{readUpdates}
+use Rattle.rules.specs.Kinds.{readUpdate, readUpdates}
 use Rattle.rules.proofs.Checks.{by-test}
+use Rattle.start.proofs.Reading.{read-set-branch-snapshot}
 use Rattle.builder.specs.declared.decision.Decision.{Decision}
 use Rattle.builder.specs.Pieces.{laidBuilder}
 use Rattle.builder.specs.Answers.{AnswersUpdate}
-use Rattle.refinement.specs.Standing.{Given, termsOf, OwnTables, OwnTable, Slots, tableOf, withTable, OwnLists, ownLists, heldSchemas, laidOf, OwnLaid, Pieces, Represents, Standing}
+use Rattle.refinement.specs.Standing.{Given, termsOf, OwnTables, OwnTable, Slots, tableOf, withTable, OwnLists, ownLists, heldSchemas, laidOf, OwnLaid, Pieces, Represents, Passes, Standing}
 use Rattle.refinement.specs.Standing.OwnTable.{ofSchemas, ofOrders, ofStatistics, ofSpecs}
-use Rattle.refinement.specs.Turns.{Stands, Decided}
+use Rattle.refinement.specs.Turns.{updateAt, Stands, Decided}
 use Rattle.refinement.proofs.Effects.{group, statisticsGroup, Aside, aside}
 use Rattle.refinement.proofs.Logged.{push-quiet}
-use Rattle.refinement.proofs.Moving.{fits, next, not-formed-refused, check-refused, accepted}
+use Rattle.refinement.proofs.Moving.{fits, next, not-formed-refused, others-refused, check-refused, accepted}
 use Rattle.refinement.proofs.Beginning.{read-refs}
 
 -- between two updates, where no branch commit is half done
@@ -87,10 +90,21 @@ module _ {g : Given} {i : ℕ} {p : Pieces} (S : Standing g i p) (v : Update) (a
         stays = λ z t. absurd (let y : _≡_ {A = ℕ} 3 0 = sym n ∙ z in omega arith);
       }
 
+  -- 35, or 3 where what it offers is not well formed
+  pub others-decided : updateFormed v ≡ true → isOthers (g .terms .office) v (S .state .metadata) ≡ true → {fits : Bool} → fits ≡ offersFormed (termsOf g) v → (half : Bool) {d : Decision} → d .number ≡ cond fits othersToChange updateNotFormed → Decided g i half p d
+  others-decided e o {fits} f half {d} n =
+      let refused : d .number ≡ 0 → ⊥ = λ z. cases fits (λ t. let y : _≡_ {A = ℕ} 35 0 = rw t at (sym n ∙ z) in omega arith) (λ u. let y : _≡_ {A = ℕ} 3 0 = rw u at (sym n ∙ z) in omega arith) in
+      record {
+        refuses = λ y. rw n (others-refused S v at e o f);
+        room = λ z. entry-room;
+        logs = λ z t. absurd (refused z);
+        stays = λ z t. absurd (refused z);
+      }
+
   abbrev after : State
   after = effect (termsOf g) v (S .state)
 
-  module _ (e : updateFormed v ≡ true) (n : group v ≡ 0 → ⊥) (d : Decision) (A : AnswersUpdate (termsOf g) v (S .state) (d .number) (d .logs) (d .builder) (d .entry)) where
+  module _ (e : Passes (g .terms .office) v (S .state)) (n : group v ≡ 0 → ⊥) (d : Decision) (A : AnswersUpdate (termsOf g) v (S .state) (d .number) (d .logs) (d .builder) (d .entry)) where
     -- what it leaves as it was
     Q : Aside (group v) (S .state) after
     Q = aside (termsOf g) v (S .state) n
@@ -127,7 +141,7 @@ module _ {g : Given} {i : ℕ} {p : Pieces} (S : Standing g i p) (v : Update) (a
     same-tables f = record { schemas = same-own ofSchemas (f ofSchemas); orders = same-own ofOrders (f ofOrders); statistics = same-own (ofStatistics Statistics) (f (ofStatistics Statistics)); partitionStatistics = same-own (ofStatistics PartitionStatistics) (f (ofStatistics PartitionStatistics)); specs = same-own ofSpecs (f ofSpecs) }
 
   -- what a decision comes to, by the family of the update
-  module _ (e : updateFormed v ≡ true) {d : Decision} (A : AnswersUpdate (termsOf g) v (S .state) (d .number) (d .logs) (d .builder) (d .entry)) where
+  module _ (e : Passes (g .terms .office) v (S .state)) {d : Decision} (A : AnswersUpdate (termsOf g) v (S .state) (d .number) (d .logs) (d .builder) (d .entry)) where
     -- it changes single fields alone
     pub fields-decided : group v ≡ 1 → Decided g i false p d
     fields-decided k =
@@ -173,3 +187,14 @@ module _ {g : Given} {st : State} {p : Pieces} (E : Represents g st p) where
       q ∙ rw (read-refs E, w) (ap laidRefs
       (by-test (λ (s : State). keep (λ x. not (hasName name x)) (st .metadata .refs) ≡ s .metadata .refs) (isMain name) (λ t. refl)
       (λ f. by-test (λ (s : State). keep (λ x. not (hasName name x)) (st .metadata .refs) ≡ s .metadata .refs) (isSome (refNamed name (st .metadata .refs))) (λ t. refl) (λ u. none-passes (hasName name) (st .metadata .refs) u))))
+
+-- ---- an update that is the other office's
+
+-- whether a branch commit is half done or not: one that is was not the other's
+pub others-stand : {g : Given} {i : ℕ} {half : Bool} {p : Pieces} → Stands g i half p → drop i (readUpdates (g .updates)) ≡ readUpdate (updateAt g i) ∷ drop (i + 1) (readUpdates (g .updates)) → 1 ≤ weight (readUpdate (updateAt g i)) → updateFormed (readUpdate (updateAt g i)) ≡ true
+    → ((st : State) → Represents g st p → isOthers (g .terms .office) (readUpdate (updateAt g i)) (st .metadata) ≡ true) → {fits : Bool} → fits ≡ offersFormed (termsOf g) (readUpdate (updateAt g i)) → {d : Decision} → d .number ≡ cond fits othersToChange updateNotFormed → Decided g i false p d
+unfolding isOthers
+others-stand {g} {i} {half} S at one e o f n =
+    cases half
+    (λ t. let M = S .midway t in absurd (false≢true (sym (M .own) ∙ rw (read-set-branch-snapshot (updateAt g i) e (S .commit t .0)) at (o (M .state) (M .stands)))))
+    (λ w. let W = S .whole w in others-decided W (readUpdate (updateAt g i)) at one e (o (W .state) (W .stands)) f false n)

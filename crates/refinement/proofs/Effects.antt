@@ -51,7 +51,7 @@ unfolding setRef
 set-moves terms name r st =
     by-test (Moves 1 st) (isHeldRef name r (st .metadata .refs))
     (λ e. still 1 st)
-    (λ e. by-test (λ (x : State). Moves 1 st (logged (SetRef name r) (putRef name r x))) (isMain name) (λ f. one (SetRef name r) st _ refl refl refl) (λ f. one (SetRef name r) st _ refl refl refl))
+    (λ e. by-test (λ (x : State). Moves 1 st (logged (SetRef name r) (putRef (terms .office) name r x))) (isMain name) (λ f. one (SetRef name r) st _ refl refl refl) (λ f. one (SetRef name r) st _ refl refl refl))
 
 pub moves : (terms : Terms) (u : Update) (st : State) → Moves (weight u) st (effect terms u st)
 unfolding effect assignUuid upgradeFormatVersion setLocation removeSnapshots setBranchSnapshot removeRef addSchema setCurrentSchema removeSchemas addSortOrder setDefaultSortOrder setStatistics removeStatistics specAdded addPartitionSpec setDefaultPartitionSpec removePartitionSpecs

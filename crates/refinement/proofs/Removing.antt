@@ -14,9 +14,9 @@ use Rattle.rules.specs.Words.{isIn, isEmpty, keep, ascending}
 use Rattle.rules.specs.Register as plain
 use Rattle.rules.specs.Register.{Update, State}
 use Rattle.rules.specs.Register.Update.{RemoveSnapshots}
-use Rattle.rules.specs.WellFormed.{updateFormed, snapshotBelow, pointsIn}
+use Rattle.rules.specs.WellFormed.{snapshotBelow, pointsIn}
 use Rattle.rules.specs.SnapshotUpdates.{removeSnapshots, heldSnapshots, otherSnapshots}
-use Rattle.rules.specs.Updates.{checks, effect}
+use Rattle.rules.specs.Updates.{offersFormed, checks, effect}
 use Rattle.rules.specs.Run.{weight}
 use Rattle.rules.specs.Layout.{pad, readSnapshots, laidSnapshots, readRefs, laidRefs}
 use Rattle.rules.specs.Kinds.{readUpdates}
@@ -28,7 +28,7 @@ use Rattle.builder.specs.declared.decision.Decision.{Decision}
 use Rattle.builder.specs.Pieces.{laidBuilder, idsOf}
 use Rattle.builder.proofs.Positions.{in-held}
 use Rattle.snapshot_updates.specs.Snapshots.{SnapshotsGone}
-use Rattle.refinement.specs.Standing.{Given, termsOf, Pieces, withRemoval, Tables, Standing}
+use Rattle.refinement.specs.Standing.{Given, termsOf, Pieces, withRemoval, Tables, Passes, Standing}
 use Rattle.refinement.specs.Turns.{Decided}
 use Rattle.refinement.proofs.Logged.{push-removal}
 use Rattle.refinement.proofs.Moving.{fits, next, accepted}
@@ -54,7 +54,7 @@ removed t is r b p =
       changes = withRemoval b (p .changes);
     }
 
-module _ {g : Given} {i : ℕ} {p : Pieces} (S : Standing g i p) (v : Update) (at : drop i (readUpdates (g .updates)) ≡ v ∷ drop (i + 1) (readUpdates (g .updates))) (one : 1 ≤ weight v) (e : updateFormed v ≡ true) (xs : List ℤ) (w : v ≡ RemoveSnapshots xs) where
+module _ {g : Given} {i : ℕ} {p : Pieces} (S : Standing g i p) (v : Update) (at : drop i (readUpdates (g .updates)) ≡ v ∷ drop (i + 1) (readUpdates (g .updates))) (one : 1 ≤ weight v) (e : Passes (g .terms .office) v (S .state)) (xs : List ℤ) (w : v ≡ RemoveSnapshots xs) where
   -- of the table as it is held
   kept : List plain.Snapshot
   kept = otherSnapshots xs (readSnapshots (p .held .snapshots))
@@ -98,7 +98,7 @@ module _ {g : Given} {i : ℕ} {p : Pieces} (S : Standing g i p) (v : Update) (a
 
   pub removed-decided : {d : Decision} → SnapshotsGone xs (S .state) d → {t : Snapshots} {is : List ℤ} {r : Refs} → t ≡ laidSnapshots (otherSnapshots xs (readSnapshots (p .held .snapshots))) → is ≡ pad 64 (pos 0) (idsOf (readSnapshots t)) → r ≡ laidRefs (keep (λ y. isIn (take (t .count) is) (y .reference .snapshot)) (readRefs (p .held .refs)))
       → Decided g i false (removed t is r (d .logs) p) d
-  unfolding checks effect removeSnapshots laidBuilder
+  unfolding checks offersFormed effect removeSnapshots laidBuilder
   removed-decided {d} D x y z =
       let T = tables x y z (d .logs) in
       let a = accepted S v at e {n = 0} (rw w) refl in

@@ -22,16 +22,18 @@ use Rattle.rules.specs.Names.{isMain}
 use Rattle.rules.specs.Register as plain
 use Rattle.rules.specs.Register.{Update, State}
 use Rattle.rules.specs.Register.Update.{SetRef}
-use Rattle.rules.specs.WellFormed.{updateFormed, refBelow, hasSnapshot, holdsSnapshot}
+use Rattle.rules.specs.WellFormed.{refBelow, hasSnapshot, holdsSnapshot}
 use Rattle.rules.specs.ChangeLog.{logsAddition}
-use Rattle.rules.specs.RefUpdates.{refNamed, isHeldRef, setRefChecks, setRef, timeOf, ownAfter}
-use Rattle.rules.specs.Updates.{checks, effect}
+use Rattle.rules.specs.RefUpdates.{refNamed, isHeldRef, setRefChecks, setRef, timeOf, ownAfter, ownerAfter}
+use Rattle.rules.specs.Updates.{offersFormed, checks, effect}
+use Rattle.rules.specs.Others.{isOthers}
 use Rattle.rules.specs.Run.{weight}
-use Rattle.rules.specs.Layout.{given, readReference, laidReference, readRef, laidRef, readRefs, laidRefs, readSnapshot, readSnapshots, laidLogEntry, laidSnapshotLog}
+use Rattle.rules.specs.Layout.{given, readReference, laidReference, readRefs, laidRefs, readSnapshot, readSnapshots, laidLogEntry, laidSnapshotLog}
 use Rattle.rules.specs.Kinds.{readUpdates, laidUpdate, setRefKind}
 use Rattle.rules.proofs.Checks.{and-left, and-right, passed-unless}
-use Rattle.rules.proofs.Slots.Reread.{reread-ref}
+use Rattle.rules.proofs.Slots.Reread.{reread-ref-name, reread-reference}
 use Rattle.search.specs.Places.{indexOf}
+use Rattle.tables.specs.Laid.{ownedRef}
 use Rattle.tables.proofs.Table.{at, read-length}
 use Rattle.tables.proofs.Each.{tidy-snapshots, tidy-snapshot-log, made-snapshot-log}
 use Rattle.tables.proofs.Push.{pushed-one}
@@ -43,7 +45,7 @@ use Rattle.builder.proofs.Positions.{snapshot-place, snapshot-found}
 use Rattle.ref_updates.specs.Refs.{Faced, RefSet, RefDecided}
 use Rattle.close.proofs.Scans.{last-added}
 use Rattle.close.specs.Facts.{additions}
-use Rattle.refinement.specs.Standing.{Given, termsOf, Pieces, withMain, Represents, Standing}
+use Rattle.refinement.specs.Standing.{Given, termsOf, Pieces, withMain, Represents, Passes, Standing}
 use Rattle.refinement.specs.Turns.{updateAt, nameAt, Midway, Decided}
 use Rattle.refinement.proofs.Logged.{push-quiet, push-main, logs-addition}
 use Rattle.refinement.proofs.Moving.{fits, next, check-refused, accepted}
@@ -91,14 +93,15 @@ module _ {g : Given} {st : State} {p : Pieces} (E : Represents g st p) where
 
 -- ---- a ref by itself
 
-pub set-midway : {g : Given} {i : ℕ} {p : Pieces} (S : Standing g i p) (v : Update) (at : drop i (readUpdates (g .updates)) ≡ v ∷ drop (i + 1) (readUpdates (g .updates))) (one : 1 ≤ weight v) (e : updateFormed v ≡ true)
+pub set-midway : {g : Given} {i : ℕ} {p : Pieces} (S : Standing g i p) (v : Update) (at : drop i (readUpdates (g .updates)) ≡ v ∷ drop (i + 1) (readUpdates (g .updates))) (one : 1 ≤ weight v) (e : Passes (g .terms .office) v (S .state))
     → v ≡ SetRef (nameAt g i) (readReference (updateAt g i .refs .reference)) → updateAt g i .kind ≡ setRefKind → Midway g i p
-unfolding checks effect
+unfolding checks offersFormed effect isOthers
 set-midway {g} {i} S v at one e q k =
     record {
       state = S .state;
       stands = S .stands;
       more = omega (arith, fits S v at);
+      own = rw q at (e .own);
       wanted = readReference (updateAt g i .refs .reference);
       asks = rw k;
       refuses = λ n y. check-refused S v at e (rw q n) y;
@@ -151,12 +154,15 @@ module _ {g : Given} {i : ℕ} {p : Pieces} (W : Midway g i p) {d : Decision} (D
   grows z t = D .grows ∙ rw (t, eq-eqb (d .number) 0 z)
 
   -- the refs after it
-  module _ {r : Refs} (q : r ≡ cond (d .grows) (laidRefs (put refBelow (readRef (d .entry .refs)) (readRefs (p .held .refs)))) (p .held .refs)) where
-    refs-after : d .grows ≡ true → r ≡ laidRefs (put refBelow (record { name = name; reference = w }) (W .state .metadata .refs))
-    unfolding laidUpdate laidRef
+  module _ {r : Refs} (q : r ≡ cond (d .grows) (laidRefs (put refBelow (ownedRef (g .terms .office) (d .entry .refs) (readRefs (p .held .refs))) (readRefs (p .held .refs)))) (p .held .refs)) where
+    refs-after : d .grows ≡ true → r ≡ laidRefs (put refBelow (record { name = name; owner = ownerAfter (g .terms .office) name (W .state .metadata .refs); reference = w }) (W .state .metadata .refs))
+    unfolding laidUpdate
     refs-after t =
-        let n : readRef (d .entry .refs) ≡ record { name = name; reference = w } = ap (λ (e : TableUpdate). readRef (e .refs)) (D .entry) ∙ reread-ref (record { name = name; reference = w }) in
-        q ∙ rw (t, n, read-refs (W .stands))
+        let l : List plain.NamedRef = W .state .metadata .refs in
+        let n : ownedRef (g .terms .office) (d .entry .refs) l ≡ record { name = name; owner = ownerAfter (g .terms .office) name l; reference = w } =
+        ap (λ (e : TableUpdate). ownedRef (g .terms .office) (e .refs) l) (D .entry)
+        ∙ (λ i. record { name = reread-ref-name name i; owner = ownerAfter (g .terms .office) (reread-ref-name name i) l; reference = reread-reference w i }) in
+        q ∙ rw (t, read-refs (W .stands), n)
 
     pub other-decided : (d .grows && isMain name) ≡ false → Decided g i false (tabled r (p .held .ownTables) p) d
     unfolding setRefChecks setRef

@@ -7,12 +7,13 @@ use borrow.Author.Tests.{eqb-true, eqb-false}
 use borrow.Table.Steps.{cases}
 use lib.Dec.{eqb}
 use Rattle.records.specs.declared.update.TableUpdate.{TableUpdate}
+use Rattle.rules.specs.Register.{State}
 use Rattle.rules.specs.WellFormed.{updateFormed}
 use Rattle.rules.specs.Kinds.{atKind, readings, readKind, readUpdate, assignUuidKind, setLocationKind, setBranchSnapshotKind, removeRefKind, addSchemaKind, removeSchemasKind, setDefaultSortOrderKind, removeStatisticsKind, removePartitionStatisticsKind, addPartitionSpecKind}
 use Rattle.builder.specs.declared.decision.Decision.{Decision}
 use Rattle.schema_updates.specs.Keys.{KeysFit}
 use Rattle.start.proofs.Reading.{formed-tidy, read-tidy, bounds}
-use Rattle.refinement.specs.Standing.{Given, Pieces, Standing}
+use Rattle.refinement.specs.Standing.{Given, Pieces, Represents, Standing}
 use Rattle.refinement.specs.Turns.{updateAt, Stands, Decided, Turn}
 use Rattle.refinement.proofs.Effects.{group}
 
@@ -24,6 +25,10 @@ module _ {g : Given} {place : ℕ} {half : Bool} {p : Pieces} where
   -- and only one that is well formed
   pub unformed : Stands g place half p → updateFormed (readUpdate (updateAt g place)) ≡ false → Standing g place p
   unformed S n = cases half (λ t. absurd (true≢false (sym (S .commit t .2) ∙ n))) (λ f. S .whole f)
+
+  -- the pieces stand for a state, whether one is half done or not
+  pub represented : Stands g place half p → (st : State) × Represents g st p
+  represented S = cases half (λ t. (S .midway t .state, S .midway t .stands)) (λ f. (S .whole f .state, S .whole f .stands))
 
   -- nor is it at the end of the list
   pub at-the-end : Stands g place half p → g .updates .count ≤ place → Standing g place p

@@ -1,7 +1,7 @@
 -- The pieces that a run holds, and how they stand to a state of the rules.
 use Prim.Native.Nat.{ℕ, _+_, _≤_}
 use mathlib.Core.Path.{_≡_}
-use mathlib.Core.Bool.{Bool, true, _||_}
+use mathlib.Core.Bool.{Bool, true, false, _||_}
 use mathlib.Core.List.{List, map}
 use lib.Dec.{ltb}
 use lib.IntN.{ℤ, pos}
@@ -20,13 +20,15 @@ use Rattle.records.specs.declared.update.TableUpdate.{TableUpdate}
 use Rattle.records.specs.declared.update.UpdateList.{UpdateList}
 use Rattle.records.specs.declared.run.RunTerms.{RunTerms}
 use Rattle.records.specs.declared.run.Answer.{Answer}
-use Rattle.rules.specs.Words.{total}
+use Rattle.rules.specs.Words.{total, any}
 use Rattle.rules.specs.Register as plain
 use Rattle.rules.specs.Register.{StatisticsTable, Metadata, Update, Terms, State}
 use Rattle.rules.specs.Register.StatisticsTable.{Statistics, PartitionStatistics}
 use Rattle.rules.specs.ChangeLog.{logsMain, logsRemoval}
+use Rattle.rules.specs.WellFormed.{updateFormed}
+use Rattle.rules.specs.Others.{isSecond, isOthersRef, isOthers}
 use Rattle.rules.specs.Run.{weight, runFrom, started}
-use Rattle.rules.specs.Layout.{given, pad, laidSnapshots, laidRefs, laidSnapshotLog, laidSchemas, laidSortOrders, laidStatistics, laidPartitionSpecs, readMetadata, readMetadataLog, laidMetadataLog}
+use Rattle.rules.specs.Layout.{given, pad, laidSnapshots, laidRefs, laidSnapshotLog, laidSchemas, laidSortOrders, laidStatistics, laidPartitionSpecs, readMetadata, readRefs, readMetadataLog, laidMetadataLog}
 use Rattle.rules.specs.Kinds.{readUpdates, laidUpdate}
 use Rattle.rules.specs.Answer.{Lent, readTerms, answer}
 use Rattle.rules.proofs.Sound.Metadata.{Sound}
@@ -197,13 +199,14 @@ pub record Logs (l : List Update) (c : Changes) : Type 0 where
   pub mains : c .mains ≡ length (logsMain l)
   pub removal : c .removal ≡ logsRemoval l
 
--- What has been so since the start. No update changes the metadata log, nor the old last update, which the close still needs; and where the
--- start was accepted, the log that was given is laid out, and the file's name is not too long.
+-- What has been so since the start. No update changes the metadata log, nor the old last update, which the close still needs, nor whether an
+-- update can be the other office's; and where the start was accepted, the log that was given is laid out, and the file's name is not too long.
 pub record SinceStart (g : Given) (st : State) : Type 0 where
   pub files : st .metadata .metadataLog ≡ readMetadataLog (g .metadata .«metadata_log»)
   pub old : st .metadata .fields .lastUpdated ≡ g .metadata .fields .«last_updated_ms» .0
   pub back : laidMetadataLog (readMetadataLog (g .metadata .«metadata_log»)) ≡ g .metadata .«metadata_log»
   pub short : g .terms .«has_file» ≡ true → g .terms .file .len ≤ 96
+  pub shared : (isSecond (g .terms .office) || any (isOthersRef (g .terms .office)) (st .metadata .refs)) ≡ (isSecond (g .terms .office) || any (isOthersRef (g .terms .office)) (readRefs (g .metadata .refs)))
 
 -- the pieces stand for the state
 pub record Represents (g : Given) (st : State) (p : Pieces) : Type 0 where
@@ -212,6 +215,13 @@ pub record Represents (g : Given) (st : State) (p : Pieces) : Type 0 where
   pub tables : Tables st (p .held)
   pub logs : Logs (st .log) (p .changes)
   pub room : length (st .log) ≤ 64
+
+-- ---- an update that comes to its checks
+
+-- it is well formed, and is not the other office's
+pub record Passes (office : ℕ) (u : Update) (st : State) : Type 0 where
+  pub formed : updateFormed u ≡ true
+  pub own : isOthers office u (st .metadata) ≡ false
 
 -- ---- between two updates
 

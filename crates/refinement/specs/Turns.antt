@@ -13,6 +13,7 @@ use Rattle.rules.specs.Register.{State, Reference}
 use Rattle.rules.specs.Register.Outcome.{Refused}
 use Rattle.rules.specs.WellFormed.{updateFormed}
 use Rattle.rules.specs.RefUpdates.{setRefChecks, setRef}
+use Rattle.rules.specs.Others.{namesOthers}
 use Rattle.rules.specs.Layout.{readName}
 use Rattle.rules.specs.Kinds.{setBranchSnapshotKind, readUpdate}
 use Rattle.rules.specs.Answer.{laidOutcome}
@@ -49,13 +50,14 @@ nameAt g i = readName (updateAt g i .refs .name)
 abbrev pub RefusedWith : Given → ℕ → ℕ → Type 0
 RefusedWith g number place = laidOutcome (g .metadata) (Refused number place) ≡ answerOf g
 
--- The ref of the update at a place is still to be set: a set ref, or a branch commit that has added its snapshot. The pieces stand for a
--- state, and `wanted` is the ref. Where setting it in that state is refused, so is the run; where it is not, the state after it is the one
+-- The ref of the update at a place is still to be set: a set ref, or a branch commit that has added its snapshot. Its name is not the other office's. The
+-- pieces stand for a state, and `wanted` is the ref. Where setting it in that state is refused, so is the run; where it is not, the state after it is the one
 -- after the whole update.
 pub record Midway (g : Given) (i : ℕ) (p : Pieces) : Type 0 where
   pub state : State
   pub stands : Represents g state p
   pub more : length (state .log) < 64
+  pub own : namesOthers (g .terms .office) (nameAt g i) (state .metadata) ≡ false
   pub wanted : Reference
   pub asks : wanted ≡ askedRef (updateAt g i) (state .metadata .refs)
   pub refuses : {n : ℕ} → n ≡ firstOf (setRefChecks (nameAt g i) wanted state) → (n ≡ 0 → ⊥) → RefusedWith g n i

@@ -19,6 +19,10 @@ use close::files::staying;
 use close::files::surplus;
 use close::history::close_log;
 use formed::metadata::is_formed;
+use offices::closing;
+use offices::is_others;
+use offices::is_shared;
+use offices::others_number;
 use order_updates::family as order_family;
 use partitions::names::is_taken;
 use partitions::names::meets_partition;
@@ -28,6 +32,7 @@ use records::replies::ACCEPTED;
 use records::replies::UPDATE_NOT_FORMED;
 use records::run::Answer;
 use records::run::RunTerms;
+use records::run::SECOND_OFFICE;
 use records::update::ADD_SCHEMA;
 use records::update::ADD_SNAPSHOT;
 use records::update::REMOVE_PARTITION_STATISTICS;
@@ -133,6 +138,8 @@ pub fn run(
     let mut log = metadata.snapshot_log;
     let mut last = last_time(log, terms.clock_ms);
     let mut schemas = metadata.schemas;
+    // Whether an update can be the other office's.
+    let shared = is_shared(terms.office, refs);
     while (place < listed) & (place < 64) {
         sum += weight(updates.items[place].kind);
         place += 1;
@@ -164,6 +171,15 @@ pub fn run(
         let kind = update.kind;
         if !formed::update::is_formed(update) {
             decision = decided(UPDATE_NOT_FORMED, false, builder, update);
+            continue;
+        }
+        let mut others = false;
+        if shared {
+            others = is_others(terms.office, refs, snapshots, log, update);
+        }
+        if others {
+            let fits = offers::is_formed(update, offers);
+            decision = decided(others_number(fits), false, builder, update);
             continue;
         }
         if kind <= SET_LOCATION {
@@ -220,7 +236,7 @@ pub fn run(
                 terms.clock_ms,
                 update,
             );
-            refs = refs_after(refs, decision);
+            refs = refs_after(refs, decision, terms.office);
             let main = is_main_name(update.refs.name);
             if !(decision.grows & main) {
                 continue;
@@ -307,6 +323,9 @@ pub fn run(
     }
     let fields = builder.fields;
     let held = snapshots.count;
+    adds = closing(terms.office, adds);
+    mains = closing(terms.office, mains);
+    removal = removal & (terms.office != SECOND_OFFICE);
     let history = close_log(
         log,
         &ids[..held],

@@ -7,16 +7,18 @@ use plaintext::template::say_part;
 use records::capacities;
 use records::counters::Age;
 use records::run::DEFAULT_TOLERANCE_MS;
+use records::run::FIRST_OFFICE;
 use tokens::output::Output;
 
 // The number and the place of the run's answer, the fault of its start, where its metadata first differs from the ending one, and the
-// tolerance that it was given.
+// tolerance and the office that it was given.
 pub struct Judged {
     pub number: u8,
     pub place: usize,
     pub fault: u8,
     pub difference: Difference,
     pub tolerance_ms: Age,
+    pub office: u8,
 }
 
 // How many records a table has room for; 0 for a single field.
@@ -51,7 +53,8 @@ fn kind_of_place(place: usize, slots: usize) -> i64 {
     RECORD
 }
 
-// the part that differs, whether its place is a count or a record's, whether the tolerance is not the usual one, the tolerance; the place
+// the part that differs, whether its place is a count or a record's, whether the tolerance is not the usual one, the tolerance, whether the office is not
+// the first, the office; the place
 fn card_of(judged: Judged) -> Card {
     let difference = judged.difference;
     let place = kind_of_place(difference.place, slots_of(difference.part));
@@ -63,8 +66,8 @@ fn card_of(judged: Judged) -> Card {
             place,
             is_unusual as i64,
             tolerance,
-            0,
-            0,
+            (judged.office != FIRST_OFFICE) as i64,
+            judged.office as i64,
             0,
             0,
         ],
@@ -99,7 +102,7 @@ fn say_difference(output: &mut Output, end: &mut usize, judged: Card) {
     say_part(output, end, template, 0, 0, judged);
 }
 
-// A tolerance is said if it is not the usual one.
+// A tolerance is said if it is not the usual one, an office if it is not the first.
 pub fn say_judged(output: &mut Output, end: &mut usize, judged: Judged) {
     let card = card_of(judged);
     if judged.number != 0 {
@@ -107,5 +110,6 @@ pub fn say_judged(output: &mut Output, end: &mut usize, judged: Judged) {
     } else {
         say_difference(output, end, card);
     }
-    say_part(output, end, b"?2{| (tolerance #3 ms)}\n", 0, 0, card);
+    let terms = b"?2{| (tolerance #3 ms)}?4{| (office #5)}\n";
+    say_part(output, end, terms, 0, 0, card);
 }

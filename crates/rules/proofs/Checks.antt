@@ -2,12 +2,12 @@
 use Prim.Native.Nat.{ℕ, _<_}
 use native.Mathlib.Omega.{arith}
 use mathlib.Core.Path.{_≡_, refl}
-use mathlib.Core.Bool.{Bool, true, false, cond, not, _&&_, _||_, false≢true, true≢false}
+use mathlib.Core.Bool.{Bool, true, false, cond, _&&_, _||_, false≢true, true≢false}
 use mathlib.Core.List.{List, [], _∷_, _++_}
 use mathlib.Core.Option.{Option, none, some}
 use lib.Dec.{ltb, leb}
 use lib.ListN.{length}
-use borrow.Author.Tests.{ltb-true, not-false}
+use borrow.Author.Tests.{ltb-true}
 use Rattle.rules.specs.Words.{isSome, all, unequalBy, sameBytes, unequal, firstOf, Check}
 use Rattle.rules.specs.Capacities.{schemaFieldRoom}
 use Rattle.rules.specs.Register.{Schema, PartitionField, PartitionSpec}
@@ -131,17 +131,6 @@ passed-after (c ∷ cs) ds p e = go (c .0) (passed-after cs ds (and-right (ltb 0
     go : (b : Bool) → (firstOf (cs ++ ds) ≡ 0 → firstOf ds ≡ 0) → cond b (c .1) (firstOf (cs ++ ds)) ≡ 0 → firstOf ds ≡ 0
     go true ih e = failed (c .1) (and-left (ltb 0 (c .1)) (numbered cs) p) e
     go false ih e = ih e
-
--- the check of a form that comes first, and others after it
-module _ (formed : Bool) (n : ℕ) (p : ltb 0 n ≡ true) (cs : List Check) where
-  abbrev form-check : List Check
-  form-check = (not formed, n) ∷ []
-
-  pub form-passed : firstOf ((not formed, n) ∷ cs) ≡ 0 → formed ≡ true
-  form-passed e = not-false formed (passed form-check (rw p) (passed-before form-check cs e) .0)
-
-  pub form-after : firstOf ((not formed, n) ∷ cs) ≡ 0 → firstOf cs ≡ 0
-  form-after e = passed-after form-check cs (rw p) e
 
 -- the number of checks that fail, and of others after them
 pub first-before : (cs ds : List Check) → (firstOf cs ≡ 0 → ⊥) → firstOf (cs ++ ds) ≡ firstOf cs

@@ -3,6 +3,7 @@ pub mod Examples
 pub mod Checks
 pub mod Orders
 pub mod Tables
+pub mod Unlisted
 pub mod Fresh
 pub mod Reuse
 pub mod Slots
@@ -12,3 +13,4 @@ pub mod Rows
 pub mod FieldIds
 pub mod Answer
 pub mod History
+pub mod Offices

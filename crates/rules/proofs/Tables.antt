@@ -2,14 +2,14 @@
 use Prim.Native.Nat.{ℕ, zero, suc, _≤_, _<_}
 use native.Mathlib.Omega.{arith}
 use mathlib.Core.Path.{_≡_, refl, sym, ap, ap₂, _∙_, subst}
-use mathlib.Core.Bool.{Bool, true, false, cond, _&&_, _||_, false≢true, true≢false, and-false}
+use mathlib.Core.Bool.{Bool, true, false, cond, not, _&&_, _||_, false≢true, true≢false, and-false, or-true}
 use mathlib.Core.List.{List, [], _∷_, _++_, map}
-use mathlib.Core.Option.{Option, some}
+use mathlib.Core.Option.{Option, none, some}
 use lib.Dec.{leb}
 use lib.ListN.{length, getD, drop, length-append}
 use borrow.Author.Tests.{leb-true, le-leb}
 use borrow.Table.Steps.{cases}
-use Rattle.rules.specs.Words.{isSome, ifSome, all, any, keep, first, afterLast, eachPair, ascending, put}
+use Rattle.rules.specs.Words.{isSome, ifSome, someWith, all, any, keep, first, afterLast, eachPair, ascending, put}
 use Rattle.rules.proofs.Checks.{by-test, both, and-left, and-right, or-left, or-right, by-either}
 use Rattle.rules.proofs.Orders.{Ordered, Tells}
 
@@ -68,6 +68,19 @@ module _ {A : Type 0} (p : A → Bool) where
   all-first q [] h = refl
   all-first q (x ∷ l) h = by-test (λ (o : Option A). ifSome p o ≡ true) (q x) (λ e. all-head x l h) (λ e. all-first q l (all-tail x l h))
 
+  -- a test that holds for nothing holds for none of a list
+  pub any-none : ((x : A) → p x ≡ false) → (l : List A) → any p l ≡ false
+  any-none f [] = refl
+  any-none f (x ∷ l) = rw (f x) (any-none f l)
+
+  -- one of two tests holds for some exactly if one of them holds for some
+  pub any-or : (q : A → Bool) (l : List A) → any (λ x. p x || q x) l ≡ any p l || any q l
+  any-or q [] = refl
+  any-or q (x ∷ l) =
+      cases (p x)
+      (λ t. rw t)
+      (λ f. cases (q x) (λ t. rw (f, t) (sym (or-true (any p l)))) (λ g. rw (f, g) (any-or q l)))
+
   -- one that is sought stays if its like are kept
   pub any-keep : (q : A → Bool) → ((x : A) → p x ≡ true → q x ≡ true) → (l : List A) → any p l ≡ true → any p (keep q l) ≡ true
   any-keep q f [] h = h
@@ -75,6 +88,16 @@ module _ {A : Type 0} (p : A → Bool) where
       by-test (λ (r : List A). any p r ≡ true) (q x)
       (λ e. by-either (p x) (any p l) (or-left (any p (keep q l))) (λ k. or-right (p x) (any-keep q f l k)) h)
       (λ e. by-either (p x) (any p l) (λ k. absurd (true≢false (sym (f x k) ∙ e))) (any-keep q f l) h)
+
+  -- what is kept of those that pass another test, where all that are kept pass it
+  pub keep-among : (q : A → Bool) (l : List A) → all q (keep p l) ≡ true → keep p (keep q l) ≡ keep p l
+  keep-among q [] h = refl
+  keep-among q (x ∷ l) h =
+      cases (p x)
+      (λ e. let k : q x && all q (keep p l) ≡ true = rw e at h in
+      rw (and-left (q x) (all q (keep p l)) k, e, keep-among q l (and-right (q x) (all q (keep p l)) k)))
+      (λ e. let ih : keep p (keep q l) ≡ keep p l = keep-among q l (rw e at h) in
+      by-test (λ (r : List A). keep p r ≡ keep p (x ∷ l)) (q x) (λ f. rw e ih) (λ f. rw e ih))
 
   -- one with a property is found exactly if there is one
   pub first-any : (l : List A) → isSome (first p l) ≡ any p l
@@ -84,6 +107,15 @@ module _ {A : Type 0} (p : A → Bool) where
       go : (b : Bool) → isSome (first p l) ≡ any p l → isSome (cond b (some x) (first p l)) ≡ (b || any p l)
       go true ih = refl
       go false ih = ih
+
+  -- where all that are sought pass another test, the one that is found is found among those that pass it
+  pub first-among : (q f : A → Bool) → ((x : A) → f x ≡ true → p x ≡ true → q x ≡ true) → (l : List A) → all f l ≡ true → first p (keep q l) ≡ first p l
+  first-among q f g [] h = refl
+  first-among q f g (x ∷ l) h =
+      let ih : first p (keep q l) ≡ first p l = first-among q f g l (and-right (f x) (all f l) h) in
+      cases (p x)
+      (λ e. rw (g x (and-left (f x) (all f l) h) e, e))
+      (λ e. by-test (λ (r : List A). first p r ≡ first p (x ∷ l)) (q x) (λ u. rw e ih) (λ u. rw e ih))
 
   pub keep-length : (l : List A) → length (keep p l) ≤ length l
   keep-length [] = omega arith
@@ -97,6 +129,11 @@ module _ {A : Type 0} (p : A → Bool) where
       let ih : length (afterLast p l) ≤ length l = afterLast-length l in
       let P : List A → Type 0 = λ r. length r ≤ suc (length l) in
       by-test P (any p l) (λ e. omega arith) (λ e. by-test P (p x) (λ f. omega arith) (λ f. omega arith))
+
+-- whether some of one list are so to some of another, asked from either
+pub any-turned : {A B : Type 0} (r : A → B → Bool) (l : List A) (m : List B) → any (λ a. any (r a) m) l ≡ any (λ b. any (λ a. r a b) l) m
+any-turned r [] m = sym (any-none (λ b. false) (λ b. refl) m)
+any-turned r (a ∷ l) m = rw (any-turned r l m) (sym (any-or (r a) (λ b. any (λ x. r x b) l) m))
 
 -- what is read of each element
 module _ {A B : Type 0} (f : A → B) where
@@ -198,6 +235,18 @@ module _ {A K : Type 0} {lt : K → K → Bool} (o : Ordered lt) (key : A → K)
       (λ f. by-either (p x) (any p l) (or-left (any p (put (byKey lt key) a l))) (λ k. or-right (p x) (any-put q a l k)) h)
       (λ f. by-either (p x) (any p l) (λ k. or-left (any p l) (rw (o .connected (key x) (key a) f e) at k)) (or-right (p a)) h))
 
+  -- a test of the key that fails for what is put in finds what it found
+  pub first-put : (q : K → Bool) (a : A) (l : List A) → q (key a) ≡ false → first (λ (x : A). q (key x)) (put (byKey lt key) a l) ≡ first (λ (x : A). q (key x)) l
+  first-put q a [] h = rw h
+  first-put q a (x ∷ l) h =
+      let p : A → Bool = λ y. q (key y) in
+      let P : List A → Type 0 = λ r. first p r ≡ first p (x ∷ l) in
+      by-test P (lt (key a) (key x))
+      (λ e. rw h)
+      (λ e. by-test P (lt (key x) (key a))
+      (λ f. ap (λ (o : Option A). cond (p x) (some x) o) (first-put q a l h))
+      (λ f. let k : q (key x) ≡ false = rw (o .connected (key x) (key a) f e) h in rw (h, k)))
+
   module _ {same : K → K → Bool} (t : Tells same) where
     -- a key below all of a table is none of its keys
     absent : (k : K) (l : List A) → all (λ (x : A). lt k (key x)) l ≡ true → any (λ (x : A). same (key x) k) l ≡ true → ⊥
@@ -220,6 +269,70 @@ module _ {A K : Type 0} {lt : K → K → Bool} (o : Ordered lt) (key : A → K)
         (λ i. absurd (false≢true (sym (o .irreflexive (key a)) ∙ (rw (t .equal (key x) (key a) i) at g))))
         (λ i. ap suc (put-length-held a l (pairs-tail (byKey lt key) x l h) i)) e)
         (λ g. refl))
+
+    -- unequal keys are not the same
+    differs : (j k : K) → (j ≡ k → ⊥) → same j k ≡ false
+    differs j k n = cases (same j k) (λ e. absurd (n (t .equal j k e))) (λ e. e)
+
+    -- a key that is below another is unequal to it
+    below-unequal : (j k : K) → lt j k ≡ true → j ≡ k → ⊥
+    below-unequal j k h e = false≢true (sym (o .irreflexive k) ∙ (rw e at h))
+
+    -- above an element with a key none has it
+    first-above : (x : A) (k : K) (l : List A) → same (key x) k ≡ true → all (byKey lt key x) l ≡ true → first (λ (y : A). same (key y) k) l ≡ none
+    first-above x k [] e h = refl
+    first-above x k (y ∷ l) e h =
+        let d : same (key y) k ≡ false = differs (key y) k (λ q. below-unequal (key x) (key y) (all-head (byKey lt key x) y l h) (t .equal (key x) k e ∙ sym q)) in
+        rw d (first-above x k l e (all-tail (byKey lt key x) y l h))
+
+    -- where the one with a key passes a test, it is the one among those that pass
+    pub first-keep : (p : A → Bool) (k : K) (x : A) (l : List A) → first (λ (y : A). same (key y) k) l ≡ some x → p x ≡ true → first (λ (y : A). same (key y) k) (keep p l) ≡ some x
+    first-keep p k x [] e h = e
+    first-keep p k x (y ∷ l) e h =
+        cases (same (key y) k)
+        (λ s. let q : some y ≡ some x = rw s at e in
+        let i : y ≡ x = cc in
+        let u : p y ≡ true = rw i h in
+        rw (u, s) q)
+        (λ s. let ih : first (λ (z : A). same (key z) k) (keep p l) ≡ some x = first-keep p k x l (rw s at e) h in
+        by-test (λ (r : List A). first (λ (z : A). same (key z) k) r ≡ some x) (p y) (λ u. rw s ih) (λ u. ih))
+
+    -- and one among those that pass is the one of the table
+    pub first-kept : (p : A → Bool) (k : K) (x : A) (l : List A) → ascending (byKey lt key) l ≡ true → first (λ (y : A). same (key y) k) (keep p l) ≡ some x → first (λ (y : A). same (key y) k) l ≡ some x
+    first-kept p k x [] a e = e
+    first-kept p k x (y ∷ l) a e =
+        cases (same (key y) k)
+        (λ s. cases (p y)
+        (λ u. rw s (rw (u, s) at e))
+        (λ u. let n : first (λ (z : A). same (key z) k) (keep p l) ≡ none = first-above y k (keep p l) s (all-keep (byKey lt key y) p l (pairs-head (byKey lt key) y l a)) in
+        let i : first (λ (z : A). same (key z) k) (keep p l) ≡ some x = rw u at e in
+        cc))
+        (λ s. rw s (first-kept p k x l (pairs-tail (byKey lt key) y l a)
+        (cases (p y) (λ u. rw (u, s) at e) (λ u. rw u at e))))
+
+    -- an element that a test leaves out, put in where the test leaves out the one with its key: what the test keeps stays
+    pub keep-put : (p : A → Bool) (a : A) (l : List A) → p a ≡ false → someWith p (first (λ (x : A). same (key x) (key a)) l) ≡ false → keep p (put (byKey lt key) a l) ≡ keep p l
+    keep-put p a [] n h = rw n
+    keep-put p a (x ∷ l) n h =
+        let P : List A → Type 0 = λ r. keep p r ≡ keep p (x ∷ l) in
+        by-test P (lt (key a) (key x))
+        (λ e. rw n)
+        (λ e. by-test P (lt (key x) (key a))
+        (λ f. ap (λ (r : List A). cond (p x) (x ∷ r) r) (keep-put p a l n (rw (differs (key x) (key a) (below-unequal (key x) (key a) f)) at h)))
+        (λ f. let s : same (key x) (key a) ≡ true = rw (o .connected (key x) (key a) f e) (t .itself (key a)) in
+        let q : p x ≡ false = rw s at h in
+        rw (n, q)))
+
+    -- without a key, where the test leaves out the one that has it: what the test keeps stays
+    pub keep-without : (p : A → Bool) (k : K) (l : List A) → ascending (byKey lt key) l ≡ true → someWith p (first (λ (x : A). same (key x) k) l) ≡ false
+        → keep p (keep (λ (x : A). not (same (key x) k)) l) ≡ keep p l
+    keep-without p k [] a h = refl
+    keep-without p k (x ∷ l) a h =
+        let rest : someWith p (first (λ (y : A). same (key y) k) l) ≡ false → keep p (keep (λ (y : A). not (same (key y) k)) l) ≡ keep p l = keep-without p k l (pairs-tail (byKey lt key) x l a) in
+        cases (same (key x) k)
+        (λ e. let q : p x ≡ false = rw e at h in
+        rw (e, q) (rest (rw (first-above x k l e (pairs-head (byKey lt key) x l a)))))
+        (λ e. rw e (ap (λ (r : List A). cond (p x) (x ∷ r) r) (rest (rw e at h))))
 
 -- ---- well-formed logs: a count and a test of each entry
 

@@ -24,7 +24,7 @@ pub record Lent : Type 0 where
 
 -- an absent limit text and an empty one both give 100
 abbrev pub readTerms : RunTerms → Lent → Terms
-readTerms t lent = record { clock = t .«clock_ms» .0; tolerance = t .«tolerance_ms» .0; file = given (t .«has_file») (readText (t .file)); limit = some (lent .text); offers = lent .offers }
+readTerms t lent = record { clock = t .«clock_ms» .0; tolerance = t .«tolerance_ms» .0; file = given (t .«has_file») (readText (t .file)); limit = some (lent .text); office = t .office; offers = lent .offers }
 
 -- the place of an accepted run is 0
 unfoldable pub laidOutcome : TableMetadata → Outcome → Answer

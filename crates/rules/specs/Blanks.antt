@@ -138,7 +138,7 @@ unfoldable pub isTidyRef : NamedRef → Bool
 isTidyRef r = isTidyName (r .name) && isTidyReference (r .reference)
 
 unfoldable pub isBlankRef : NamedRef → Bool
-isBlankRef r = isBlankName (r .name) && isBlankReference (r .reference)
+isBlankRef r = isBlankName (r .name) && isBlankReference (r .reference) && isZero (r .owner)
 
 unfoldable pub isTidyRefs : Refs → Bool
 isTidyRefs t = tidySlots refRoom isTidyRef isBlankRef (t .items) (t .count)

@@ -10,7 +10,7 @@ use lib.IntN.{ℤ, pos, negsuc}
 use lib.ListN.{length, replicate}
 use Rattle.records.specs.declared.counters.SequenceNumber.{SequenceNumber}
 use Rattle.records.specs.declared.counters.RowId.{RowId}
-use Rattle.rules.specs.Words.{eqZ, total}
+use Rattle.rules.specs.Words.{eqZ, isIn, total}
 use Rattle.rules.specs.Names.{mainName}
 use Rattle.rules.specs.Window.{defaultTolerance}
 use Rattle.rules.specs.Register.{RowRange, Snapshot, Reference, NamedRef, LogEntry, FileEntry, SchemaField, Schema, SchemaOffer, SortField, SortOrder, PartitionField, PartitionSpec, SpecOffer, StatisticsFile, StatisticsTable, Metadata, Update, Terms, Outcome, statisticsOf, withFields, withSnapshots, withRefs, withSnapshotLog, withMetadataLog, withSchemas, withOrders, withStatistics, withSpecs, withVersion, withLocation, withLastSequence, withCurrentSchema, withDefaultOrder, withDefaultSpec, withLastPartition}
@@ -19,11 +19,13 @@ use Rattle.rules.specs.Register.Outcome.{Refused, Accepted}
 use Rattle.rules.specs.Register.Update.{AssignUuid, UpgradeFormatVersion, SetLocation, AddSnapshot, SetBranchSnapshot, RemoveSnapshots, SetRef, RemoveRef, AddSchema, SetCurrentSchema, RemoveSchemas, AddSortOrder, SetDefaultSortOrder, SetStatistics, RemoveStatistics, AddPartitionSpec, SetDefaultPartitionSpec, RemovePartitionSpecs, NotFormed}
 use Rattle.rules.specs.Limit.{limitGiven}
 use Rattle.rules.specs.RowIds.{rowNumber, rowNext}
-use Rattle.rules.specs.Walk.{Walk, Listed, Twice, Bad, ancestors, recordAncestors, walkNumber, walkCount, walkBuffer}
+use Rattle.rules.specs.Walk.{Walk, Listed, Twice, Bad, parentOf, follow, ancestors, recordAncestors, reach, walkNumber, walkCount, walkBuffer}
 use Rattle.rules.specs.Partitions.{identity, year, month, day, bucket}
 use Rattle.rules.specs.WellFormed.{long, timestamp, metadataFormed, updateFormed}
 use Rattle.rules.specs.Capacities.{nameRoom, fieldBytes, partitionBytes}
 use Rattle.rules.specs.Offers.{offerFormed, specOfferFormed}
+use Rattle.rules.specs.RefUpdates.{ownerAfter}
+use Rattle.rules.specs.Others.{othersRefs}
 use Rattle.rules.specs.Moment.{currentAt, entriesRead, isWhole, removesAndAdds}
 use Rattle.rules.specs.Run.{listSum, run}
 use Rattle.rules.specs.Rows.{newSnapshots, endOver, nextRowOf, hasRows, rangesOf, endOf, hasRow, climbs, isApart}
@@ -55,6 +57,8 @@ pub data Question : Type 0 where
   OfWalk : List ℤ → List ℤ → ℤ → Option ℤ → Question
   -- snapshots, start, excluded id
   OfRecords : List Snapshot → ℤ → Option ℤ → Question
+  -- what a walk finds
+  OfFound : Walk → Question
   -- which snapshot was current at a time, by a history
   OfMoment : ℤ → List LogEntry → Question
   -- a history names held snapshots alone
@@ -130,6 +134,7 @@ replyTo (OfReplay at terms m us) = look at (rerun terms m (run terms m us))
 replyTo (OfLimit text) = Limit (limitGiven text)
 replyTo (OfWalk ids parents start excluded) = Walked (ancestors ids parents start excluded)
 replyTo (OfRecords snapshots start excluded) = Walked (recordAncestors snapshots start excluded)
+replyTo (OfFound walk) = Walked walk
 replyTo (OfMoment time log) = moment time log
 replyTo (OfWhole m) = Whole (isWhole m)
 replyTo (OfBuffer buffer ids parents start excluded) = filled buffer (ancestors ids parents start excluded)
@@ -300,7 +305,7 @@ longField id = record { id = pos id; fieldType = long; name = id ∷ [] }
 
 -- a clock reading and a tolerance, no file name, an empty limit text. A call always has a limit text (`Answer.readTerms`)
 abbrev pub plainTerms : ℤ → ℤ → Terms
-plainTerms clock tolerance = record { clock = clock; tolerance = tolerance; file = none; limit = some []; offers = offers }
+plainTerms clock tolerance = record { clock = clock; tolerance = tolerance; file = none; limit = some []; office = 1; offers = offers }
 
 abbrev pub clockAt : ℤ → Terms
 clockAt clock = plainTerms clock defaultTolerance
@@ -313,7 +318,14 @@ terms = tolerating defaultTolerance
 
 -- the current file `d`, and the limit `2`
 abbrev pub fileTerms : Terms
-fileTerms = record { clock = pos 500000; tolerance = defaultTolerance; file = some (100 ∷ []); limit = some (50 ∷ []); offers = offers }
+fileTerms = record { clock = pos 500000; tolerance = defaultTolerance; file = some (100 ∷ []); limit = some (50 ∷ []); office = 1; offers = offers }
+
+-- the same terms, of an office
+abbrev pub asOffice : ℕ → Terms → Terms
+asOffice office t = record { clock = t .clock; tolerance = t .tolerance; file = t .file; limit = t .limit; office = office; offers = t .offers }
+
+abbrev pub secondTerms : Terms
+secondTerms = asOffice 2 terms
 
 -- a field of a spec: its source, its id, its transform and number, its name
 abbrev pub partition : ℕ → ℕ → ℕ → ℕ → List ℕ → PartitionField
@@ -368,9 +380,16 @@ register version sequence next updated snapshots current refs log files =
       specs = unpartitioned ∷ [];
     }
 
+-- a ref of an office, and one of office 1
+abbrev pub owned : ℕ → List ℕ → Reference → NamedRef
+owned office name r = record { name = name; owner = office; reference = r }
+
+abbrev pub refOf : List ℕ → Reference → NamedRef
+refOf name r = owned 1 name r
+
 -- `main` at a snapshot
 abbrev pub mainAt : ℕ → List NamedRef
-mainAt id = record { name = mainName; reference = branchTo id } ∷ []
+mainAt id = refOf mainName (branchTo id) ∷ []
 
 -- version 2, snapshot 1 current since 100000
 abbrev pub first : Metadata
@@ -499,7 +518,7 @@ keeping id kind fewest age refAge = record { snapshot = id; kind = kind; minSnap
 
 -- a ref of a name of some bytes, to snapshot 1
 abbrev pub named : List ℕ → NamedRef
-named name = record { name = name; reference = branchTo 1 }
+named name = refOf name (branchTo 1)
 
 abbrev pub partitionFile : ℕ → ℕ → Update
 partitionFile id size = SetStatistics PartitionStatistics (attached id size)
@@ -537,24 +556,25 @@ stocked =
       specs = unpartitioned ∷ specOf 1 (partition 2 1000 identity 0 (112 ∷ []) ∷ []) ∷ specOf 2 [] ∷ [];
     }
 
--- updates of every part and table but the statistics files that are there, in such a way that their order changes nothing
-abbrev pub restocking : List Update
-restocking =
+-- an update of each kind that is office 1's alone
+abbrev pub keptForFirst : List Update
+keptForFirst =
     AssignUuid (replicate 16 2)
-    ∷ SetLocation (117 ∷ [])
     ∷ UpgradeFormatVersion 2
-    ∷ adding 6 500000
-    ∷ toMain 2
+    ∷ SetLocation (117 ∷ [])
     ∷ AddSchema (offerOf 10 3)
     ∷ SetCurrentSchema (pos 2)
+    ∷ RemoveSchemas (pos 0 ∷ [])
     ∷ AddSortOrder (orderBy 3 (by (pos 2) 0 1 ∷ []))
     ∷ SetDefaultSortOrder (pos 2)
-    ∷ attaching 3 3
-    ∷ partitionFile 3 4
     ∷ AddPartitionSpec (specFrom 16 (some (pos 1000) ∷ []) 3)
     ∷ SetDefaultPartitionSpec (pos 2)
     ∷ RemovePartitionSpecs (pos 0 ∷ [])
     ∷ []
+
+-- updates of every part and table but the statistics files that are there, in such a way that their order changes nothing
+abbrev pub restocking : List Update
+restocking = keptForFirst ++ (adding 6 500000 ∷ toMain 2 ∷ attaching 3 3 ∷ partitionFile 3 4 ∷ [])
 
 -- what they make of it, with the current file `d`
 abbrev pub restocked : Metadata
@@ -575,10 +595,10 @@ restocked =
         lastPartition = pos 1000;
       };
       snapshots = snap 1 none 1 (pos 100000) ∷ snap 2 none 2 (pos 200000) ∷ snap 6 none 6 (pos 500000) ∷ [];
-      refs = named draft ∷ record { name = mainName; reference = branchTo 2 } ∷ [];
+      refs = named draft ∷ mainAt 2;
       snapshotLog = entry 1 100000 ∷ entry 2 500000 ∷ [];
       metadataLog = file 97 1 ∷ file 100 450000 ∷ [];
-      schemas = schemaOf 1 0 ∷ schemaOf 2 1 ∷ schemaWith (longField 2 ∷ longField 3 ∷ []) 2 ∷ schemaOf 10 3 ∷ [];
+      schemas = schemaOf 2 1 ∷ schemaWith (longField 2 ∷ longField 3 ∷ []) 2 ∷ schemaOf 10 3 ∷ [];
       orders = unordered 0 ∷ orderOf 2 1 ∷ orderBy 2 (by (pos 2) 1 0 ∷ []) ∷ orderBy 3 (by (pos 2) 0 1 ∷ []) ∷ [];
       statistics = attached 1 1 ∷ attached 3 3 ∷ [];
       partitionStatistics = attached 2 2 ∷ attached 3 4 ∷ [];
@@ -595,7 +615,7 @@ orderAt fields (suc id) = orderBy (suc id) (replicate fields (by (pos 1) 1 1))
 abbrev pub crowded : ℕ → ℕ → ℕ → ℕ → ℕ → ℕ → ℕ → ℕ → ℕ → ℕ → Metadata
 crowded snapshots refs log files schemas fields orders sortFields statistics partition =
     withSnapshots (many snapshots (λ (i : ℕ). snap i none i (pos 0)))
-    (withRefs (many refs (λ (i : ℕ). record { name = i ∷ []; reference = branchTo 0 }))
+    (withRefs (many refs (λ (i : ℕ). refOf (i ∷ []) (branchTo 0)))
     (withSnapshotLog (replicate log (entry 0 0))
     (withMetadataLog (replicate files (file 97 0))
     (withSchemas (many schemas (schemaWith (many fields (λ (i : ℕ). longField (suc i)))))
@@ -629,11 +649,100 @@ oneOfEach =
 
 -- a name of the current file, and the limit `200`
 abbrev pub fileNamed : List ℕ → Terms
-fileNamed name = record { clock = pos 500000; tolerance = defaultTolerance; file = some name; limit = some (50 ∷ 48 ∷ 48 ∷ []); offers = offers }
+fileNamed name = record { clock = pos 500000; tolerance = defaultTolerance; file = some name; limit = some (50 ∷ 48 ∷ 48 ∷ []); office = 1; offers = offers }
 
 -- version 3 and next row id 9, with these snapshots
 abbrev pub withRows : List Snapshot → Metadata
 withRows snapshots = register 3 2 9 (pos 0) snapshots none [] [] []
+
+-- ---- two offices
+
+-- the number that an update gets alone
+abbrev pub numberIn : Outcome → ℕ
+numberIn (Refused number place) = number
+numberIn (Accepted m log expired) = 0
+
+abbrev pub numberOf : Terms → Metadata → Update → ℕ
+numberOf terms m u = numberIn (run terms m (u ∷ []))
+
+-- the name `e`
+abbrev pub extra : List ℕ
+extra = 101 ∷ []
+
+-- `three` with `d` as a ref of an office
+abbrev pub drafted : ℕ → Reference → Metadata
+drafted office r = withRefs (owned office draft r ∷ mainAt 3) three
+
+-- a ref of some name is set, gets a commit, and is removed
+abbrev pub touching : List ℕ → List Update
+touching name = SetRef name (branchTo 2) ∷ SetBranchSnapshot name (snap 4 none 6 (pos 400000)) ∷ RemoveRef name ∷ []
+
+-- updates that change nothing of `three`
+abbrev pub idle : List Update
+idle =
+    AssignUuid (three .fields .uuid)
+    ∷ UpgradeFormatVersion 2
+    ∷ SetLocation (116 ∷ [])
+    ∷ SetCurrentSchema (pos 0)
+    ∷ RemoveSchemas []
+    ∷ SetDefaultSortOrder (pos 0)
+    ∷ SetDefaultPartitionSpec (pos 0)
+    ∷ RemovePartitionSpecs []
+    ∷ []
+
+-- updates that `three` refuses
+abbrev pub refused : List Update
+refused =
+    UpgradeFormatVersion 1
+    ∷ SetCurrentSchema (negsuc 0)
+    ∷ SetCurrentSchema (pos 7)
+    ∷ RemoveSchemas (pos 0 ∷ [])
+    ∷ AddSortOrder (orderOf 2 0)
+    ∷ SetDefaultSortOrder (pos 7)
+    ∷ addingSpec 13 1 0
+    ∷ SetDefaultPartitionSpec (pos 7)
+    ∷ RemovePartitionSpecs (pos 0 ∷ [])
+    ∷ []
+
+-- updates that are not well formed, or whose offers are not
+abbrev pub unformed : List Update
+unformed =
+    UpgradeFormatVersion 4
+    ∷ SetBranchSnapshot mainName (snap 4 (some (negsuc 0)) 6 (pos 400000))
+    ∷ RemoveSnapshots (pos 3 ∷ negsuc 0 ∷ [])
+    ∷ SetRef mainName (keeping (pos 3) 3 none none none)
+    ∷ AddSchema (record { id = negsuc 0; at = 0; count = 1 })
+    ∷ AddSchema (offerFrom 33 1 0)
+    ∷ AddPartitionSpec (record { id = negsuc 0; at = 53 * fieldBytes; ids = [] })
+    ∷ addingSpec 24 1 0
+    ∷ []
+
+-- 1, 2 and 3, each the parent of the next; 4 and 5, each the parent of the other; 6, whose parent 9 is not held. No history; the refs
+abbrev pub related : List NamedRef → Metadata
+related refs =
+    register 2 6 0 (pos 0)
+    (snap 1 none 1 (pos 0) ∷ snap 2 (some (pos 1)) 2 (pos 0) ∷ snap 3 (some (pos 2)) 3 (pos 0) ∷ snap 4 (some (pos 5)) 4 (pos 0) ∷ snap 5 (some (pos 4)) 5 (pos 0) ∷ snap 6 (some (pos 9)) 6 (pos 0) ∷ [])
+    none refs [] []
+
+-- the numbers that the removals of each of these alone, and of 9, get
+abbrev pub removals : Terms → Metadata → List ℕ
+removals terms m = map (λ (id : ℤ). numberOf terms m (RemoveSnapshots (id ∷ []))) (pos 1 ∷ pos 2 ∷ pos 3 ∷ pos 4 ∷ pos 5 ∷ pos 6 ∷ pos 9 ∷ [])
+
+-- no snapshot is held, and the history has one
+abbrev pub lost : Metadata
+lost = register 2 0 0 (pos 0) [] none [] (entry 0 0 ∷ []) []
+
+-- 4 comes and goes
+abbrev pub passing : List Update
+passing = adding 4 400000 ∷ RemoveSnapshots (pos 4 ∷ []) ∷ []
+
+-- so many snapshots, from 0 on, each the parent of the next
+abbrev pub before : ℕ → Option ℤ
+before zero = none
+before (suc n) = some (pos n)
+
+abbrev pub line : ℕ → List Snapshot
+line n = many n (λ (i : ℕ). snap i (before i) i (pos 0))
 
 -- ---- the examples
 
@@ -1116,6 +1225,133 @@ examples =
     ∷ dated 2 (byP 1000 1 ∷ specOf 2 (partition 2 7 year 0 (112 ∷ []) ∷ partition 1 1001 bucket 4 (113 ∷ []) ∷ []) ∷ []) 1000
     ∷ []))
     gives Tests (true ∷ false ∷ false ∷ []))
+    -- Document 02, request (xi), by name. `d` and `e` are refs of other names than `main`, whose owner is office 1.
+    -- office: 1 and 2 are offices, 0 and 3 are not; the place is 0
+    ∷ (OfRun AtLog secondTerms three [] gives Log [])
+    ∷ (OfRun AtLog (asOffice 0 terms) three [] gives Refusal 39 0)
+    ∷ (OfRun AtLog (asOffice 3 terms) three [] gives Refusal 39 0)
+    -- order of 39: after 1, 2 and 26, and before any update, here one that is not well formed
+    ∷ (OfRun AtLog (asOffice 3 terms) (twoHeld none (mainAt 1)) [] gives Refusal 1 0)
+    ∷ (OfRun AtLog (asOffice 3 terms) three (replicate 65 (RemoveSnapshots [])) gives Refusal 2 0)
+    ∷ (OfRun AtLog (asOffice 0 (tolerating (negsuc 0))) three [] gives Refusal 26 0)
+    ∷ (OfRun AtLog (asOffice 3 terms) three (RemoveSnapshots [] ∷ NotFormed 1 ∷ []) gives Refusal 39 0)
+    -- owners: `d` of office 1 and of office 2 is well formed, of 0 and of 3 it is not; `main` of office 2, of 0 and of 3 is not
+    ∷ (OfTests (map metadataFormed
+    (drafted 1 (branchTo 3)
+    ∷ drafted 2 (branchTo 3)
+    ∷ drafted 0 (branchTo 3)
+    ∷ drafted 3 (branchTo 3)
+    ∷ withRefs (owned 2 mainName (branchTo 3) ∷ []) three
+    ∷ withRefs (owned 0 mainName (branchTo 3) ∷ []) three
+    ∷ withRefs (owned 3 mainName (branchTo 3) ∷ []) three
+    ∷ []))
+    gives Tests (true ∷ true ∷ replicate 5 false))
+    ∷ (OfRun AtLog secondTerms (withRefs (owned 2 mainName (branchTo 3) ∷ []) three) [] gives Refusal 1 0)
+    ∷ (OfRun AtLog terms (drafted 2 (branchTo 3)) [] gives Log [])
+    -- kept for office 1: each of these kinds, which is 35 for office 2 by kind alone
+    ∷ (OfNumbers (map (numberOf terms stocked) keptForFirst) gives Numbers (replicate 11 0))
+    ∷ (OfNumbers (map (numberOf secondTerms stocked) keptForFirst) gives Numbers (replicate 11 35))
+    -- kept though idle: also where nothing would change
+    ∷ (OfRun AtLog terms three idle gives Log [])
+    ∷ (OfNumbers (map (numberOf secondTerms three) idle) gives Numbers (replicate 8 35))
+    -- 35 first: before the numbers that the update has for office 1
+    ∷ (OfNumbers (map (numberOf terms three) refused) gives Numbers (4 ∷ 14 ∷ 15 ∷ 16 ∷ 17 ∷ 15 ∷ 32 ∷ 15 ∷ 34 ∷ []))
+    ∷ (OfNumbers (map (numberOf secondTerms three) refused) gives Numbers (replicate 9 35))
+    ∷ (OfRun AtLog secondTerms (crowded 1 0 0 0 16 1 1 1 0 0) (AddSchema (offerOf 2 16) ∷ []) gives Refusal 35 0)
+    -- 3 before 35: of the update's own form, and of what it offers
+    ∷ (OfNumbers (map (numberOf secondTerms three) unformed) gives Numbers (replicate 8 3))
+    -- place of 35: that of its update
+    ∷ (OfRun AtLog secondTerms three (adding 4 400000 ∷ SetLocation (117 ∷ []) ∷ NotFormed 1 ∷ []) gives Refusal 35 1)
+    -- neither's: office 2 adds snapshots, and sets and removes statistics files of both tables
+    ∷ (OfRun AtLog secondTerms stocked (adding 6 500000 ∷ attaching 3 3 ∷ partitionFile 3 4 ∷ RemoveStatistics Statistics (pos 1) ∷ RemoveStatistics PartitionStatistics (pos 2) ∷ []) gives Log (adding 6 500000 ∷ attaching 3 3 ∷ partitionFile 3 4 ∷ RemoveStatistics Statistics (pos 1) ∷ RemoveStatistics PartitionStatistics (pos 2) ∷ []))
+    -- other's ref: `d` of office 1, and then of office 2, is set, gets a commit and is removed, by office 1 and by office 2
+    ∷ (OfNumbers (map (numberOf terms (drafted 1 (branchTo 3))) (touching draft)) gives Numbers (replicate 3 0))
+    ∷ (OfNumbers (map (numberOf secondTerms (drafted 1 (branchTo 3))) (touching draft)) gives Numbers (replicate 3 35))
+    ∷ (OfNumbers (map (numberOf terms (drafted 2 (branchTo 3))) (touching draft)) gives Numbers (replicate 3 35))
+    ∷ (OfNumbers (map (numberOf secondTerms (drafted 2 (branchTo 3))) (touching draft)) gives Numbers (replicate 3 0))
+    -- other's equal ref: also where it is what it is set to; 35 comes before 12, and before 13
+    ∷ (OfRun AtLog terms (drafted 2 (branchTo 3)) (toDraft 3 ∷ []) gives Refusal 35 0)
+    ∷ (OfRun AtLog secondTerms (drafted 2 (branchTo 3)) (toDraft 3 ∷ []) gives Log [])
+    ∷ (OfRun AtLog terms (drafted 2 (branchTo 3)) (toDraft 9 ∷ []) gives Refusal 35 0)
+    ∷ (OfRun AtLog secondTerms (drafted 2 (branchTo 3)) (toDraft 9 ∷ []) gives Refusal 12 0)
+    ∷ (OfRun AtLog terms (drafted 2 (tagTo 3)) (SetBranchSnapshot draft (snap 4 none 6 (pos 400000)) ∷ []) gives Refusal 35 0)
+    ∷ (OfRun AtLog secondTerms (drafted 2 (tagTo 3)) (SetBranchSnapshot draft (snap 4 none 6 (pos 400000)) ∷ []) gives Refusal 13 0)
+    -- office of main: it is office 1's, held or absent
+    ∷ (OfNumbers (map (numberOf terms three) (touching mainName)) gives Numbers (replicate 3 0))
+    ∷ (OfNumbers (map (numberOf secondTerms three) (touching mainName)) gives Numbers (replicate 3 35))
+    ∷ (OfNumbers (map (numberOf terms (twoHeld none [])) (touching mainName)) gives Numbers (replicate 3 0))
+    ∷ (OfNumbers (map (numberOf secondTerms (twoHeld none [])) (touching mainName)) gives Numbers (replicate 3 35))
+    ∷ (OfRun AtLog secondTerms (empty 2 0 (pos 0) []) (SetBranchSnapshot mainName (snap 0 none 0 (pos 0)) ∷ []) gives Refusal 35 0)
+    -- absent ref: another absent name is free to either office
+    ∷ (OfNumbers (map (numberOf terms (drafted 2 (branchTo 3))) (touching extra)) gives Numbers (replicate 3 0))
+    ∷ (OfNumbers (map (numberOf secondTerms (drafted 1 (branchTo 3))) (touching extra)) gives Numbers (replicate 3 0))
+    -- owner made: a ref that a run makes is its office's, by setting it and by a commit; the others keep theirs
+    ∷ (OfRun AtRefs terms (drafted 2 (branchTo 3)) (SetRef extra (branchTo 3) ∷ []) gives Refs (owned 2 draft (branchTo 3) ∷ owned 1 extra (branchTo 3) ∷ mainAt 3))
+    ∷ (OfRun AtRefs secondTerms (drafted 1 (branchTo 3)) (SetRef extra (branchTo 3) ∷ []) gives Refs (owned 1 draft (branchTo 3) ∷ owned 2 extra (branchTo 3) ∷ mainAt 3))
+    ∷ (OfRun AtRefs terms three (SetBranchSnapshot draft (snap 4 none 6 (pos 400000)) ∷ []) gives Refs (owned 1 draft (branchTo 4) ∷ mainAt 3))
+    ∷ (OfRun AtRefs secondTerms three (SetBranchSnapshot draft (snap 4 none 6 (pos 400000)) ∷ []) gives Refs (owned 2 draft (branchTo 4) ∷ mainAt 3))
+    -- owner kept: a ref that is set, or made by this run and set again, keeps its owner
+    ∷ (OfRun AtRefs secondTerms (drafted 2 (branchTo 3)) (SetRef draft (tagTo 2) ∷ SetRef extra (tagTo 3) ∷ SetRef extra (tagTo 1) ∷ []) gives Refs (owned 2 draft (tagTo 2) ∷ owned 2 extra (tagTo 1) ∷ mainAt 3))
+    ∷ (OfRun AtRefs secondTerms (drafted 2 (branchTo 3)) (SetBranchSnapshot draft (snap 4 none 6 (pos 400000)) ∷ []) gives Refs (owned 2 draft (branchTo 4) ∷ mainAt 3))
+    ∷ (OfNumbers (ownerAfter 2 draft (drafted 1 (branchTo 3) .refs) ∷ ownerAfter 1 draft (drafted 2 (branchTo 3) .refs) ∷ ownerAfter 2 mainName (drafted 2 (branchTo 3) .refs) ∷ ownerAfter 1 extra (drafted 2 (branchTo 3) .refs) ∷ ownerAfter 2 extra (drafted 1 (branchTo 3) .refs) ∷ []) gives Numbers (1 ∷ 2 ∷ 1 ∷ 1 ∷ 2 ∷ []))
+    -- owner made again: `d` goes and comes again within a run, by its removal and with its snapshot; over two runs it changes hands
+    ∷ (OfRun AtRefs terms (drafted 1 (branchTo 3)) (RemoveRef draft ∷ toDraft 2 ∷ []) gives Refs (owned 1 draft (branchTo 2) ∷ mainAt 3))
+    ∷ (OfRun AtRefs secondTerms (drafted 2 (branchTo 3)) (RemoveRef draft ∷ toDraft 2 ∷ []) gives Refs (owned 2 draft (branchTo 2) ∷ mainAt 3))
+    ∷ (OfRun AtRefs secondTerms three (adding 4 400000 ∷ toDraft 4 ∷ RemoveSnapshots (pos 4 ∷ []) ∷ toDraft 3 ∷ []) gives Refs (owned 2 draft (branchTo 3) ∷ mainAt 3))
+    ∷ (OfNumbers (map (λ (r : NamedRef). r .owner) (endOver (drafted 1 (branchTo 3)) (record { terms = terms; updates = RemoveRef draft ∷ [] } ∷ record { terms = secondTerms; updates = toDraft 3 ∷ [] } ∷ []) .refs)) gives Numbers (2 ∷ 1 ∷ []))
+    -- office of a log: it leads there again in its own office; in the other one it can be refused
+    ∷ (OfReplay AtRefs secondTerms (drafted 2 (branchTo 3)) (toDraft 2 ∷ SetRef extra (branchTo 1) ∷ []) gives Refs (owned 2 draft (branchTo 2) ∷ owned 2 extra (branchTo 1) ∷ mainAt 3))
+    ∷ (OfRun AtRefs terms (drafted 2 (branchTo 3)) (toDraft 2 ∷ SetRef extra (branchTo 1) ∷ []) gives Refusal 35 0)
+    -- needed: of 1, 2 and 3, each the parent of the next, 4 and 5, each the parent of the other, 6 with parent 9, and 9, which is not held, those stay that a ref of the other office names or reaches
+    ∷ (OfNumbers (removals terms (related (owned 2 draft (branchTo 3) ∷ []))) gives Numbers (35 ∷ 35 ∷ 35 ∷ 0 ∷ 0 ∷ 0 ∷ 0 ∷ []))
+    ∷ (OfNumbers (removals secondTerms (related (owned 2 draft (branchTo 3) ∷ []))) gives Numbers (replicate 7 0))
+    ∷ (OfNumbers (removals secondTerms (related (owned 1 draft (branchTo 2) ∷ []))) gives Numbers (35 ∷ 35 ∷ 0 ∷ 0 ∷ 0 ∷ 0 ∷ 0 ∷ []))
+    ∷ (OfNumbers (removals terms (related (owned 1 draft (branchTo 2) ∷ []))) gives Numbers (replicate 7 0))
+    ∷ (OfNumbers (removals secondTerms (withSnapshotLog [] three)) gives Numbers (35 ∷ 35 ∷ 35 ∷ 0 ∷ 0 ∷ 0 ∷ 0 ∷ []))
+    -- needed by a tag: as by a branch
+    ∷ (OfNumbers (removals terms (related (owned 2 draft (tagTo 3) ∷ []))) gives Numbers (35 ∷ 35 ∷ 35 ∷ 0 ∷ 0 ∷ 0 ∷ 0 ∷ []))
+    -- needed in a cycle: it ends what is reached, and is no 24
+    ∷ (OfNumbers (removals terms (related (owned 2 draft (branchTo 4) ∷ []))) gives Numbers (0 ∷ 0 ∷ 0 ∷ 35 ∷ 35 ∷ 0 ∷ 0 ∷ []))
+    ∷ (OfNumbers (removals secondTerms (related (owned 2 draft (branchTo 4) ∷ []))) gives Numbers (replicate 7 0))
+    -- needed by either: of two refs of the other office, and not by an own one
+    ∷ (OfNumbers (removals terms (related (owned 2 draft (branchTo 1) ∷ owned 2 extra (branchTo 6) ∷ []))) gives Numbers (35 ∷ 0 ∷ 0 ∷ 0 ∷ 0 ∷ 35 ∷ 0 ∷ []))
+    ∷ (OfNumbers (removals terms (related (owned 1 draft (branchTo 3) ∷ owned 2 extra (branchTo 2) ∷ []))) gives Numbers (35 ∷ 35 ∷ 0 ∷ 0 ∷ 0 ∷ 0 ∷ 0 ∷ []))
+    ∷ (OfNumbers (removals secondTerms (related (owned 1 draft (branchTo 3) ∷ owned 2 extra (branchTo 2) ∷ []))) gives Numbers (35 ∷ 35 ∷ 35 ∷ 0 ∷ 0 ∷ 0 ∷ 0 ∷ []))
+    -- one of several: a removal list with one that is needed, after or before one that is not, or beside one that is not held; and lists with none
+    ∷ (OfNumbers (map (λ (ids : List ℤ). numberOf terms (related (owned 2 draft (branchTo 5) ∷ [])) (RemoveSnapshots ids)) ((pos 1 ∷ pos 4 ∷ []) ∷ (pos 6 ∷ pos 5 ∷ []) ∷ (pos 9 ∷ pos 4 ∷ []) ∷ (pos 1 ∷ pos 6 ∷ []) ∷ [] ∷ [])) gives Numbers (35 ∷ 35 ∷ 35 ∷ 0 ∷ 0 ∷ []))
+    -- needed by now: it is asked of the state of the moment. Office 1 adds 9, which `d` of office 2 then reaches
+    ∷ (OfRun AtLog terms (related (owned 2 draft (branchTo 6) ∷ [])) (RemoveSnapshots (pos 9 ∷ []) ∷ adding 9 0 ∷ RemoveSnapshots (pos 9 ∷ []) ∷ []) gives Refusal 35 2)
+    ∷ (OfRun AtLog terms (related []) (RemoveSnapshots (pos 9 ∷ []) ∷ adding 9 0 ∷ RemoveSnapshots (pos 9 ∷ []) ∷ []) gives Log (adding 9 0 ∷ RemoveSnapshots (pos 9 ∷ []) ∷ []))
+    -- logged: what the snapshot log names stays for office 2, if it is held; office 1 may remove it
+    ∷ (OfNumbers (removals secondTerms (withSnapshotLog (entry 5 0 ∷ entry 9 0 ∷ entry 6 0 ∷ []) (related []))) gives Numbers (0 ∷ 0 ∷ 0 ∷ 0 ∷ 35 ∷ 35 ∷ 0 ∷ []))
+    ∷ (OfNumbers (removals terms (withSnapshotLog (entry 5 0 ∷ entry 9 0 ∷ entry 6 0 ∷ []) (related []))) gives Numbers (replicate 7 0))
+    -- log unbuilt: the close of office 2 leaves the snapshot log as it is, and does not ask for its end
+    ∷ (OfRun AtHistory secondTerms lost passing gives History (entry 0 0 ∷ []))
+    ∷ (OfRun AtHistory terms lost passing gives History [])
+    ∷ (OfRun AtHistory secondTerms astray passing gives History (entry 1 100000 ∷ entry 2 50000 ∷ []))
+    ∷ (OfRun AtHistory terms astray passing gives Refusal 21 2)
+    -- close of office 2: the log of changes, last update, files that expire, and 31, 32, 20 and 23 are as ever
+    ∷ (OfRun AtLog secondTerms lost passing gives Log passing)
+    ∷ (OfRun AtUpdated secondTerms lost passing gives Updated (pos 400000))
+    ∷ (OfRun AtFiles (asOffice 2 fileTerms) (empty 2 0 (pos 9000) (file 97 1 ∷ file 98 2 ∷ file 99 3 ∷ [])) [] gives Files (file 97 1 ∷ file 98 2 ∷ []) (file 99 3 ∷ file 100 9000 ∷ []))
+    ∷ (OfRun AtLog secondTerms (defaultAt 1 (partitioned 2 (ofATY 0 ∷ []) (unpartitioned ∷ byY 1000 1 ∷ []) 1000)) [] gives Refusal 31 0)
+    ∷ (OfRun AtLog secondTerms (defaultAt 1 (partitioned 2 (ofA 0 ∷ []) (unpartitioned ∷ byQ 1000 1 ∷ []) 1000)) [] gives Refusal 32 0)
+    ∷ (OfRun AtLog secondTerms (withFields (withDefaultOrder (pos 1) (three .fields)) (withOrders (unordered 0 ∷ orderOf 9 1 ∷ []) three)) [] gives Refusal 20 0)
+    ∷ (OfRun AtLog (asOffice 2 (fileNamed draft)) (withMetadataLog (replicate 128 (file 97 0)) three) [] gives Refusal 23 0)
+    -- reach: of a chain, of a cycle, with a parent that is not held, of a start that is not held, and of 64
+    ∷ (OfIds (reach (related [] .snapshots) (pos 3)) gives Ids (pos 3 ∷ pos 2 ∷ pos 1 ∷ []))
+    ∷ (OfIds (reach (related [] .snapshots) (pos 5)) gives Ids (pos 5 ∷ pos 4 ∷ []))
+    ∷ (OfIds (reach (related [] .snapshots) (pos 6)) gives Ids (pos 6 ∷ []))
+    ∷ (OfIds (reach (related [] .snapshots) (pos 9)) gives Ids [])
+    ∷ (OfIds (reach (line 64) (pos 63)) gives Ids (backwards (many 64 (λ (i : ℕ). pos i))))
+    -- steps: a walk behind those that are listed, with enough steps and with one less; stopped in front of one that is listed, and not
+    ∷ (OfFound (follow 3 (parentOf (pos 1 ∷ pos 2 ∷ []) (negsuc 0 ∷ pos 1 ∷ [])) isIn (pos 7 ∷ []) (pos 2)) gives Walked (Listed (pos 7 ∷ pos 2 ∷ pos 1 ∷ [])))
+    ∷ (OfFound (follow 2 (parentOf (pos 1 ∷ pos 2 ∷ []) (negsuc 0 ∷ pos 1 ∷ [])) isIn (pos 7 ∷ []) (pos 2)) gives Walked Twice)
+    ∷ (OfFound (follow 3 (parentOf (pos 1 ∷ pos 2 ∷ []) (pos 2 ∷ pos 1 ∷ [])) isIn [] (pos 2)) gives Walked (Listed (pos 2 ∷ pos 1 ∷ [])))
+    ∷ (OfFound (follow 3 (parentOf (pos 1 ∷ pos 2 ∷ []) (pos 2 ∷ pos 1 ∷ [])) (λ listed id. false) [] (pos 2)) gives Walked Twice)
+    -- others: the refs of the other office, in table order
+    ∷ (OfIds (map (λ (r : NamedRef). r .reference .snapshot) (othersRefs 1 (owned 1 (97 ∷ []) (branchTo 1) ∷ owned 2 (98 ∷ []) (branchTo 2) ∷ owned 1 (99 ∷ []) (branchTo 3) ∷ owned 2 (100 ∷ []) (branchTo 4) ∷ []))) gives Ids (pos 2 ∷ pos 4 ∷ []))
+    ∷ (OfIds (map (λ (r : NamedRef). r .reference .snapshot) (othersRefs 2 (owned 1 (97 ∷ []) (branchTo 1) ∷ owned 2 (98 ∷ []) (branchTo 2) ∷ owned 1 (99 ∷ []) (branchTo 3) ∷ owned 2 (100 ∷ []) (branchTo 4) ∷ []))) gives Ids (pos 1 ∷ pos 3 ∷ []))
     -- Clauses in which no example above fails, by name, in the order of document 01.
     -- everything: a run touches every part, in one order of its updates and in the other; the answer is this, and nothing of another part is lost
     ∷ (OfRun AtAll fileTerms stocked restocking gives Answered (Accepted restocked restocking []))
@@ -1154,7 +1390,7 @@ examples =
     -- records in tables: an id or a number out of its bounds in a table is not well formed
     ∷ (OfTests (map metadataFormed
     (withSnapshots (record { id = negsuc 0; parent = none; sequence = record { 0 = pos 1 }; time = pos 0; rows = none } ∷ snap 1 none 1 (pos 0) ∷ []) first
-    ∷ withRefs (record { name = draft; reference = keeping (pos 1) 1 (some (pos 0)) none none } ∷ named mainName ∷ []) first
+    ∷ withRefs (refOf draft (keeping (pos 1) 1 (some (pos 0)) none none) ∷ named mainName ∷ []) first
     ∷ withRefs (named mainName ∷ named (replicate 33 110) ∷ []) first
     ∷ withSnapshotLog (record { snapshot = negsuc 0; time = pos 0 } ∷ []) first
     ∷ withMetadataLog (record { file = replicate 97 97; time = pos 0 } ∷ []) first
@@ -1189,7 +1425,7 @@ examples =
     gives Tests (replicate 5 false ++ (true ∷ [])))
     -- what is named: a ref to a snapshot that is not held, a current schema, a default order and a default spec that are not held
     ∷ (OfTests (map metadataFormed
-    (withRefs (record { name = draft; reference = branchTo 9 } ∷ named mainName ∷ []) first
+    (withRefs (refOf draft (branchTo 9) ∷ named mainName ∷ []) first
     ∷ withFields (withCurrentSchema (pos 9) (first .fields)) first
     ∷ withFields (withDefaultOrder (pos 9) (first .fields)) first
     ∷ defaultAt 9 first
@@ -1358,6 +1594,8 @@ examples =
     ∷ (OfWalk (many 64 (λ (i : ℕ). pos i)) (replicate 64 (negsuc 0)) (pos 5) none gives Walked (Listed (pos 5 ∷ [])))
     ∷ (OfWalk (many 65 (λ (i : ℕ). pos i)) (replicate 65 (negsuc 0)) (pos 5) none gives Walked Bad)
     ∷ (OfWalk (pos 1 ∷ []) (negsuc 0 ∷ negsuc 0 ∷ []) (pos 1) none gives Walked Bad)
+    -- longest walk: one that lists 64
+    ∷ (OfRecords (line 64) (pos 63) none gives Walked (Listed (backwards (many 64 (λ (i : ℕ). pos i)))))
     -- unheld exclusion: the excluded id is a parent that is not held
     ∷ (OfWalk (pos 2 ∷ pos 3 ∷ []) (pos 1 ∷ pos 2 ∷ []) (pos 3) (some (pos 1)) gives Walked (Listed (pos 3 ∷ pos 2 ∷ [])))
     -- buffer: what fits is written and the rest kept; what does not fit is 25, 24 comes before that, and 1 first; a refused walk counts 0 and writes nothing

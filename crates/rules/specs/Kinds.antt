@@ -5,7 +5,7 @@ use mathlib.Core.Bool.{Bool, cond, _&&_, _||_}
 use mathlib.Core.List.{List, [], _∷_, map}
 use lib.Dec.{eqb}
 use lib.ListN.{length}
-use Rattle.records.specs.Blanks.{noFieldsPart, noSnapshotsPart, noRef, noSchemasPart, noSortOrdersPart, noStatisticsPart, noPartitionSpecsPart, noUpdate}
+use Rattle.records.specs.Blanks.{noFieldsPart, noSnapshotsPart, noRefsPart, noSchemasPart, noSortOrdersPart, noStatisticsPart, noPartitionSpecsPart, noUpdate}
 use Rattle.records.specs.declared.update.TableUpdate.{TableUpdate}
 use Rattle.records.specs.declared.update.UpdateList.{UpdateList}
 use Rattle.records.specs.declared.part.FieldsPart.{FieldsPart}
@@ -23,7 +23,7 @@ use Rattle.records.specs.declared.text.Name.{Name}
 use Rattle.records.specs.declared.snapshot.Snapshot.{Snapshot}
 use Rattle.records.specs.declared.snapshot.SnapshotIds.{SnapshotIds}
 use Rattle.records.specs.declared.reference.SnapshotReference.{SnapshotReference}
-use Rattle.records.specs.declared.reference.NamedRef.{NamedRef}
+use Rattle.records.specs.declared.part.RefsPart.{RefsPart}
 use Rattle.records.specs.declared.schema.SchemaOffer.{SchemaOffer}
 use Rattle.records.specs.declared.schema.SchemaIds.{SchemaIds}
 use Rattle.records.specs.declared.«sort_order».SortOrder.{SortOrder}
@@ -144,7 +144,7 @@ refNameKinds = setBranchSnapshotKind ∷ setRefKind ∷ removeRefKind ∷ []
 abbrev pub referenceKinds : List ℕ
 referenceKinds = setRefKind ∷ []
 
-unfoldable pub isTidyRefsPart : ℕ → NamedRef → Bool
+unfoldable pub isTidyRefsPart : ℕ → RefsPart → Bool
 isTidyRefsPart kind p =
     fitsKinds refNameKinds kind (isBlankName (p .name)) (isTidyName (p .name))
     && fitsKinds referenceKinds kind (isBlankReference (p .reference)) (isTidyReference (p .reference))
@@ -260,7 +260,7 @@ readUpdates t = map readUpdate (counted noUpdate (t .items) (t .count))
 -- ---- laying out: a blank update of a kind, with the records that the kind uses
 
 abbrev pub ofKind : ℕ → TableUpdate
-ofKind kind = record { kind = kind; fields = noFieldsPart; snapshots = noSnapshotsPart; refs = noRef; schemas = noSchemasPart; «sort_orders» = noSortOrdersPart; statistics = noStatisticsPart; «partition_specs» = noPartitionSpecsPart }
+ofKind kind = record { kind = kind; fields = noFieldsPart; snapshots = noSnapshotsPart; refs = noRefsPart; schemas = noSchemasPart; «sort_orders» = noSortOrdersPart; statistics = noStatisticsPart; «partition_specs» = noPartitionSpecsPart }
 
 abbrev pub withFieldsPart : FieldsPart → TableUpdate → TableUpdate
 withFieldsPart x u = record { kind = u .kind; fields = x; snapshots = u .snapshots; refs = u .refs; schemas = u .schemas; «sort_orders» = u .«sort_orders»; statistics = u .statistics; «partition_specs» = u .«partition_specs» }
@@ -268,7 +268,7 @@ withFieldsPart x u = record { kind = u .kind; fields = x; snapshots = u .snapsho
 abbrev pub withSnapshotsPart : SnapshotsPart → TableUpdate → TableUpdate
 withSnapshotsPart x u = record { kind = u .kind; fields = u .fields; snapshots = x; refs = u .refs; schemas = u .schemas; «sort_orders» = u .«sort_orders»; statistics = u .statistics; «partition_specs» = u .«partition_specs» }
 
-abbrev pub withRefsPart : NamedRef → TableUpdate → TableUpdate
+abbrev pub withRefsPart : RefsPart → TableUpdate → TableUpdate
 withRefsPart x u = record { kind = u .kind; fields = u .fields; snapshots = u .snapshots; refs = x; schemas = u .schemas; «sort_orders» = u .«sort_orders»; statistics = u .statistics; «partition_specs» = u .«partition_specs» }
 
 abbrev pub withSchemasPart : SchemasPart → TableUpdate → TableUpdate
@@ -300,10 +300,10 @@ withSnapshot x p = record { added = x; removed = p .removed }
 abbrev pub withSnapshotIds : SnapshotIds → SnapshotsPart → SnapshotsPart
 withSnapshotIds x p = record { added = p .added; removed = x }
 
-abbrev pub withRefName : Name → NamedRef → NamedRef
+abbrev pub withRefName : Name → RefsPart → RefsPart
 withRefName x p = record { name = x; reference = p .reference }
 
-abbrev pub withReference : SnapshotReference → NamedRef → NamedRef
+abbrev pub withReference : SnapshotReference → RefsPart → RefsPart
 withReference x p = record { name = p .name; reference = x }
 
 abbrev pub withSchemaOffer : SchemaOffer → SchemasPart → SchemasPart
@@ -352,10 +352,10 @@ laidUpdate (AssignUuid uuid) = withFieldsPart (withUuid uuid noFieldsPart) (ofKi
 laidUpdate (UpgradeFormatVersion v) = withFieldsPart (withFormatVersion v noFieldsPart) (ofKind upgradeFormatVersionKind)
 laidUpdate (SetLocation location) = withFieldsPart (withLocation (laidText location) noFieldsPart) (ofKind setLocationKind)
 laidUpdate (AddSnapshot s) = withSnapshotsPart (withSnapshot (laidSnapshot s) noSnapshotsPart) (ofKind addSnapshotKind)
-laidUpdate (SetBranchSnapshot name s) = withRefsPart (withRefName (laidName name) noRef) (withSnapshotsPart (withSnapshot (laidSnapshot s) noSnapshotsPart) (ofKind setBranchSnapshotKind))
+laidUpdate (SetBranchSnapshot name s) = withRefsPart (withRefName (laidName name) noRefsPart) (withSnapshotsPart (withSnapshot (laidSnapshot s) noSnapshotsPart) (ofKind setBranchSnapshotKind))
 laidUpdate (RemoveSnapshots ids) = withSnapshotsPart (withSnapshotIds (laidSnapshotIds ids) noSnapshotsPart) (ofKind removeSnapshotsKind)
 laidUpdate (SetRef name r) = withRefsPart (record { name = laidName name; reference = laidReference r }) (ofKind setRefKind)
-laidUpdate (RemoveRef name) = withRefsPart (withRefName (laidName name) noRef) (ofKind removeRefKind)
+laidUpdate (RemoveRef name) = withRefsPart (withRefName (laidName name) noRefsPart) (ofKind removeRefKind)
 laidUpdate (AddSchema o) = withSchemasPart (withSchemaOffer (laidSchemaOffer o) noSchemasPart) (ofKind addSchemaKind)
 laidUpdate (SetCurrentSchema id) = withSchemasPart (withSchemaId (record { 0 = id }) noSchemasPart) (ofKind setCurrentSchemaKind)
 laidUpdate (RemoveSchemas ids) = withSchemasPart (withSchemaIds (laidSchemaIds ids) noSchemasPart) (ofKind removeSchemasKind)

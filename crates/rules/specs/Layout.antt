@@ -160,10 +160,10 @@ laidReference r =
     }
 
 abbrev pub readRef : NamedRef → plain.NamedRef
-readRef r = record { name = readName (r .name); reference = readReference (r .reference) }
+readRef r = record { name = readName (r .name); owner = r .owner; reference = readReference (r .reference) }
 
 unfoldable pub laidRef : plain.NamedRef → NamedRef
-laidRef r = record { name = laidName (r .name); reference = laidReference (r .reference) }
+laidRef r = record { name = laidName (r .name); reference = laidReference (r .reference); owner = r .owner }
 
 abbrev pub readRefs : Refs → List plain.NamedRef
 readRefs t = map readRef (counted noRef (t .items) (t .count))

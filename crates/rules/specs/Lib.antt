@@ -1,8 +1,9 @@
 -- Document 01, in the order in which it is read: words, records, leaves, partition fields, well-formed records, what updates offer, updates, the close, the run, the layout of records;
--- and what document 02 adds: statistics files (StatisticsUpdates), partition specs (Partitions, SpecUpdates), which snapshot was current at a time (Moment), row ids over a sequence of runs (Rows). During and FieldIds are this project's own.
+-- and what document 02 adds: statistics files (StatisticsUpdates), partition specs (Partitions, SpecUpdates), two offices (Offices, Others, OfficeWalks, OneOffice), which snapshot was current at a time (Moment), row ids over a sequence of runs (Rows). During and FieldIds are this project's own.
 pub mod Words
 pub mod Replies
 pub mod Capacities
+pub mod Offices
 pub mod Register
 pub mod Limit
 pub mod Window
@@ -20,13 +21,16 @@ pub mod SchemaUpdates
 pub mod OrderUpdates
 pub mod StatisticsUpdates
 pub mod SpecUpdates
+pub mod Others
 pub mod Updates
 pub mod Close
 pub mod Run
+pub mod OneOffice
 pub mod Moment
 pub mod During
 pub mod Rows
 pub mod FieldIds
+pub mod OfficeWalks
 pub mod Replay
 pub mod Promises
 pub mod Blanks

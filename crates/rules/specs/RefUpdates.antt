@@ -64,15 +64,22 @@ asMain clock id st =
     (withSnapshotLog (st .metadata .snapshotLog ++ (record { snapshot = id; time = orElse (st .own) clock } ∷ [])) (st .metadata)))
     st)
 
-abbrev pub putRef : List ℕ → Reference → State → State
-putRef name r st = withMetadata (withRefs (put refBelow (record { name = name; reference = r }) (st .metadata .refs)) (st .metadata)) st
+-- document 02, request (xi): an owner is "fixed when made", and is then the run's office
+abbrev pub ownerAfter : ℕ → List ℕ → List NamedRef → ℕ
+ownerAfter office name l = elim (refNamed name l) [ none ↦ office | some n ↦ n .owner ]
+
+abbrev pub putRef : ℕ → List ℕ → Reference → State → State
+putRef office name r st =
+    withMetadata
+    (withRefs (put refBelow (record { name = name; owner = ownerAfter office name (st .metadata .refs); reference = r }) (st .metadata .refs)) (st .metadata))
+    st
 
 unfoldable pub setRef : Terms → List ℕ → Reference → State → State
 setRef terms name r st =
     cond (isHeldRef name r (st .metadata .refs))
     st
     (logged (SetRef name r)
-    (putRef name r
+    (putRef (terms .office) name r
     (cond (isMain name)
     (asMain (terms .clock) (r .snapshot) (withOwn (ownAfter (r .snapshot) st) st))
     (withOwn (ownAfter (r .snapshot) st) st))))

@@ -29,8 +29,10 @@ pub record Reference : Type 0 where
   pub maxSnapshotAge : Option ℤ
   pub maxRefAge : Option ℤ
 
+-- document 02, request (xi): "Each ref has an owner, 1 or 2, fixed when made"
 pub record NamedRef : Type 0 where
   pub name : List ℕ
+  pub owner : ℕ
   pub reference : Reference
 
 pub record LogEntry : Type 0 where
@@ -152,12 +154,13 @@ pub data Update : Type 0 where
 -- ---- a run
 
 -- "a clock reading, an optional name of the current metadata file, and the optional text of the property that limits the metadata log";
--- document 02, request (v): "a tolerance in milliseconds"; beside them the bytes of all that the updates of the list offer, which Offers reads
+-- document 02, request (v): "a tolerance in milliseconds"; request (xi): "Each run names its office"; beside them the bytes of all that the updates of the list offer, which Offers reads
 pub record Terms : Type 0 where
   pub clock : ℤ
   pub tolerance : ℤ
   pub file : Option (List ℕ)
   pub limit : Option (List ℕ)
+  pub office : ℕ
   pub offers : List ℕ
 
 -- the ids that the run added last

@@ -99,3 +99,12 @@ idsNotSequential = 33
 -- "34 default spec removed"
 abbrev pub defaultSpecRemoved : ℕ
 defaultSpecRemoved = 34
+
+-- document 02, request (xi): "touching the other's ref, removing a held snapshot that one names or reaches by parents, an update kept for office 1, or office 2
+-- removing a snapshot that the snapshot log names"
+abbrev pub othersToChange : ℕ
+othersToChange = 35
+
+-- "office not 1 or 2"
+abbrev pub officeUnknown : ℕ
+officeUnknown = 39

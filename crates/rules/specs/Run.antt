@@ -1,5 +1,5 @@
 -- The run: document 01, "Numbers of the replies", last paragraph: "1, then 2, then updates in order, then the close; the first refusal ends the run."
--- Document 02, request (v): 26 "after 2, place 0".
+-- Document 02, request (v): 26 "after 2, place 0"; request (xi): "39, after 26".
 use Prim.Native.Nat.{ℕ, suc}
 use mathlib.Core.Bool.{Bool, cond, not, _&&_}
 use mathlib.Core.List.{List, [], _∷_}
@@ -7,13 +7,15 @@ use mathlib.Core.Option.{none}
 use lib.Dec.{eqb, leb}
 use lib.ListN.{length}
 use Rattle.rules.specs.Words.{ifSome, total, firstOf, Check}
-use Rattle.rules.specs.Replies.{accepted, startNotFormed, listTooLong, toleranceOutside}
+use Rattle.rules.specs.Replies.{accepted, startNotFormed, listTooLong, toleranceOutside, officeUnknown}
 use Rattle.rules.specs.Capacities.{listRoom}
 use Rattle.rules.specs.Window.{isOutside}
+use Rattle.rules.specs.Offices.{isOffice}
 use Rattle.rules.specs.Register.{Metadata, Update, Terms, State, Outcome}
 use Rattle.rules.specs.Register.Outcome.{Refused, Accepted}
 use Rattle.rules.specs.Register.Update.{AssignUuid, UpgradeFormatVersion, SetLocation, AddSnapshot, SetBranchSnapshot, RemoveSnapshots, SetRef, RemoveRef, AddSchema, SetCurrentSchema, RemoveSchemas, AddSortOrder, SetDefaultSortOrder, SetStatistics, RemoveStatistics, AddPartitionSpec, SetDefaultPartitionSpec, RemovePartitionSpecs, NotFormed}
 use Rattle.rules.specs.WellFormed.{metadataFormed, fileNameFormed}
+use Rattle.rules.specs.Others.{isSecond}
 use Rattle.rules.specs.Updates.{updateNumber, effect}
 use Rattle.rules.specs.Close.{closeChecks, closed, expired}
 
@@ -67,10 +69,15 @@ close terms place log st =
     (Accepted (closed terms log st) (st .log) (expired terms (st .metadata)))
     (Refused (firstOf (closeChecks terms log (st .metadata))) place)
 
--- the log that counts is the run's own, not the list that was given; the place of a close "is the list's length"
+-- the log that counts is the run's own, not the list that was given. Document 02, request (xi): "The close of an office 2 run leaves the snapshot log
+-- unbuilt", as that of an empty log does
+abbrev pub closingLog : Terms → State → List Update
+closingLog terms st = cond (isSecond (terms .office)) [] (st .log)
+
+-- the place of a close "is the list's length"
 abbrev pub closeRan : Terms → List Update → Ran → Outcome
 closeRan terms us (Stopped number at) = Refused number at
-closeRan terms us (Reached st) = close terms (length us) (st .log) st
+closeRan terms us (Reached st) = close terms (length us) (closingLog terms st) st
 
 -- 1: "starting metadata not well formed, current file's name too long"
 abbrev pub startFormed : Terms → Metadata → Bool
@@ -82,9 +89,10 @@ startChecks terms m us =
     (not (startFormed terms m), startNotFormed)
     ∷ (not (leb (listSum us) listRoom), listTooLong)
     ∷ (isOutside (terms .tolerance), toleranceOutside)
+    ∷ (not (isOffice (terms .office)), officeUnknown)
     ∷ []
 
--- the place of 1, 2 and 26 is 0
+-- the place of 1, 2, 26 and 39 is 0
 unfoldable pub run : Terms → Metadata → List Update → Outcome
 run terms m us =
     cond (eqb (firstOf (startChecks terms m us)) accepted)

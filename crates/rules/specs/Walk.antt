@@ -28,20 +28,21 @@ parentOf [] parents id = none
 parentOf (x ∷ ids) [] id = none
 parentOf (x ∷ ids) (p ∷ parents) id = cond (eqZ x id) (some p) (parentOf ids parents id)
 
--- from an id, with some listed already, for as many steps as the first number says
-unfoldable pub follow : ℕ → (ℤ → Option ℤ) → (ℤ → Bool) → List ℤ → ℤ → Walk
+-- From an id, with some listed already, for as many steps as the first number says. Whether it stops in front of an id is asked of those that are listed
+-- and of the id.
+unfoldable pub follow : ℕ → (ℤ → Option ℤ) → (List ℤ → ℤ → Bool) → List ℤ → ℤ → Walk
 follow zero parent stops listed id = Twice
 follow (suc steps) parent stops listed id = elim (parent id) [
   | none ↦ Listed listed
-  | some next ↦ cond (stops id) (Listed listed) (cond (isIn listed id) Twice (follow steps parent stops (listed ++ (id ∷ [])) next))
+  | some next ↦ cond (stops listed id) (Listed listed) (cond (isIn listed id) Twice (follow steps parent stops (listed ++ (id ∷ [])) next))
 ]
 
 -- "From a held snapshot, itself first, parent by parent, until no parent, an unheld parent, or (if given) the excluded id, itself not listed."
--- No id is listed twice, so one step more than there are ids is enough.
+-- No id is listed twice and at most 64 are held, so 65 steps are enough.
 unfoldable pub ancestors : List ℤ → List ℤ → ℤ → Option ℤ → Walk
 ancestors ids parents start excluded =
     cond (listsFormed ids parents)
-    (follow (suc (length ids)) (parentOf ids parents) (λ id. someWith (eqZ id) excluded) [] start)
+    (follow (suc snapshotRoom) (parentOf ids parents) (λ listed id. someWith (eqZ id) excluded) [] start)
     Bad
 
 -- the number, with room for so many ids: "24 before 25"
@@ -63,5 +64,21 @@ walkBuffer buffer Twice = buffer
 walkBuffer buffer Bad = buffer
 
 -- "A second entry reads the catalogue's snapshot records as one lent run of records and gives the same answer."
+abbrev pub snapshotIds : List Snapshot → List ℤ
+snapshotIds snapshots = map (λ (s : Snapshot). s .id) snapshots
+
+abbrev pub snapshotParents : List Snapshot → List ℤ
+snapshotParents snapshots = map (λ (s : Snapshot). orElse (s .parent) (negsuc 0)) snapshots
+
 abbrev pub recordAncestors : List Snapshot → ℤ → Option ℤ → Walk
-recordAncestors snapshots = ancestors (map (λ s. s .id) snapshots) (map (λ s. orElse (s .parent) (negsuc 0)) snapshots)
+recordAncestors snapshots = ancestors (snapshotIds snapshots) (snapshotParents snapshots)
+
+-- the ids that a walk lists
+abbrev pub listedIds : Walk → List ℤ
+listedIds (Listed ids) = ids
+listedIds Twice = []
+listedIds Bad = []
+
+-- Document 02, request (xi), "reaches by parents": the same walk, of held snapshots, which a snapshot that is listed already ends and does not spoil.
+unfoldable pub reach : List Snapshot → ℤ → List ℤ
+reach snapshots start = listedIds (follow (suc snapshotRoom) (parentOf (snapshotIds snapshots) (snapshotParents snapshots)) isIn [] start)

@@ -12,6 +12,7 @@ use lib.ListN.{length}
 use Rattle.rules.specs.Words.{eqZ, isSome, ifSome, sameOption, all, any, first, isEmpty, unequalBy, sameBytes, unequal, ascending}
 use Rattle.rules.specs.Capacities.{snapshotRoom, refRoom, snapshotLogRoom, metadataLogRoom, schemaRoom, schemaFieldRoom, sortOrderRoom, sortFieldRoom, specRoom, partitionFieldRoom, statisticsRoom, removalRoom, nameRoom, locationRoom, fileNameRoom}
 use Rattle.rules.specs.Names.{nameBelow, isMain}
+use Rattle.rules.specs.Offices.{firstOffice, secondOffice}
 use Rattle.rules.specs.Register.{Snapshot, Reference, NamedRef, LogEntry, FileEntry, SchemaField, Schema, SortField, SortOrder, PartitionField, PartitionSpec, SpecOffer, StatisticsFile, SingleFields, Metadata, Update, lastAdded}
 use Rattle.rules.specs.Register.Update.{AssignUuid, UpgradeFormatVersion, SetLocation, AddSnapshot, SetBranchSnapshot, RemoveSnapshots, SetRef, RemoveRef, AddSchema, SetCurrentSchema, RemoveSchemas, AddSortOrder, SetDefaultSortOrder, SetStatistics, RemoveStatistics, AddPartitionSpec, SetDefaultPartitionSpec, RemovePartitionSpecs, NotFormed}
 use Rattle.rules.specs.Partitions.{identity, day, bucket, isRedundant, partitionNames, partitionIds}
@@ -56,8 +57,12 @@ retentionFormed r = ifSome atLeastOne (r .minSnapshots) && ifSome atLeastOne (r 
 abbrev pub referenceFormed : Reference → Bool
 referenceFormed r = nonNeg (r .snapshot) && kindFormed r && retentionFormed r
 
+-- document 02, request (xi): the owner is "1 or 2", and "`main` belongs to office 1"
+abbrev pub ownerFormed : NamedRef → Bool
+ownerFormed r = eqb (r .owner) firstOffice || (eqb (r .owner) secondOffice && not (isMain (r .name)))
+
 abbrev pub refFormed : NamedRef → Bool
-refFormed r = nameFormed (r .name) && referenceFormed (r .reference)
+refFormed r = nameFormed (r .name) && referenceFormed (r .reference) && ownerFormed r
 
 abbrev pub fieldIds : Schema → List ℤ
 fieldIds s = map (λ (f : SchemaField). f .id) (s .fields)

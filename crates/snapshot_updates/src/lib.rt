@@ -28,7 +28,7 @@ use records::counters::RowId;
 use records::counters::SequenceNumber;
 use records::counters::Time;
 use records::metadata::SingleFields;
-use records::reference::NamedRef;
+use records::part::RefsPart;
 use records::replies::ACCEPTED;
 use records::replies::BEFORE_LAST_ENTRY;
 use records::replies::BEFORE_LAST_UPDATE;
@@ -194,7 +194,7 @@ fn addition(u: TableUpdate) -> TableUpdate
     ensures { λ r. ⌜ ((eqb (u .kind) addSnapshotKind || eqb (u .kind) setBranchSnapshotKind) ≡ true → isTidyUpdate u ≡ true → r ≡ laidUpdate (AddSnapshot (readSnapshot (u .snapshots .added)))) ⌝ }
 {
     let mut e = u;
-    let none = NamedRef::blank();
+    let none = RefsPart::blank();
     e.kind = ADD_SNAPSHOT;
     e.refs = none;
     e

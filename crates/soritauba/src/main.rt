@@ -172,6 +172,7 @@ fn read_judged(first: u64, input: &mut Input, place: &mut Place, offers: &mut [u
         fault,
         difference,
         tolerance_ms,
+        office: run.terms.office,
     }
 }
 

@@ -14,6 +14,7 @@ use Rattle.rules.specs.Words.{ifSome}
 use Rattle.rules.specs.Replies.{accepted, startNotFormed}
 use Rattle.rules.specs.Capacities.{listRoom}
 use Rattle.rules.specs.Window.{isOutside}
+use Rattle.rules.specs.Offices.{isOffice}
 use Rattle.rules.specs.Register.{Outcome}
 use Rattle.rules.specs.Register.Outcome.{Refused}
 use Rattle.rules.specs.WellFormed.{metadataFormed, fileNameFormed}
@@ -40,6 +41,7 @@ module _ (m : TableMetadata) (us : UpdateList) (terms : RunTerms) where
     pub file : ifSome fileNameFormed (given (terms .«has_file») (readText (terms .file))) ≡ true
     pub sum : listSum (readUpdates us) ≤ 64
     pub tolerated : isOutside (terms .«tolerance_ms» .0) ≡ false
+    pub known : isOffice (terms .office) ≡ true
 
   pub starts : startNumber m us terms ≡ 0 → Starts
   unfolding startNumber startChecks
@@ -53,12 +55,13 @@ module _ (m : TableMetadata) (us : UpdateList) (terms : RunTerms) where
         file = and-right (metadataFormed (readMetadata m)) fileFits f;
         sum = leb-true (listSum (readUpdates us)) listRoom (not-false (leb (listSum (readUpdates us)) listRoom) (p .1 .0));
         tolerated = p .1 .1 .0;
+        known = not-false (isOffice (terms .office)) (p .1 .1 .1 .0);
       }
 
   -- a run that starts is the run of its updates and the close
   pub started-answer : (lent : Lent) → Starts → answer m us terms lent ≡ laidOutcome m (closeRan (readTerms terms lent) (readUpdates us) (runFrom (readTerms terms lent) (readUpdates us) 0 (started (readMetadata m))))
   unfolding answer
-  started-answer lent s = rw (s .tidy, run-started (readTerms terms lent) (readMetadata m) (readUpdates us) (both (s .formed) (s .file)) (s .sum) (s .tolerated))
+  started-answer lent s = rw (s .tidy, run-started (readTerms terms lent) (readMetadata m) (readUpdates us) (both (s .formed) (s .file)) (s .sum) (s .tolerated) (s .known))
 
   pub refused-start : (lent : Lent) (n : ℕ) → startNumber m us terms ≡ n → (n ≡ 0 → ⊥) → laidOutcome m (Refused n 0) ≡ answer m us terms lent
   unfolding startNumber answer run startChecks
@@ -122,6 +125,11 @@ module _ (m : TableMetadata) (us : UpdateList) (terms : RunTerms) where
       unfolding startNumber startChecks
       untolerated o = rw (tidy, formed, le-leb (listSum (readUpdates us)) 64 s, o)
 
-      pub starts-0 : isOutside (terms .«tolerance_ms» .0) ≡ false → 0 ≡ startNumber m us terms
-      unfolding startNumber startChecks
-      starts-0 o = rw (tidy, formed, le-leb (listSum (readUpdates us)) 64 s, o)
+      module _ (o : isOutside (terms .«tolerance_ms» .0) ≡ false) where
+        pub unknown : isOffice (terms .office) ≡ false → 39 ≡ startNumber m us terms
+        unfolding startNumber startChecks
+        unknown k = rw (tidy, formed, le-leb (listSum (readUpdates us)) 64 s, o, k)
+
+        pub starts-0 : isOffice (terms .office) ≡ true → 0 ≡ startNumber m us terms
+        unfolding startNumber startChecks
+        starts-0 k = rw (tidy, formed, le-leb (listSum (readUpdates us)) 64 s, o, k)

@@ -1,4 +1,4 @@
--- The number of a start, on records: 1, then 2, then 26.
+-- The number of a start, on records: 1, then 2, then 26, then 39.
 use Prim.Native.Nat.{ℕ}
 use mathlib.Core.Bool.{cond}
 use mathlib.Core.List.{[]}

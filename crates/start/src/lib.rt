@@ -8,6 +8,7 @@ ghost use Rattle.records.specs.declared.metadata.TableMetadata as tables;
 ghost use Rattle.records.specs.declared.update.UpdateList as lists;
 ghost use Rattle.rules.specs.Capacities.{listRoom};
 ghost use Rattle.rules.specs.Window.{isOutside};
+ghost use Rattle.rules.specs.Offices.{isOffice};
 ghost use Rattle.rules.specs.WellFormed.{metadataFormed};
 ghost use Rattle.rules.specs.Blanks.{isTidyMetadata};
 ghost use Rattle.rules.specs.Layout.{readMetadata};
@@ -23,11 +24,14 @@ use records::metadata::MetadataLog;
 use records::metadata::TableMetadata;
 use records::replies::ACCEPTED;
 use records::replies::LIST_TOO_LONG;
+use records::replies::OFFICE_UNKNOWN;
 use records::replies::START_NOT_FORMED;
 use records::replies::TOLERANCE_OUTSIDE;
 use records::run::Answer;
+use records::run::FIRST_OFFICE;
 use records::run::LONGEST_TOLERANCE_MS;
 use records::run::RunTerms;
+use records::run::SECOND_OFFICE;
 use records::update::SET_BRANCH_SNAPSHOT;
 use records::update::UpdateList;
 
@@ -63,7 +67,13 @@ fn is_outside(tolerance: Age) -> bool
     (span < 0) | (span > LONGEST_TOLERANCE_MS)
 }
 
-// 1, then 2, then 26. Whether the metadata is well formed is handed over, and not the metadata, which would be copied. The sum is that of
+fn is_office(office: u8) -> bool
+    ensures { λ r. ⌜ r ≡ isOffice office ⌝ }
+{
+    (office == FIRST_OFFICE) | (office == SECOND_OFFICE)
+}
+
+// 1, then 2, then 26, then 39. Whether the metadata is well formed is handed over, and not the metadata, which would be copied. The sum is that of
 // the list, where its count is at most 64.
 pub fn start_number(is_formed: bool, terms: RunTerms, count: usize, sum: usize) -> u8
     ensures { λ r. ⌜ ((m : tables.TableMetadata) (us : lists.UpdateList) → «is_formed» ≡ (isTidyMetadata m && metadataFormed (readMetadata m)) → us .count ≡ count → (count ≤ listRoom → sum ≡ listSum (readUpdates us)) → r ≡ startNumber m us terms) ⌝ }
@@ -72,6 +82,7 @@ pub fn start_number(is_formed: bool, terms: RunTerms, count: usize, sum: usize) 
     let file = terms.file;
     let length = file.len;
     let outside = is_outside(terms.tolerance_ms);
+    let known = is_office(terms.office);
     if !is_formed {
         return START_NOT_FORMED;
     }
@@ -83,6 +94,9 @@ pub fn start_number(is_formed: bool, terms: RunTerms, count: usize, sum: usize) 
     }
     if outside {
         return TOLERANCE_OUTSIDE;
+    }
+    if !known {
+        return OFFICE_UNKNOWN;
     }
     ACCEPTED
 }

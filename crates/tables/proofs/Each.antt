@@ -20,6 +20,7 @@ use Rattle.records.specs.declared.snapshot.SnapshotLogEntry.{SnapshotLogEntry}
 use Rattle.records.specs.declared.snapshot.SnapshotLog.{SnapshotLog}
 use Rattle.records.specs.declared.reference.NamedRef.{NamedRef}
 use Rattle.records.specs.declared.reference.Refs.{Refs}
+use Rattle.records.specs.declared.part.RefsPart.{RefsPart}
 use Rattle.records.specs.declared.schema.Schema.{Schema}
 use Rattle.records.specs.declared.schema.Schemas.{Schemas}
 use Rattle.records.specs.declared.schema.SchemaField.{SchemaField}
@@ -37,7 +38,7 @@ use Rattle.rules.specs.Register as plain
 use Rattle.rules.specs.Capacities.{nameRoom, removalRoom, snapshotRoom, refRoom, schemaRoom, sortOrderRoom, statisticsRoom, snapshotLogRoom, metadataLogRoom, schemaFieldRoom, sortFieldRoom, specRoom, partitionFieldRoom}
 use Rattle.rules.specs.Layout.{readSnapshotIds, laidSnapshotIds, readSchemaIds, laidSchemaIds, readSpecIds, laidSpecIds, readSnapshot, laidSnapshot, laidSnapshots, readRef, laidRef, laidRefs, readSchema, laidSchema, laidSchemas, readSortOrder, laidSortOrder, laidSortOrders, readStatisticsFile, laidStatisticsFile, laidStatistics, readLogEntry, laidLogEntry, laidSnapshotLog, readMetadataLogEntry, laidMetadataLogEntry, laidMetadataLog, readSchemaField, laidSchemaField, readSortField, laidSortField, readPartitionField, laidPartitionField, readPartitionSpec, laidPartitionSpec, laidPartitionSpecs}
 use Rattle.rules.proofs.Slots.Reread.{reread-snapshot-ids, reread-schema-ids, reread-spec-ids}
-use Rattle.tables.specs.Laid.{LaidName, LaidRef, LaidSnapshotIds, LaidSchemaIds, LaidSpecIds, LaidSnapshots, LaidRefs, LaidSchemas, LaidOrders, LaidStatistics, LaidSnapshotLog, LaidMetadataLog, LaidSchema, LaidOrder, LaidSpec, LaidSpecs}
+use Rattle.tables.specs.Laid.{LaidName, LaidRef, LaidRefsPart, LaidSnapshotIds, LaidSchemaIds, LaidSpecIds, LaidSnapshots, LaidRefs, LaidSchemas, LaidOrders, LaidStatistics, LaidSnapshotLog, LaidMetadataLog, LaidSchema, LaidOrder, LaidSpec, LaidSpecs}
 use Rattle.tables.proofs.Table.{Kind, Tidy, Made, read-length, each-at, element-back}
 
 abbrev pub snapshotIds : Kind
@@ -187,6 +188,11 @@ tidy-partition-spec h = record { slots = ap (λ (t : PartitionSpec). t .items) (
 pub name-of : {r : NamedRef} → LaidRef r → LaidName (r .name)
 unfolding laidRef
 name-of h = record { back = ap (λ (r : NamedRef). r .name) (h .back); fits = h .fits }
+
+-- the ref of a part, whoever owns it
+pub part-ref : {p : RefsPart} → LaidRefsPart p → (o : ℕ) → LaidRef (record { name = p .name; reference = p .reference; owner = o })
+unfolding laidRef
+part-ref h o = record { back = λ i. record { name = h .name .back i; reference = h .reference i; owner = o }; fits = h .name .fits }
 
 pub ref-at : {t : Refs} → LaidRefs t → (i : ℕ) (d : NamedRef) → i < t .count → LaidRef (getD (t .items) i d)
 ref-at h i d b = record { back = element-back (tidy-refs h) i d b; fits = leb-true _ _ (each-at (tidy-refs h) i d b (λ (r : plain.NamedRef). leb (length (r .name)) nameRoom) (h .names)) }

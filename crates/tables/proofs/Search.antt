@@ -4,12 +4,13 @@ use native.Mathlib.Omega.{arith}
 use mathlib.Core.Path.{_≡_, refl, sym, ap, ap₂, _∙_}
 use mathlib.Core.Bool.{Bool, true, false, false≢true}
 use mathlib.Core.List.{List, [], _∷_, map}
-use mathlib.Core.Option.{some}
+use mathlib.Core.Option.{none, some}
 use borrow.Author.Tests.{ltb-true}
 use borrow.Table.Steps.{cases}
 use lib.Dec.{ltb}
 use lib.ListN.{getD, drop, drop-of-length-le}
 use Rattle.rules.specs.Words.{any, first}
+use Rattle.rules.proofs.Checks.{neither}
 use Rattle.search.specs.Places.{indexOf}
 use Rattle.search.proofs.Places.{index-le, index-below}
 use Rattle.tables.proofs.Table.{Kind, Tidy, listed, read-length, at, within, rest}
@@ -62,6 +63,10 @@ any-map p f (x ∷ l) = rw (any-map p f l)
 first-at : {A : Type 0} (p : A → Bool) (l : List A) (d : A) → any p l ≡ true → first p l ≡ some (getD l (indexOf p l) d)
 first-at p [] d e = absurd (false≢true e)
 first-at p (x ∷ l) d e = cases (p x) (λ t. rw t) (λ f. rw f (first-at p l d (rw f at e)))
+
+pub first-none : {A : Type 0} (p : A → Bool) (l : List A) → any p l ≡ false → first p l ≡ none
+first-none p [] e = refl
+first-none p (x ∷ l) e = let n = neither (p x) (any p l) e in rw (n .0) (first-none p l (n .1))
 
 -- one that passes stands where it is found
 module _ {K : Kind} {t : K .Whole} (h : Tidy K t) (p : K .Plain → Bool) (a : any p (listed K t) ≡ true) {i : ℕ} (e : i ≡ indexOf p (listed K t)) where

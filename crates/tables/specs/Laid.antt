@@ -1,7 +1,8 @@
 -- Records that are laid out from what is read of them, within their capacities. Tables of well-formed metadata are (`relaid`, of the rules).
-use Prim.Native.Nat.{_≤_}
+use Prim.Native.Nat.{ℕ, _≤_}
 use mathlib.Core.Path.{_≡_}
 use mathlib.Core.Bool.{true}
+use mathlib.Core.List.{List}
 use lib.Dec.{leb}
 use lib.ListN.{length}
 use Rattle.records.specs.declared.text.Name.{Name}
@@ -10,6 +11,7 @@ use Rattle.records.specs.declared.snapshot.SnapshotIds.{SnapshotIds}
 use Rattle.records.specs.declared.snapshot.SnapshotLog.{SnapshotLog}
 use Rattle.records.specs.declared.reference.NamedRef.{NamedRef}
 use Rattle.records.specs.declared.reference.Refs.{Refs}
+use Rattle.records.specs.declared.part.RefsPart.{RefsPart}
 use Rattle.records.specs.declared.schema.Schema.{Schema}
 use Rattle.records.specs.declared.schema.Schemas.{Schemas}
 use Rattle.records.specs.declared.schema.SchemaIds.{SchemaIds}
@@ -22,8 +24,9 @@ use Rattle.records.specs.declared.statistics.StatisticsFile.{StatisticsFile}
 use Rattle.records.specs.declared.statistics.StatisticsFiles.{StatisticsFiles}
 use Rattle.records.specs.declared.metadata.MetadataLog.{MetadataLog}
 use Rattle.rules.specs.Words.{all}
+use Rattle.rules.specs.RefUpdates.{ownerAfter}
 use Rattle.rules.specs.Capacities.{snapshotRoom, refRoom, snapshotLogRoom, metadataLogRoom, schemaRoom, schemaFieldRoom, sortOrderRoom, sortFieldRoom, specRoom, partitionFieldRoom, statisticsRoom, removalRoom, nameRoom}
-use Rattle.rules.specs.Layout.{readName, laidName, readSnapshots, laidSnapshots, readSnapshotIds, laidSnapshotIds, readSnapshotLog, laidSnapshotLog, readRef, laidRef, readRefs, laidRefs, readSchema, laidSchema, readSchemas, laidSchemas, readSchemaIds, laidSchemaIds, readSpecIds, laidSpecIds, readSortOrder, laidSortOrder, readSortOrders, laidSortOrders, readPartitionSpec, laidPartitionSpec, readPartitionSpecs, laidPartitionSpecs, readStatisticsFile, laidStatisticsFile, readStatistics, laidStatistics, readMetadataLog, laidMetadataLog}
+use Rattle.rules.specs.Layout.{readName, laidName, readSnapshots, laidSnapshots, readSnapshotIds, laidSnapshotIds, readSnapshotLog, laidSnapshotLog, readReference, laidReference, readRef, laidRef, readRefs, laidRefs, readSchema, laidSchema, readSchemas, laidSchemas, readSchemaIds, laidSchemaIds, readSpecIds, laidSpecIds, readSortOrder, laidSortOrder, readSortOrders, laidSortOrders, readPartitionSpec, laidPartitionSpec, readPartitionSpecs, laidPartitionSpecs, readStatisticsFile, laidStatisticsFile, readStatistics, laidStatistics, readMetadataLog, laidMetadataLog}
 use Rattle.rules.specs.Register as plain
 
 -- ---- texts
@@ -37,6 +40,15 @@ pub record LaidName (t : Name) : Type 0 where
 pub record LaidRef (r : NamedRef) : Type 0 where
   pub back : laidRef (readRef r) ≡ r
   pub fits : length (readName (r .name)) ≤ nameRoom
+
+-- a ref as an update offers it
+pub record LaidRefsPart (p : RefsPart) : Type 0 where
+  pub name : LaidName (p .name)
+  pub reference : laidReference (readReference (p .reference)) ≡ p .reference
+
+-- the ref that it makes among some: with the owner of the one that has its name, or the office
+abbrev pub ownedRef : ℕ → RefsPart → List plain.NamedRef → plain.NamedRef
+ownedRef office p l = record { name = readName (p .name); owner = ownerAfter office (readName (p .name)) l; reference = readReference (p .reference) }
 
 pub record LaidSchema (s : Schema) : Type 0 where
   pub back : laidSchema (readSchema s) ≡ s

@@ -2,11 +2,15 @@
 ghost use mathlib.Core.Path.{_≡_};
 ghost use mir.Syntax.{w32};
 ghost use mir.Val.{SFits};
+ghost use lib.IntN.{negsuc};
+ghost use Rattle.rules.specs.Words.{orElse};
+ghost use Rattle.rules.specs.Layout.{readSnapshot};
 use records::counters::FieldId;
 use records::counters::SchemaId;
 use records::counters::SnapshotId;
 use records::counters::SortOrderId;
 use records::counters::SpecId;
+use records::snapshot::Snapshot;
 use search::Key;
 
 pub fn snapshot_key(id: SnapshotId) -> Key
@@ -14,6 +18,16 @@ pub fn snapshot_key(id: SnapshotId) -> Key
 {
     let x = id.0;
     Key(x)
+}
+
+// -1 where there is no parent.
+pub fn parent_key(s: Snapshot) -> Key
+    ensures { λ r. ⌜ r .0 ≡ orElse (readSnapshot s .parent) (negsuc 0) ⌝ }
+{
+    if s.has_parent {
+        return snapshot_key(s.parent_snapshot_id);
+    }
+    Key(-1)
 }
 
 pub fn order_key(id: SortOrderId) -> Key

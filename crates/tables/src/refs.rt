@@ -11,10 +11,11 @@ ghost use Rattle.rules.specs.WellFormed.{refBelow};
 ghost use Rattle.rules.specs.RefUpdates.{hasName};
 ghost use Rattle.rules.specs.Layout.{readName, readRef, readRefs, laidRefs};
 ghost use Rattle.search.specs.Places.{indexOf};
-ghost use Rattle.tables.specs.Laid.{LaidName, LaidRef, LaidRefs};
+ghost use Rattle.tables.specs.Laid.{LaidName, LaidRef, LaidRefsPart, LaidRefs, ownedRef};
 use crate::ids::is_held;
 use crate::names::name_is_below;
 use equality::text::same_name;
+use records::part::RefsPart;
 use records::reference::NamedRef;
 use records::reference::Refs;
 use records::text::Name;
@@ -77,27 +78,38 @@ fn insert_at(t: Refs, at: usize, x: NamedRef) -> Refs
     r
 }
 
-// The ref in its place; it takes the place of one with its name.
-pub fn put(t: Refs, x: NamedRef) -> Refs
+// The ref in its place. It takes the place of one with its name, and has that one's owner; another one is the office's.
+pub fn put(t: Refs, x: RefsPart, office: u8) -> Refs
     requires { ⌜ LaidRefs t ⌝ }
-    requires { ⌜ LaidRef x ⌝ }
+    requires { ⌜ LaidRefsPart x ⌝ }
     requires { ⌜ (any (hasName (readName (x .name))) (readRefs t) ≡ false → t .count < 16) ⌝ }
     requires { ⌜ ascending refBelow (readRefs t) ≡ true ⌝ }
-    ensures { λ r. ⌜ r ≡ laidRefs (putBy refBelow (readRef x) (readRefs t)) ⌝ }
+    ensures { λ r. ⌜ r ≡ laidRefs (putBy refBelow (ownedRef office x (readRefs t)) (readRefs t)) ⌝ }
 {
     let n = t.count;
     let name = x.name;
+    let reference = x.reference;
     let at = place(t, name);
     if at < n {
         let y = t.items[at];
         let other = y.name;
         if same_name(other, name) {
             let mut r = t;
-            r.items[at] = x;
+            let kept = NamedRef {
+                name,
+                reference,
+                owner: y.owner,
+            };
+            r.items[at] = kept;
             return r;
         }
     }
-    insert_at(t, at, x)
+    let made = NamedRef {
+        name,
+        reference,
+        owner: office,
+    };
+    insert_at(t, at, made)
 }
 
 pub fn without(t: Refs, name: Name) -> Refs

@@ -9,11 +9,13 @@ ghost use Rattle.rules.specs.Words.{put as putBy, ascending};
 ghost use Rattle.rules.specs.Capacities.{snapshotRoom};
 ghost use Rattle.rules.specs.Register as plain;
 ghost use Rattle.rules.specs.WellFormed.{snapshotBelow, holdsSnapshot};
+ghost use Rattle.rules.specs.Walk.{snapshotParents};
 ghost use Rattle.rules.specs.SnapshotUpdates.{heldSnapshots, otherSnapshots};
 ghost use Rattle.rules.specs.Layout.{pad, readSnapshot, laidSnapshot, readSnapshots, laidSnapshots, readSnapshotIds, laidSnapshotIds};
 ghost use Rattle.tables.specs.Laid.{LaidSnapshots, LaidSnapshotIds};
 use crate::ids::has_snapshot;
 use crate::ids::push_snapshot;
+use crate::keys::parent_key;
 use crate::keys::snapshot_key;
 use records::capacities::SNAPSHOTS;
 use records::snapshot::Snapshot;
@@ -31,6 +33,23 @@ pub fn ids_of(t: Snapshots) -> [i64; SNAPSHOTS]
     while (i < n) & (i < SNAPSHOTS) {
         let s = t.items[i];
         let x = s.snapshot_id;
+        let z = x.0;
+        r[i] = z;
+        i += 1;
+    }
+    r
+}
+
+// The ids of the parents, in table order, -1 where there is none, and zeros after them. Of a table that is not laid out, as above.
+pub fn parents_of(t: Snapshots) -> [i64; SNAPSHOTS]
+    ensures { λ r. ⌜ (LaidSnapshots t → r ≡ pad snapshotRoom (pos 0) (snapshotParents (readSnapshots t))) ⌝ }
+{
+    let n = t.count;
+    let mut r = [0i64; SNAPSHOTS];
+    let mut i = 0;
+    while (i < n) & (i < SNAPSHOTS) {
+        let s = t.items[i];
+        let x = parent_key(s);
         let z = x.0;
         r[i] = z;
         i += 1;

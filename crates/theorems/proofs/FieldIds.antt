@@ -12,14 +12,14 @@ use Rattle.rules.specs.Words.{all, isIn, unequal, ascending}
 use Rattle.rules.specs.Register.{Metadata, Outcome}
 use Rattle.rules.specs.Layout.{readMetadata}
 use Rattle.rules.specs.Run.{started}
-use Rattle.rules.specs.Rows.{Given, answeredFrom, endOver as endOfRuns}
+use Rattle.rules.specs.Rows.{answeredFrom}
 use Rattle.rules.specs.FieldIds.{freshFrom, freshIn as freshInRun, freshOver as freshOfRuns, lastPartitionOf, heldFieldIds, isAtMost, isReached}
 use Rattle.rules.proofs.Tables.{all-then}
 use Rattle.rules.proofs.Replay.Keys.{in-all}
 use Rattle.rules.proofs.FieldIds.Runs.{last-partition-stays, fresh-above-start, fresh-ascending, fresh-once, fresh-by-end, reached-at-end}
 use Rattle.theorems.proofs.Run.{Call, start, run-refused}
 use Rattle.theorems.proofs.Moment.{before, asked, under, accepted}
-use Rattle.theorems.proofs.Rows.{Chain, endOver}
+use Rattle.theorems.proofs.Chains.{Chain, endOver, asRun, runsOf, chain-ends}
 
 -- the fresh ids that a call gives out, which its updates get by the rules, each in the state before it; a refused call gives out none
 abbrev pub freshIn : Call → List ℤ
@@ -33,42 +33,23 @@ freshOver (c ∷ cs) = freshIn c ++ freshOver cs
 abbrev lastPartition : TableMetadata → ℤ
 lastPartition m = m .fields .«last_partition_id» .0
 
--- ---- a chain of calls is a sequence of runs of the rules
-
-abbrev asRun : Call → Given
-asRun c = record { terms = under c; updates = asked c }
-
--- those that were accepted; a refused one leaves what it was given
-abbrev runsOf : List Call → List Given
-runsOf [] = []
-runsOf (c ∷ cs) = cond (eqb (c .answered .number) 0) (asRun c ∷ runsOf cs) (runsOf cs)
-
--- from m these runs lead to that end, and give out those ids
-record Runs (m end : TableMetadata) (fresh : List ℤ) (gs : List Given) : Type 0 where
-  ends : endOfRuns (readMetadata m) gs ≡ readMetadata end
-  gives : freshOfRuns (readMetadata m) gs ≡ fresh
-
-call-runs : (c : Call) (end : TableMetadata) (fresh : List ℤ) (gs : List Given) → Runs (c .answered .metadata) end fresh gs
-    → Runs (start c) end (freshIn c ++ fresh) (cond (eqb (c .answered .number) 0) (asRun c ∷ gs) gs)
-unfolding endOfRuns freshOfRuns
-call-runs c end fresh gs k = go (eqb (c .answered .number) 0) refl
+-- the runs of a chain give them out
+chain-gives : (m : TableMetadata) (cs : List Call) → Chain m cs → freshOfRuns (readMetadata m) (runsOf cs) ≡ freshOver cs
+unfolding freshOfRuns
+chain-gives m [] h = refl
+chain-gives m (c ∷ cs) h =
+    subst (λ (x : TableMetadata). freshOfRuns (readMetadata x) (runsOf (c ∷ cs)) ≡ freshOver (c ∷ cs)) (h .0)
+    (go (eqb (c .answered .number) 0) refl (chain-gives (c .answered .metadata) cs (h .1)))
   where
-    go : (b : Bool) → eqb (c .answered .number) 0 ≡ b → Runs (start c) end (cond b (freshFrom (under c) (asked c) (started (before c))) [] ++ fresh) (cond b (asRun c ∷ gs) gs)
-    go true e =
-        let a = accepted c (eqb-true (c .answered .number) 0 e) in
-        record {
-          ends = ap (λ (o : Outcome). endOfRuns (answeredFrom (before c) o) gs) a ∙ k .ends;
-          gives = ap (λ (o : Outcome). freshInRun (asRun c) (before c) o ++ freshOfRuns (answeredFrom (before c) o) gs) a ∙ ap (λ (l : List ℤ). freshFrom (under c) (asked c) (started (before c)) ++ l) (k .gives);
-        }
-    go false e = subst (λ (x : TableMetadata). Runs x end fresh gs) (run-refused c (eqb-false (c .answered .number) 0 e) .metadata) k
+    own : List ℤ
+    own = freshFrom (under c) (asked c) (started (before c))
 
-chain-runs : (m : TableMetadata) (cs : List Call) → Chain m cs → Runs m (endOver m cs) (freshOver cs) (runsOf cs)
-unfolding endOfRuns freshOfRuns
-chain-runs m [] h = record { ends = refl; gives = refl }
-chain-runs m (c ∷ cs) h =
-    let next : TableMetadata = c .answered .metadata in
-    subst (λ (x : TableMetadata). Runs x (endOver next cs) (freshOver (c ∷ cs)) (runsOf (c ∷ cs))) (h .0)
-    (call-runs c (endOver next cs) (freshOver cs) (runsOf cs) (chain-runs next cs (h .1)))
+    go : (b : Bool) → eqb (c .answered .number) 0 ≡ b → freshOfRuns (readMetadata (c .answered .metadata)) (runsOf cs) ≡ freshOver cs
+        → freshOfRuns (before c) (cond b (asRun c ∷ runsOf cs) (runsOf cs)) ≡ cond b own [] ++ freshOver cs
+    go true e k =
+        ap (λ (o : Outcome). freshInRun (asRun c) (before c) o ++ freshOfRuns (answeredFrom (before c) o) (runsOf cs)) (accepted c (eqb-true (c .answered .number) 0 e))
+        ∙ ap (λ (l : List ℤ). own ++ l) k
+    go false e k = ap (λ (x : TableMetadata). freshOfRuns (readMetadata x) (runsOf cs)) (sym (run-refused c (eqb-false (c .answered .number) 0 e) .metadata)) ∙ k
 
 -- ---- what is true of it
 
@@ -85,27 +66,27 @@ above-not-held m ids h a =
 module _ (m : TableMetadata) (cs : List Call) (h : Chain m cs) where
   -- last partition id never falls,
   pub run-last-partition-stays : ltZ (lastPartition (endOver m cs)) (lastPartition m) ≡ false
-  run-last-partition-stays = rw (chain-runs m cs h .ends) at (last-partition-stays (readMetadata m) (runsOf cs))
+  run-last-partition-stays = rw (chain-ends m cs h) at (last-partition-stays (readMetadata m) (runsOf cs))
 
   -- every fresh id is above the last partition id of the start,
   pub run-fresh-above-start : all (ltZ (lastPartition m)) (freshOver cs) ≡ true
-  run-fresh-above-start = rw (chain-runs m cs h .gives) at (fresh-above-start (readMetadata m) (runsOf cs))
+  run-fresh-above-start = rw (chain-gives m cs h) at (fresh-above-start (readMetadata m) (runsOf cs))
 
   -- each is above all that were given out before it,
   pub run-fresh-ascending : ascending ltZ (freshOver cs) ≡ true
-  run-fresh-ascending = rw (chain-runs m cs h .gives) at (fresh-ascending (readMetadata m) (runsOf cs))
+  run-fresh-ascending = rw (chain-gives m cs h) at (fresh-ascending (readMetadata m) (runsOf cs))
 
   -- so none is given out twice, also where its spec was removed since,
   pub run-fresh-once : unequal (freshOver cs) ≡ true
-  run-fresh-once = rw (chain-runs m cs h .gives) at (fresh-once (readMetadata m) (runsOf cs))
+  run-fresh-once = rw (chain-gives m cs h) at (fresh-once (readMetadata m) (runsOf cs))
 
   -- and the last partition id of the end is at least each
   pub run-fresh-by-end : all (isAtMost (lastPartition (endOver m cs))) (freshOver cs) ≡ true
-  run-fresh-by-end = rw (chain-runs m cs h .gives, chain-runs m cs h .ends) at (fresh-by-end (readMetadata m) (runsOf cs))
+  run-fresh-by-end = rw (chain-gives m cs h, chain-ends m cs h) at (fresh-by-end (readMetadata m) (runsOf cs))
 
   -- where the last partition id of the start is at least every field id that it holds, so is that of the end,
   pub run-reached-at-end : isReached (readMetadata m) ≡ true → isReached (readMetadata (endOver m cs)) ≡ true
-  run-reached-at-end r = rw (chain-runs m cs h .ends) at (reached-at-end (readMetadata m) (runsOf cs) r)
+  run-reached-at-end r = rw (chain-ends m cs h) at (reached-at-end (readMetadata m) (runsOf cs) r)
 
   -- and no fresh id is the id of a field that was held at the start
   pub run-fresh-never-held : isReached (readMetadata m) ≡ true → all (λ (id : ℤ). not (isIn (heldFieldIds (readMetadata m)) id)) (freshOver cs) ≡ true

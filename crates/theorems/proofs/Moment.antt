@@ -4,6 +4,7 @@ use mathlib.Core.Bool.{true, false}
 use mathlib.Core.List.{List}
 use lib.IntN.{ℤ}
 use Rattle.records.specs.declared.run.Answer.{Answer}
+use Rattle.rules.specs.Offices.{firstOffice}
 use Rattle.rules.specs.Register.{LogEntry, Metadata, Update, Terms}
 use Rattle.rules.specs.Register.Outcome.{Accepted}
 use Rattle.rules.specs.ChangeLog.{logsRemoval}
@@ -50,8 +51,8 @@ module _ (c : Call) (e : c .answered .number ≡ 0) where
   pub run-whole-stays : isWhole (before c) ≡ true → isWhole (after c) ≡ true
   run-whole-stays = whole-stays (under c) (before c) (asked c) (after c) (changes c) (readMetadataLog (c .answered .expired)) accepted
 
-  -- after an accepted run that logs a removal of snapshots the history is whole, whatever it was
-  pub run-whole-after-removal : logsRemoval (changes c) ≡ true → isWhole (after c) ≡ true
+  -- after an accepted run of office 1 that logs a removal of snapshots the history is whole, whatever it was
+  pub run-whole-after-removal : terms c .office ≡ firstOffice → logsRemoval (changes c) ≡ true → isWhole (after c) ≡ true
   run-whole-after-removal = whole-after-removal (under c) (before c) (asked c) (after c) (changes c) (readMetadataLog (c .answered .expired)) accepted
 
   module _ (w : isWhole (before c) ≡ true) (n : removesAndAdds (changes c) ≡ false) where

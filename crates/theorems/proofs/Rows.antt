@@ -17,21 +17,12 @@ use Rattle.rules.proofs.Rows.ApartExactly.{apart-means, disjoint-from-held}
 use Rattle.rules.proofs.Rows.Above.{adds-above}
 use Rattle.rules.proofs.Answer.Rows.{newIn, answer-logs-new, answer-adds, answer-apart-stays, answer-rows-apart-stays}
 use Rattle.theorems.proofs.Run.{Call, start, updates, terms, lent, says}
+use Rattle.theorems.proofs.Chains.{Chain, endOver}
 
--- each call starts from what the one before answered, the first from m
-abbrev pub Chain : TableMetadata → List Call → Type 0
-Chain m [] = Unit {0}
-Chain m (c ∷ cs) = (start c ≡ m) × Chain (c .answered .metadata) cs
-
--- the snapshots that their changes add, in order; a refused call has no changes (`run-refused`)
+-- the snapshots that the changes of calls add, in order; a refused call has no changes (`run-refused`)
 abbrev pub newOver : List Call → List Snapshot
 newOver [] = []
 newOver (c ∷ cs) = newIn (c .answered) ++ newOver cs
-
--- what the last of them answers; m, where there is none
-abbrev pub endOver : TableMetadata → List Call → TableMetadata
-endOver m [] = m
-endOver m (c ∷ cs) = endOver (c .answered .metadata) cs
 
 -- what one call adds
 call-adds : (m : TableMetadata) (c : Call) → start c ≡ m → m .fields .«format_version» ≡ 3 → Adds (readMetadata m) (readMetadata (c .answered .metadata)) (newIn (c .answered))

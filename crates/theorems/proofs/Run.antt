@@ -55,7 +55,7 @@ callOf m us t l =
     let offers : RefT (List ℕ) = record { ptr = (0, 0); name = 0; now = l .offers } in
     record { lifetimes = ([], ([], tt)); given = (m, (us, (t, (text, (offers, tt))))); answered = answer m us t l; left = (m, (us, (t, (text, (offers, tt))))); allowed = refl }
 
--- the same start, the same terms (clock reading, tolerance and file name), the same limit text and the same offers
+-- the same start, the same terms (clock reading, tolerance, office and file name), the same limit text and the same offers
 pub record Alike (c d : Call) : Type 0 where
   pub start : start d ≡ start c
   pub terms : terms d ≡ terms c
@@ -73,8 +73,8 @@ run-asks-nothing M 𝓤 H A mem run κs a = (tt, id⊢ 𝓤 (emp 𝓤))
 pub run-unique : (c d : Call) → Alike c d → updates d ≡ updates c → d .answered ≡ c .answered
 run-unique c d a u = says d ∙ alike (a .start) u (a .terms) (a .lent) ∙ sym (says c)
 
--- the number is one of 0 to 23, 26 and 31 to 34; 0, 1, 2 and 26 come with the place 0, 3 to 19, 33 and 34 with that of an update of the list, 20 to 23 with the count of
--- the list, and 31 and 32 with at most that count: an update gives them, or the close
+-- the number is one of 0 to 23, 26, 31 to 35 and 39; 0, 1, 2, 26 and 39 come with the place 0, 3 to 19 and 33 to 35 with that of an update of the list, 20 to 23 with the
+-- count of the list, and 31 and 32 with at most that count: an update gives them, or the close
 pub run-reply : (c : Call) → Reply (updates c .count) (c .answered .number) (c .answered .place)
 run-reply c = subst (λ (x : Answer). Reply (updates c .count) (x .number) (x .place)) (sym (says c)) (answer-reply (start c) (updates c) (terms c) (lent c))
 

@@ -18,5 +18,8 @@ pub const TAG: usize = 5;
 // A kind of case that is answered many times: 0 to 3 or the bound.
 pub const REPEATED: usize = 6;
 
+// The count of the owners: the bound.
+pub const OWNERS: usize = 7;
+
 // The end of the input.
-pub const END: usize = 7;
+pub const END: usize = 8;

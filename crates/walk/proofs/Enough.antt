@@ -8,9 +8,11 @@ use native.Mathlib.Omega.{arith}
 use borrow.Table.Steps.{cases}
 use lib.IntN.{ℤ}
 use lib.ListN.{length}
+use Rattle.rules.specs.Capacities.{snapshotRoom}
 use Rattle.rules.specs.Words.{isIn}
 use Rattle.rules.specs.Walk.{listsFormed, ancestors}
-use Rattle.walk.proofs.Follow.{nextOf, unlisted, none-listed, leaves-fewer, from, onward, by-step}
+use Rattle.rules.proofs.Unlisted.{unlisted, none-listed}
+use Rattle.walk.proofs.Follow.{nextOf, few, leaves-fewer, from, onward, by-step}
 
 module _ (ids parents : List ℤ) (excluded : Option ℤ) where
   same-onward : (j k : ℕ) (listed : List ℤ) (id : ℤ) (o : Option ℤ) →
@@ -30,4 +32,4 @@ module _ (ids parents : List ℤ) (excluded : Option ℤ) where
 
   pub enough-steps : (start : ℤ) (k : ℕ) → listsFormed ids parents ≡ true → length ids < k → ancestors ids parents start excluded ≡ from ids parents excluded k [] start
   unfolding ancestors
-  enough-steps start k e h = rw e (same-steps (suc (length ids)) k [] start (omega (arith, none-listed ids)) (omega (arith, none-listed ids)))
+  enough-steps start k e h = rw e (same-steps (suc snapshotRoom) k [] start (omega (arith, none-listed ids, few ids parents e)) (omega (arith, none-listed ids)))

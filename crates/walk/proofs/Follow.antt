@@ -1,12 +1,11 @@
 -- A walk on its way: each step lists a held id that was not listed, so fewer are left, and the steps that the rule allows are enough.
 use Prim.Native.Nat.{ℕ, suc, _+_, _-_, _≤_, _<_}
-use mathlib.Core.Path.{_≡_, refl, sym, ap, _∙_}
-use mathlib.Core.Bool.{Bool, true, false, false≢true, cond, _||_, or-true, or-false, or-assoc}
+use mathlib.Core.Path.{_≡_, refl, ap, _∙_}
+use mathlib.Core.Bool.{Bool, true, false, cond}
 use mathlib.Core.List.{List, [], _∷_, _++_}
 use mathlib.Core.Option.{Option, none, some}
 use native.Mathlib.Omega.{arith}
 use borrow.Author.Tests.{eqb-true, leb-true}
-use borrow.Table.Steps.{cases}
 use lib.Dec.{eqb, leb}
 use lib.IntN.{ℤ}
 use lib.ListN.{length, length-append}
@@ -15,8 +14,7 @@ use Rattle.rules.specs.Capacities.{snapshotRoom}
 use Rattle.rules.specs.Words.{eqZ, all, isIn, unequal, someWith}
 use Rattle.rules.specs.Walk.{Walk, Listed, Twice, Bad, parentOf, listsFormed, follow, ancestors}
 use Rattle.rules.proofs.Checks.{Hold, parts}
-use Rattle.rules.proofs.Orders.{numbers-told}
-use Rattle.walk.proofs.Bits.{eqZ-same}
+use Rattle.rules.proofs.Unlisted.{held, unlisted, none-listed, fewer}
 
 -- ---- a step from an id is to the parent of a held one
 
@@ -28,49 +26,6 @@ to-parent : (stops : Bool) (o : Option ℤ) {next : ℤ} → cond stops none o �
 to-parent true o e = cc
 to-parent false o e = e
 
-held : (ids parents : List ℤ) (id : ℤ) {next : ℤ} → parentOf ids parents id ≡ some next → isIn ids id ≡ true
-held [] parents id e = cc
-held (x ∷ ids) [] id e = cc
-held (x ∷ ids) (p ∷ parents) id e =
-    cases (eqZ x id)
-    (λ t. rw (eqZ-same id x (sym (numbers-told .equal x id t))))
-    (λ f. rw (held ids parents id (rw f at e)) (or-true (eqZ id x)))
-
--- ---- how many of the ids are not listed
-
-abbrev pub unlisted : List ℤ → List ℤ → ℕ
-unlisted listed [] = 0
-unlisted listed (x ∷ ids) = cond (isIn listed x) 0 1 + unlisted listed ids
-
-pub none-listed : (ids : List ℤ) → unlisted [] ids ≡ length ids
-none-listed [] = refl
-none-listed (x ∷ ids) = omega (arith, none-listed ids)
-
-in-longer : (listed : List ℤ) (id x : ℤ) → isIn (listed ++ (id ∷ [])) x ≡ (isIn listed x || eqZ x id)
-in-longer [] id x = or-false (eqZ x id)
-in-longer (y ∷ listed) id x = rw (in-longer listed id x) (sym (or-assoc (eqZ x y) (isIn listed x) (eqZ x id)))
-
-no-less : (a b : Bool) → cond (a || b) 0 1 ≤ cond a 0 1
-no-less true b = omega arith
-no-less false true = omega arith
-no-less false false = omega arith
-
-module _ (listed : List ℤ) (id : ℤ) where
-  abbrev longer : List ℤ
-  longer = listed ++ (id ∷ [])
-
-  no-more : (ids : List ℤ) → unlisted longer ids ≤ unlisted listed ids
-  no-more [] = omega arith
-  no-more (x ∷ ids) = rw (in-longer listed id x) (omega (arith, no-less (isIn listed x) (eqZ x id), no-more ids))
-
-  fewer : (ids : List ℤ) → isIn ids id ≡ true → isIn listed id ≡ false → unlisted longer ids < unlisted listed ids
-  fewer [] h e = absurd (false≢true h)
-  fewer (x ∷ ids) h e =
-      cases (eqZ id x)
-      (λ t. let q : x ≡ id = sym (numbers-told .equal id x t) in
-      rw (in-longer listed id x, q, e, eqZ-same id id refl) (omega (arith, no-more ids)))
-      (λ f. rw (in-longer listed id x) (omega (arith, no-less (isIn listed x) (eqZ x id), fewer ids (rw f at h) e)))
-
 -- ---- a walk on its way
 
 -- lists that are well formed
@@ -81,7 +36,7 @@ module _ (ids parents : List ℤ) (e : listsFormed ids parents ≡ true) where
   pub as-many : length ids ≡ length parents
   as-many = eqb-true (length ids) (length parents) (tests .0)
 
-  few : length ids ≤ snapshotRoom
+  pub few : length ids ≤ snapshotRoom
   few = leb-true (length ids) snapshotRoom (tests .1 .0)
 
   pub apart : unequal ids ≡ true
@@ -89,7 +44,7 @@ module _ (ids parents : List ℤ) (e : listsFormed ids parents ≡ true) where
 
 module _ (ids parents : List ℤ) (excluded : Option ℤ) where
   abbrev pub from : ℕ → List ℤ → ℤ → Walk
-  from k listed id = follow k (parentOf ids parents) (λ x. someWith (eqZ x) excluded) listed id
+  from k listed id = follow k (parentOf ids parents) (λ l x. someWith (eqZ x) excluded) listed id
 
   abbrev pub onward : ℕ → List ℤ → ℤ → Option ℤ → Walk
   onward k listed id none = Listed listed
@@ -112,7 +67,7 @@ module _ (ids parents : List ℤ) (excluded : Option ℤ) where
 pub record Going (ids parents : List ℤ) (excluded : Option ℤ) (start : ℤ) (listed : List ℤ) (id : ℤ) : Type 0 where
   pub few-ids : length ids ≤ snapshotRoom
   pub fresh : length listed + unlisted listed ids ≤ length ids
-  pub same : ancestors ids parents start excluded ≡ from ids parents excluded (suc (length ids - length listed)) listed id
+  pub same : ancestors ids parents start excluded ≡ from ids parents excluded (suc (snapshotRoom - length listed)) listed id
 
 -- the same way, by other names for where it stands
 pub going-at : {ids parents : List ℤ} {excluded : Option ℤ} {start : ℤ} {listed listed′ : List ℤ} {id id′ : ℤ} → listed′ ≡ listed → id′ ≡ id → Going ids parents excluded start listed id → Going ids parents excluded start listed′ id′
@@ -138,11 +93,11 @@ leaves-fewer ids parents excluded listed id to e =
 
 module _ {ids parents : List ℤ} {excluded : Option ℤ} {start : ℤ} {listed : List ℤ} {id : ℤ} (g : Going ids parents excluded start listed id) where
   pub ends : nextOf ids parents excluded id ≡ none → ancestors ids parents start excluded ≡ Listed listed
-  ends e = g .same ∙ by-step ids parents excluded (length ids - length listed) listed id ∙ rw e
+  ends e = g .same ∙ by-step ids parents excluded (snapshotRoom - length listed) listed id ∙ rw e
 
   module _ {next : ℤ} (to : nextOf ids parents excluded id ≡ some next) where
     pub meets : isIn listed id ≡ true → ancestors ids parents start excluded ≡ Twice
-    meets e = g .same ∙ by-step ids parents excluded (length ids - length listed) listed id ∙ rw (to, e)
+    meets e = g .same ∙ by-step ids parents excluded (snapshotRoom - length listed) listed id ∙ rw (to, e)
 
     module _ (e : isIn listed id ≡ false) where
       left : unlisted (listed ++ (id ∷ [])) ids < unlisted listed ids
@@ -158,6 +113,6 @@ module _ {ids parents : List ℤ} {excluded : Option ℤ} {start : ℤ} {listed 
             fresh = omega (arith, g .fresh, left, length-append listed (id ∷ []));
             same =
                 g .same
-                ∙ by-step ids parents excluded (length ids - length listed) listed id
+                ∙ by-step ids parents excluded (snapshotRoom - length listed) listed id
                 ∙ rw (to, e) (ap (λ (k : ℕ). from ids parents excluded k (listed ++ (id ∷ [])) next) (omega (arith, room, length-append listed (id ∷ []))));
           }

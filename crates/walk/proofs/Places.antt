@@ -1,7 +1,7 @@
--- Where an id stands, and what stands there among the parents.
+-- Where an id stands, and where a step from it leads.
 use Prim.Native.Nat.{ℕ, zero, suc, _≤_, _<_}
 use native.Mathlib.Omega.{arith}
-use mathlib.Core.Path.{_≡_, refl, ap}
+use mathlib.Core.Path.{_≡_, ap}
 use mathlib.Core.Bool.{true, false, false≢true, not, or-true}
 use mathlib.Core.List.{List, [], _∷_}
 use mathlib.Core.Option.{Option, none, some}
@@ -9,11 +9,11 @@ use borrow.Table.Steps.{cases}
 use lib.IntN.{ℤ, pos}
 use lib.ListN.{length, getD}
 use Rattle.rules.specs.Words.{eqZ, isIn, someWith, unequal}
-use Rattle.rules.specs.Walk.{parentOf}
 use Rattle.rules.proofs.Checks.{and-left, and-right}
 use Rattle.rules.proofs.Orders.{numbers-told}
 use Rattle.search.specs.Places.{indexOf}
 use Rattle.search.proofs.Places.{index-le}
+use Rattle.search.proofs.Parents.{parent-none, parent-at}
 use Rattle.walk.specs.Answers.{stepFrom}
 use Rattle.walk.proofs.Follow.{nextOf}
 
@@ -31,23 +31,6 @@ place-at (x ∷ l) (suc i) u h =
     (λ t. let e : isIn l x ≡ true = rw (numbers-told .equal x (getD l i (pos 0)) t) (stands l i (omega arith)) in
     absurd (false≢true (rw e at (and-left (not (isIn l x)) (unequal l) u))))
     (λ f. rw f (ap suc (place-at l i (and-right (not (isIn l x)) (unequal l) u) (omega arith))))
-
-module _ (id : ℤ) where
-  parent-none : (ids parents : List ℤ) → indexOf (λ x. eqZ x id) ids ≡ length ids → parentOf ids parents id ≡ none
-  parent-none [] parents e = refl
-  parent-none (x ∷ ids) [] e = refl
-  parent-none (x ∷ ids) (p ∷ parents) e =
-      cases (eqZ x id)
-      (λ t. absurd (omega (arith, rw t at e)))
-      (λ f. rw f (parent-none ids parents (omega (arith, rw f at e))))
-
-  parent-at : (ids parents : List ℤ) → length ids ≡ length parents → indexOf (λ x. eqZ x id) ids < length ids → parentOf ids parents id ≡ some (getD parents (indexOf (λ x. eqZ x id) ids) (pos 0))
-  parent-at [] parents e h = absurd (omega arith)
-  parent-at (x ∷ ids) [] e h = absurd (omega arith)
-  parent-at (x ∷ ids) (p ∷ parents) e h =
-      cases (eqZ x id)
-      (λ t. rw t)
-      (λ f. rw f (parent-at ids parents (omega arith) (omega (arith, rw f at h))))
 
 module _ (ids parents : List ℤ) (excluded : Option ℤ) (id : ℤ) where
   pub step-le : stepFrom ids excluded id ≤ length ids

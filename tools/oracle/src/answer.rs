@@ -3,9 +3,7 @@
 use std::collections::BTreeMap;
 use std::io::{BufRead, Write};
 
-use crate::case::{
-    Case, CaseReader, DEFAULT_TOLERANCE, Line, More, Run, SnapshotLogEntry, WalkTerms,
-};
+use crate::case::{Case, CaseReader, Line, More, Run, SnapshotLogEntry, Terms, WalkTerms};
 use crate::port::{self, Outcome, Own, Owns, Reply, WalkOutcome};
 
 /// What the unwritten part of a walk's buffer holds.
@@ -17,7 +15,7 @@ pub struct Answer {
     pub number: Option<u8>,
     /// Where the answer rests on the wrapper.
     pub owns: Owns,
-    /// What a published rule answers, the one for the next row id or that of a minute, where that is something else; by its mark.
+    /// What a published rule answers, the one for the next row id, that of a minute or the close, where that is something else; by its mark.
     pub published: BTreeMap<Own, PublishedAnswer>,
 }
 
@@ -44,7 +42,7 @@ pub fn answer(case: &Case) -> Answer {
             let (limit, owns) = port::limit(text.as_deref());
             leaf_answer(&[limit], None, owns)
         }
-        Case::TimeWindow { time, last } => window_answer(*time, *last, DEFAULT_TOLERANCE),
+        Case::TimeWindow { time, last } => window_answer(*time, *last, Terms::default().tolerance),
         Case::TimeWindowGiven {
             time,
             last,
@@ -106,7 +104,7 @@ fn current_answer(log: &[SnapshotLogEntry], time: i64) -> Answer {
 }
 
 fn run_answer(run: &Run, more: &More) -> Answer {
-    let outcome = port::run(run, more.tolerance());
+    let outcome = port::run(run, more.terms());
     reply_answer(outcome, |reply| run_line(run, more, reply))
 }
 

@@ -1,7 +1,7 @@
 //! Compares a program's answers with the oracle's, line by line. Document 01's three allowances have been made on the oracle's side
 //! (its clock is set, its logged ids are sorted, its pick is steered), so equal means equal to the byte. Where a published rule, the one
-//! for the next row id or that of a minute, gives another answer, the oracle has both: they must differ by that rule alone, and such
-//! cases are counted.
+//! for the next row id, that of a minute or, for office 2, the close, gives another answer, the oracle has both: they must differ by that
+//! rule alone, and such cases are counted.
 
 use std::collections::BTreeMap;
 use std::io::{self, BufRead, Write};
@@ -33,6 +33,10 @@ struct Tally {
     statistics: u64,
     /// The same of partition specs and schemas with names.
     specs: u64,
+    /// Runs that are given an office, or owners of refs.
+    offices: u64,
+    /// Of these the accepted ones, by office and whether the start has a ref of the other.
+    accepted_by: BTreeMap<(u8, bool), u64>,
     /// Cases that a published rule answers otherwise: by its mark, kind, reply number and whether that rule accepts.
     by_rule: BTreeMap<(Own, &'static str, Option<u8>, bool), u64>,
     different: u64,
@@ -89,15 +93,22 @@ impl Tally {
             *self.owns.entry(*own).or_default() += 1;
         }
         self.published_alone += expected.owns.is_empty() as u64;
-        if let Some((run, tolerance)) = case.run() {
+        if let Some((run, terms)) = case.run() {
             let given =
                 |has: fn(&More) -> bool| matches!(case, Case::RunGiven(_, more) if has(more));
             let updated = |is_of: fn(&Update) -> bool| run.updates.iter().any(is_of);
             let statistics = given(More::has_statistics) || updated(Update::is_of_statistics);
             self.statistics += statistics as u64;
             self.specs += (given(More::has_specs) || updated(Update::is_of_specs)) as u64;
-            self.accepted_runs += (expected.number == Some(0)) as u64;
-            self.other_tolerance += port::is_another_tolerance(tolerance) as u64;
+            let accepted = expected.number == Some(0);
+            self.accepted_runs += accepted as u64;
+            self.other_tolerance += port::is_another_tolerance(terms.tolerance) as u64;
+            if given(More::has_offices) {
+                self.offices += 1;
+                let beside = run.metadata.refs.iter().any(|r| r.owner != terms.office);
+                let by = self.accepted_by.entry((terms.office, beside));
+                *by.or_default() += accepted as u64;
+            }
         }
         for (own, published) in &expected.published {
             let here = (*own, case.kind(), expected.number, published.number == 0);
@@ -121,6 +132,14 @@ impl Tally {
         )?;
         writeln!(report, "runs with statistics files {}", self.statistics)?;
         writeln!(report, "runs with specs or names {}", self.specs)?;
+        writeln!(report, "runs with offices {}", self.offices)?;
+        for ((office, beside), count) in self.accepted_by.iter().filter(|(_, n)| **n > 0) {
+            let others = if *beside { "" } else { "no " };
+            writeln!(
+                report,
+                "  accepted by office {office}, beside {others}refs of the other: {count}"
+            )?;
+        }
         writeln!(
             report,
             "decided by the published code alone {}",
@@ -130,9 +149,26 @@ impl Tally {
             &mut report,
             Own::NextRowId,
             "next row id",
-            "the published rule",
+            [
+                "the published rule accepts",
+                "the published rule refuses elsewhere",
+            ],
         )?;
-        self.write_by_rule(&mut report, Own::Tolerance, "tolerance", "a minute")?;
+        self.write_by_rule(
+            &mut report,
+            Own::Tolerance,
+            "tolerance",
+            ["a minute accepts", "a minute refuses elsewhere"],
+        )?;
+        self.write_by_rule(
+            &mut report,
+            Own::LogUnbuilt,
+            "close of office 2",
+            [
+                "the published close rebuilds the log",
+                "the published close refuses with 21",
+            ],
+        )?;
         writeln!(
             report,
             "explained, where the published code alone differs or might:"
@@ -149,21 +185,15 @@ impl Tally {
         mut report: impl Write,
         own: Own,
         title: &str,
-        rule: &str,
+        [accepts, refuses]: [&str; 2],
     ) -> io::Result<()> {
         let of_rule = || self.by_rule.iter().filter(|((mark, ..), _)| *mark == own);
         let all: u64 = of_rule().map(|(_, count)| count).sum();
         writeln!(report, "{title} by rule {all}")?;
-        for ((_, kind, number, accepts), count) in of_rule() {
+        for ((_, kind, number, is_accepted), count) in of_rule() {
             let number = number.unwrap_or_default();
-            let published = match accepts {
-                true => "accepts",
-                false => "refuses elsewhere",
-            };
-            writeln!(
-                report,
-                "  {kind} answered {number}, {rule} {published}: {count}"
-            )?;
+            let published = if *is_accepted { accepts } else { refuses };
+            writeln!(report, "  {kind} answered {number}, {published}: {count}")?;
         }
         Ok(())
     }

@@ -27,7 +27,7 @@ pub use catalog::{TableCreation, TableUpdate};
 use generate::Kind;
 
 const USAGE: &str = "oracle answer [--published-rows] < CASES > ANSWERS
-oracle generate --seed S --count N [--kind run|walk|limit|tolerance|statistics|specs|mixed]
+oracle generate --seed S --count N [--kind run|walk|limit|tolerance|statistics|specs|offices|mixed]
 oracle compare CASES ACTUAL        (ACTUAL may be - for standard input)
 oracle pick --count K < CASES
 oracle differences [--cases]
@@ -112,6 +112,7 @@ fn kind(options: &[&str]) -> Option<Kind> {
         Some("tolerance") => Some(Kind::Tolerance),
         Some("statistics") => Some(Kind::Statistics),
         Some("specs") => Some(Kind::Specs),
+        Some("offices") => Some(Kind::Offices),
         Some("mixed") | None => Some(Kind::Mixed),
         Some(_) => None,
     }

@@ -1,11 +1,12 @@
 //! Picks a small list that shows what the given cases show: each reply, each update accepted with and without an entry in the log,
 //! each update refused with each number, each place where the answer rests on the wrapper, each reply beside what a published rule
 //! says that differs, each reply to a tolerance outside its bounds, what updates of statistics files meet or in what they are at fault,
-//! which tables of them are given, what updates of partition specs come to and why they are refused, which of the tags 4 and 5 are given;
-//! then versions, pairs and sizes.
+//! which tables of them are given, what updates of partition specs come to and why they are refused, which of the tags 4 and 5 are given,
+//! what two offices do beside each other and what stands behind 35; then versions, pairs and sizes.
 
 mod causes;
 mod faults;
+mod offices;
 mod specs;
 
 use std::collections::{BTreeMap, BTreeSet};
@@ -13,7 +14,7 @@ use std::io::{self, BufRead, Write};
 
 use crate::answer::{PublishedAnswer, answer};
 use crate::case::{
-    Case, CaseReader, Line, More, Run, StatisticsFile, TOLERANCES, Update, capacity,
+    Case, CaseReader, Line, More, Run, StatisticsFile, TOLERANCES, Terms, Update, capacity,
 };
 use crate::port::{self, Own, Owns};
 use crate::published::to_published as to;
@@ -47,6 +48,8 @@ enum Shown {
     /// A fault of a start's schemas or specs (1), alone or not; or of an update of this kind (3).
     StartFault(Part, Fault, bool),
     UpdateFault(u8, Fault),
+    /// What a run shows of request (xi).
+    Offices(offices::Fact),
     /// A time window: its kind, its answer, and a place where that rests on the wrapper.
     Window(&'static str, bool, Option<Own>),
     /// The version of a run's start and the run's reply.
@@ -143,13 +146,17 @@ fn candidate(case: Case) -> Candidate {
         if answer.number == Some(1) {
             shown.extend(start_faults(run));
         }
+        if more.has_offices() {
+            let facts = offices::given(run, more, answer.number);
+            shown.extend(facts.into_iter().map(Shown::Offices));
+        }
     }
-    if let Some((run, tolerance)) = case.run() {
+    if let Some((run, terms)) = case.run() {
         let formed = run.updates.iter().all(port::update_formed);
-        let outside = !TOLERANCES.contains(&tolerance);
+        let outside = !TOLERANCES.contains(&terms.tolerance);
         shown.extend(outside.then_some(Shown::Outside(answer.number, formed)));
         shown.insert(Shown::Version(run.metadata.version, answer.number));
-        shown.extend(updates_shown(run, tolerance));
+        shown.extend(updates_shown(run, terms));
     }
     Candidate { line, shown }
 }
@@ -210,44 +217,51 @@ fn met(m: &TableMetadata, update: &Update) -> Option<Met> {
     })
 }
 
-fn updates_shown(run: &Run, tolerance: i64) -> Vec<Shown> {
+fn updates_shown(run: &Run, terms: Terms) -> Vec<Shown> {
     let mut shown = Vec::new();
     let mut owns = Owns::new();
-    let Ok(mut builder) = port::begin(run, tolerance, &mut owns) else {
+    let Ok(mut going) = port::begin(run, terms, &mut owns) else {
         return shown;
     };
     let mut before = None;
     for update in &run.updates {
-        let logged = builder.logged();
+        let before_it = going.clone();
+        let builder = before_it.builder();
         let met = met(builder.held(), update);
-        let before_it = builder.clone();
-        builder = match port::step(builder, update, &mut owns) {
-            Ok(builder) => builder,
+        going = match port::step(going, update, &mut owns) {
+            Ok(going) => going,
             Err(number) => {
                 let refused = [Shown::Refused(update.kind(), number)].into_iter();
+                let of_offices = offices::refused(run, &before_it, update, number);
                 return refused
                     .chain(fault(update))
-                    .chain(why_refused(&before_it, update, number))
+                    .chain(why_refused(builder, update, number))
+                    .chain(of_offices.into_iter().map(Shown::Offices))
                     .collect();
             }
         };
-        let facts = specs::accepted(&before_it, update, &builder);
+        let facts = specs::accepted(builder, update, going.builder());
         shown.extend(facts.into_iter().map(Shown::Specs));
-        let logged = builder.logged() - logged;
+        let facts = offices::accepted(run, terms, &before_it, update, &going);
+        shown.extend(facts.into_iter().map(Shown::Offices));
+        let logged = going.builder().logged() - builder.logged();
         shown.push(Shown::Accepted(update.kind(), logged));
         shown.extend(met.map(Shown::Statistics));
         let here = (logged > 0).then_some(update.kind());
         shown.extend(before.zip(here).map(|(a, b)| Shown::Pair(a, b)));
         before = here;
     }
-    match port::close(builder.clone(), &mut owns) {
-        Ok(_) => shown,
-        Err(31 | 32) => specs::refused_close(&builder)
-            .into_iter()
-            .map(Shown::Specs)
-            .collect(),
-        Err(_) => Vec::new(),
+    match port::close(going.clone(), &mut owns) {
+        Ok(_) => (),
+        Err(31 | 32) => {
+            let facts = specs::refused_close(going.builder());
+            shown = facts.into_iter().map(Shown::Specs).collect();
+        }
+        Err(_) => shown.clear(),
     }
+    let facts = offices::close(run, terms, &going);
+    shown.extend(facts.into_iter().map(Shown::Offices));
+    shown
 }
 
 /// Of request (ix).

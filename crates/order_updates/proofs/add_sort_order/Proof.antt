@@ -2,7 +2,7 @@
 use mathlib.Core.Path.{_≡_, ap}
 use Rattle.records.specs.declared.update.TableUpdate.{TableUpdate}
 use Rattle.rules.specs.WellFormed.{updateFormed}
-use Rattle.rules.specs.Updates.{checks, effect}
+use Rattle.rules.specs.Updates.{offersFormed, checks, effect}
 use Rattle.rules.specs.Kinds.{readUpdate, readKind, withSortOrdersPart, withSortOrder}
 use Rattle.tables.specs.Laid.{LaidOrder}
 use Rattle.builder.proofs.Steps.{entry-as}
@@ -24,7 +24,7 @@ module _ (s : tie.Start) where
   offered = given-order (s .args .u) (s .pre .1 .1 .1 .0) (formed-kind (s .args .u) (s .pre .1 .1 .1 .0) 12 (s .pre .1 .1 .1 .1 .1) (s .pre .1 .1 .1 .1 .0))
 
 returns : tie.Need-returns
-unfolding checks effect
+unfolding checks offersFormed effect
 returns c =
     let x = c .before .before in
     let s = x .before .before in

@@ -14,7 +14,7 @@ use Rattle.rules.specs.Words.{isSome}
 use Rattle.rules.specs.Names.{isMain}
 use Rattle.rules.specs.Register.{State, RemoveRef, withCurrent, onFields}
 use Rattle.rules.specs.RefUpdates.{refNamed, removeRef}
-use Rattle.rules.specs.Updates.{checks, effect}
+use Rattle.rules.specs.Updates.{offersFormed, checks, effect}
 use Rattle.rules.specs.Layout.{readName, readRef, readRefs, laidRefs}
 use Rattle.rules.specs.Kinds.{readUpdate, laidUpdate}
 use Rattle.rules.proofs.Slots.Relaid.{flag-given}
@@ -57,14 +57,14 @@ is-named c st r =
     ap isSome (ap (refNamed n) (sym (ap (λ (t : Refs). readRefs t) r ∙ reread-refs (st .metadata .refs))) ∙ named (s .pre .0) n noRef (c .find .ensures)) ∙ flag-given (ltb (c .find .result) (s .args .t .count)) (readRef (getD (s .args .t .items) (c .find .result) noRef))
 
 returns : tie.Need-returns
-unfolding checks effect
+unfolding offersFormed checks effect
 returns c terms st p q =
     let k = c .before .before .before in
     let s = k .before .before .before in
     rw (c .decided .ensures, read s) (refl, λ z. main-gone (readName (s .args .u .refs .name)) st (entry s) (sym (k .before .is-main-name .ensures) ∙ c .before .before .if1 .taken) (c .before .without-current .ensures st p))
 
 returns-2 : tie.Need-returns-2
-unfolding checks effect
+unfolding offersFormed checks effect
 returns-2 c terms st p q =
     let k = c .before .before in
     let s = k .before .before .before in

@@ -17,7 +17,6 @@ use Rattle.rules.proofs.Checks.{and-left, and-right}
 use Rattle.rules.proofs.Slots.Reread.{reread-refs}
 use Rattle.ref_updates.specs.Refs.{askedRef, NewRef}
 use Rattle.ref_updates.proofs.Named.{named-long}
-use Rattle.ref_updates.proofs.WantedRefs.{laid-ref}
 use Rattle.ref_updates.proofs.Deciding.{three, number-is, is-held, has-room, unnamed, set-builder}
 use Rattle.ref_updates.proofs.set_ref.Statement.{statement}
 use Rattle.ref_updates.proofs.set_ref.Tie as tie
@@ -47,7 +46,7 @@ new c z f =
     let n : c .setting .result .refs .name ≡ s .args .u .refs .name = ap (λ (e : TableUpdate). e .refs .name) (entry c) ∙ s .pre .1 .0 .back in
     let r : c .setting .result .refs .reference ≡ x .result .reference = ap (λ (e : TableUpdate). e .refs .reference) (entry c) ∙ x .ensures .laid in
     record {
-      laid = rw (n, r) (laid-ref (s .args .u .refs .name) (x .result .reference) (s .pre .1 .0) (x .ensures .laid));
+      laid = record { name = rw n (s .pre .1 .0); reference = rw r (x .ensures .laid) };
       room = λ e. has-room (s .args .held) (x .result .named) (s .args .t .count) (ch .before .before .is-main-name .result) (s .args .entries) (none-fails ch z f) (x .ensures .named ∙ unnamed (readName (s .args .u .refs .name)) (readRefs (s .args .t)) (rw n at e));
     }
 

@@ -76,7 +76,7 @@ accepted-expired terms m us m′ log gone e =
     let k : Ends terms m′ log gone m us = run-accepted terms m′ log gone m us e in
     let f : ifSome fileNameFormed (terms .file) ≡ true = and-right (metadataFormed m) (ifSome fileNameFormed (terms .file)) (k .formed) in
     let s : Sound m = formed-sound m (and-left (metadataFormed m) (ifSome fileNameFormed (terms .file)) (k .formed)) in
-    let t : Sound (k .end .metadata) = run-sound terms us 0 (started m) (k .end) (k .reached) s in
+    let t : Sound (k .end .metadata) = run-sound terms (k .office) us 0 (started m) (k .end) (k .reached) s in
     subst (λ (l : List FileEntry). metadataLogFormed l ≡ true) (k .closes .expired) (expired-formed terms (k .end .metadata) f (t .metadataLog))
 
 -- ---- the changes

@@ -29,7 +29,7 @@ abbrev pub callLent : Lent
 callLent = record { text = []; offers = offers }
 
 abbrev pub callTerms : RunTerms
-callTerms = record { «clock_ms» = record { 0 = pos 500000 }; «tolerance_ms» = record { 0 = defaultTolerance }; «has_file» = false; file = noText }
+callTerms = record { «clock_ms» = record { 0 = pos 500000 }; «tolerance_ms» = record { 0 = defaultTolerance }; «has_file» = false; file = noText; office = 1 }
 
 pub call-terms-read : readTerms callTerms callLent ≡ terms
 call-terms-read = refl

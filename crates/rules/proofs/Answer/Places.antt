@@ -9,7 +9,7 @@ use lib.IntN.{ℤ}
 use lib.ListN.{length}
 use borrow.Author.Tests.{eqb-true, eqb-false, leb-true}
 use Rattle.rules.specs.Words.{isSome, all, firstOf, Check}
-use Rattle.rules.specs.Replies.{accepted, updateNotFormed, nameClash, sourceMisfit}
+use Rattle.rules.specs.Replies.{accepted, updateNotFormed, nameClash, sourceMisfit, othersToChange}
 use Rattle.rules.specs.Register.{Snapshot, Reference, SchemaField, Schema, SortOrder, PartitionSpec, Metadata, Update, Terms, State, Outcome}
 use Rattle.rules.specs.Register.Outcome.{Refused, Accepted}
 use Rattle.rules.specs.Register.Update.{AssignUuid, UpgradeFormatVersion, SetLocation, AddSnapshot, SetBranchSnapshot, RemoveSnapshots, SetRef, RemoveRef, AddSchema, SetCurrentSchema, RemoveSchemas, AddSortOrder, SetDefaultSortOrder, SetStatistics, RemoveStatistics, AddPartitionSpec, SetDefaultPartitionSpec, RemovePartitionSpecs, NotFormed}
@@ -22,9 +22,10 @@ use Rattle.rules.specs.SchemaUpdates.{reusedSchema, isTaken, addSchemaCh
 use Rattle.rules.specs.OrderUpdates.{reusedOrder, addSortOrderChecks, setDefaultSortOrderChecks}
 use Rattle.rules.specs.StatisticsUpdates.{setStatisticsChecks}
 use Rattle.rules.specs.SpecUpdates.{reusing, currentFields, isClashing, isMisfit, isRepeating, reusedSpec, specChecks, addPartitionSpecChecks, setDefaultPartitionSpecChecks, removePartitionSpecsChecks}
-use Rattle.rules.specs.Updates.{checks, updateNumber, effect}
+use Rattle.rules.specs.Others.{isOthers}
+use Rattle.rules.specs.Updates.{offersFormed, checks, updateNumber, effect}
 use Rattle.rules.specs.Close.{closeChecks}
-use Rattle.rules.specs.Run.{Ran, runFrom, started, close, closeRan, startChecks, run}
+use Rattle.rules.specs.Run.{Ran, runFrom, started, close, closingLog, closeRan, startChecks, run}
 use Rattle.rules.specs.Run.Ran.{Stopped, Reached}
 use Rattle.rules.proofs.Checks.{by-test, by-either, and-left, and-right, or-left, or-right}
 use Rattle.rules.proofs.Tables.{all-append}
@@ -33,10 +34,10 @@ use Rattle.rules.proofs.Tables.{all-append}
 
 -- the numbers of a run: of its start, of an update, of the close
 abbrev pub isOfStart : ℕ → Bool
-isOfStart number = leb number 2 || eqb number 26
+isOfStart number = leb number 2 || eqb number 26 || eqb number 39
 
 abbrev pub isOfUpdate : ℕ → Bool
-isOfUpdate number = (leb 3 number && leb number 19) || (leb 33 number && leb number 34)
+isOfUpdate number = (leb 3 number && leb number 19) || (leb 33 number && leb number 35)
 
 abbrev pub isOfClose : ℕ → Bool
 isOfClose number = leb 20 number && leb number 23
@@ -117,7 +118,10 @@ update-numbers terms (NotFormed counts) st = refl
 
 pub update-numbered : (terms : Terms) (u : Update) (st : State) → (updateNumber terms u st ≡ accepted → ⊥) → mayBeOfUpdate (updateNumber terms u st) ≡ true
 unfolding updateNumber
-update-numbered terms u st = first-numbered mayBeOfUpdate ((not (updateFormed u), updateNotFormed) ∷ checks terms u st) (update-numbers terms u st)
+update-numbered terms u st =
+    first-numbered mayBeOfUpdate
+    ((not (updateFormed u), updateNotFormed) ∷ (not (offersFormed terms u), updateNotFormed) ∷ (isOthers (terms .office) u (st .metadata), othersToChange) ∷ checks terms u st)
+    (update-numbers terms u st)
 
 pub close-numbered : (terms : Terms) (log : List Update) (m : Metadata) → (firstOf (closeChecks terms log m) ≡ accepted → ⊥) → mayBeOfClose (firstOf (closeChecks terms log m)) ≡ true
 unfolding closeChecks
@@ -129,7 +133,7 @@ start-numbered terms m us = first-numbered isOfStart (startChecks terms m us) re
 
 -- ---- the places
 
--- "The place is the update's position from 0; for 1 and 2 it is 0; for a close it is the list's length", here the count; for 26 it is 0.
+-- "The place is the update's position from 0; for 1 and 2 it is 0; for a close it is the list's length", here the count; for 26 and 39 it is 0.
 -- An accepted run has the place 0. 31 and 32 have either, an update's position or the count.
 pub record Reply (count number place : ℕ) : Type 0 where
   pub known : isOfStart number || isOfUpdate number || isOfClose number || isOfBoth number ≡ true
@@ -144,20 +148,27 @@ module _ (number : ℕ) where
   between {low} {high} e = (leb-true low number (and-left (leb low number) (leb number high) e), leb-true number high (and-right (leb low number) (leb number high) e))
 
   -- what follows from each of its numbers
-  by-start : {P : Type 0} → (number ≤ 2 → P) → (number ≡ 26 → P) → isOfStart number ≡ true → P
-  by-start f g = by-either (leb number 2) (eqb number 26) (λ q. f (leb-true number 2 q)) (λ q. g (eqb-true number 26 q))
+  by-start : {P : Type 0} → (number ≤ 2 → P) → (number ≡ 26 → P) → (number ≡ 39 → P) → isOfStart number ≡ true → P
+  by-start f g h =
+      by-either (leb number 2 || eqb number 26) (eqb number 39)
+      (by-either (leb number 2) (eqb number 26) (λ q. f (leb-true number 2 q)) (λ q. g (eqb-true number 26 q)))
+      (λ q. h (eqb-true number 39 q))
 
-  by-update : {P : Type 0} → ((3 ≤ number) × (number ≤ 19) → P) → ((33 ≤ number) × (number ≤ 34) → P) → isOfUpdate number ≡ true → P
-  by-update f g = by-either (leb 3 number && leb number 19) (leb 33 number && leb number 34) (λ q. f (between q)) (λ q. g (between q))
+  by-update : {P : Type 0} → ((3 ≤ number) × (number ≤ 19) → P) → ((33 ≤ number) × (number ≤ 35) → P) → isOfUpdate number ≡ true → P
+  by-update f g = by-either (leb 3 number && leb number 19) (leb 33 number && leb number 35) (λ q. f (between q)) (λ q. g (between q))
 
   start-or-update : isOfStart number ≡ true → isOfUpdate number ≡ true → ⊥
-  start-or-update s u = by-start (λ a. by-update (λ b. omega arith) (λ b. omega arith) u) (λ a. by-update (λ b. omega arith) (λ b. omega arith) u) s
+  start-or-update s u =
+      by-start
+      (λ a. by-update (λ b. omega arith) (λ b. omega arith) u)
+      (λ a. by-update (λ b. omega arith) (λ b. omega arith) u)
+      (λ a. by-update (λ b. omega arith) (λ b. omega arith) u) s
 
   start-or-close : isOfStart number ≡ true → isOfClose number ≡ true → ⊥
-  start-or-close s c = let b = between c in by-start (λ a. omega arith) (λ a. omega arith) s
+  start-or-close s c = let b = between c in by-start (λ a. omega arith) (λ a. omega arith) (λ a. omega arith) s
 
   start-or-both : isOfStart number ≡ true → isOfBoth number ≡ true → ⊥
-  start-or-both s c = let b = between c in by-start (λ a. omega arith) (λ a. omega arith) s
+  start-or-both s c = let b = between c in by-start (λ a. omega arith) (λ a. omega arith) (λ a. omega arith) s
 
   update-or-close : isOfUpdate number ≡ true → isOfClose number ≡ true → ⊥
   update-or-close u c = let b = between c in by-update (λ a. omega arith) (λ a. omega arith) u
@@ -227,6 +238,20 @@ Replies count (Accepted m log expired) = Unit {0}
 above-0 : (n : ℕ) → (n ≡ accepted → ⊥) → 1 ≤ n
 above-0 n z = omega (arith, z)
 
+-- where the updates stop, it is with the number of one of them
+abbrev pub OfUpdates : Ran → Type 0
+OfUpdates (Stopped number at) = mayBeOfUpdate number ≡ true
+OfUpdates (Reached st) = Unit {0}
+
+pub updates-numbered : (terms : Terms) (us : List Update) (place : ℕ) (st : State) → OfUpdates (runFrom terms us place st)
+unfolding runFrom
+updates-numbered terms [] place st = tt
+updates-numbered terms (u ∷ us) place st =
+    let n : ℕ = updateNumber terms u st in
+    by-test OfUpdates (eqb n accepted)
+    (λ e. updates-numbered terms us (suc place) (effect terms u st))
+    (λ e. update-numbered terms u st (eqb-false n accepted e))
+
 -- where the updates stop, it is at one of them, with its number
 abbrev Stops : ℕ → Ran → Type 0
 Stops count (Stopped number at) = Replies count (Refused number at)
@@ -245,9 +270,9 @@ close-replies : (terms : Terms) (us : List Update) (r : Ran) → Stops (length u
 unfolding close
 close-replies terms us (Stopped number at) h = h
 close-replies terms us (Reached st) h =
-    let n : ℕ = firstOf (closeChecks terms (st .log) (st .metadata)) in
+    let n : ℕ = firstOf (closeChecks terms (closingLog terms st) (st .metadata)) in
     by-test (Replies (length us)) (eqb n accepted) (λ e. tt)
-    (λ e. (above-0 n (eqb-false n accepted e), reply-of-close (length us) n (close-numbered terms (st .log) (st .metadata) (eqb-false n accepted e))))
+    (λ e. (above-0 n (eqb-false n accepted e), reply-of-close (length us) n (close-numbered terms (closingLog terms st) (st .metadata) (eqb-false n accepted e))))
 
 pub run-replies : (terms : Terms) (m : Metadata) (us : List Update) → Replies (length us) (run terms m us)
 unfolding run

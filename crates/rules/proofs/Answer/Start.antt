@@ -1,5 +1,5 @@
 -- The number 1 of an answer is that of its start: it is given exactly where the start is not well formed, and by no update and no close.
-use Prim.Native.Nat.{ℕ, suc}
+use Prim.Native.Nat.{ℕ}
 use native.Mathlib.Omega.{arith}
 use mathlib.Core.Path.{_≡_}
 use mathlib.Core.Bool.{Bool, true, false, not, _&&_}
@@ -11,64 +11,52 @@ use Rattle.records.specs.declared.metadata.TableMetadata.{TableMetadata}
 use Rattle.records.specs.declared.update.UpdateList.{UpdateList}
 use Rattle.records.specs.declared.run.RunTerms.{RunTerms}
 use Rattle.rules.specs.Words.{firstOf}
-use Rattle.rules.specs.Replies.{accepted, startNotFormed, listTooLong, toleranceOutside}
+use Rattle.rules.specs.Replies.{accepted, startNotFormed, listTooLong, toleranceOutside, officeUnknown}
 use Rattle.rules.specs.Capacities.{listRoom}
 use Rattle.rules.specs.Window.{isOutside}
-use Rattle.rules.specs.Register.{Metadata, Update, Terms, State, Outcome}
+use Rattle.rules.specs.Offices.{isOffice}
+use Rattle.rules.specs.Register.{Metadata, Update, Terms, Outcome}
 use Rattle.rules.specs.Register.Outcome.{Refused, Accepted}
-use Rattle.rules.specs.Updates.{updateNumber, effect}
 use Rattle.rules.specs.Close.{closeChecks}
-use Rattle.rules.specs.Run.{Ran, runFrom, started, close, closeRan, listSum, startFormed, startChecks, run}
+use Rattle.rules.specs.Run.{Ran, runFrom, started, close, closingLog, closeRan, listSum, startFormed, startChecks, run}
 use Rattle.rules.specs.Run.Ran.{Stopped, Reached}
 use Rattle.rules.specs.Blanks.{isTidyMetadata}
 use Rattle.rules.specs.Layout.{readMetadata}
 use Rattle.rules.specs.Kinds.{readUpdates}
 use Rattle.rules.specs.Answer.{Lent, readTerms, laidOutcome, answer}
 use Rattle.rules.proofs.Checks.{by-test, and-left, and-right}
-use Rattle.rules.proofs.Answer.Places.{update-numbered, close-numbered, update-from-3, close-from-20}
+use Rattle.rules.proofs.Answer.Places.{OfUpdates, close-numbered, update-from-3, close-from-20, updates-numbered}
 
 -- a refusal has another number than 1
 abbrev NotOne : Outcome → Type 0
 NotOne (Refused number place) = number ≡ startNotFormed → ⊥
 NotOne (Accepted m log expired) = Unit {0}
 
-abbrev StopsNotOne : Ran → Type 0
-StopsNotOne (Stopped number at) = number ≡ startNotFormed → ⊥
-StopsNotOne (Reached st) = Unit {0}
-
-updates-not-one : (terms : Terms) (us : List Update) (place : ℕ) (st : State) → StopsNotOne (runFrom terms us place st)
-unfolding runFrom
-updates-not-one terms [] place st = tt
-updates-not-one terms (u ∷ us) place st =
-    let n : ℕ = updateNumber terms u st in
-    by-test StopsNotOne (eqb n accepted)
-    (λ e. updates-not-one terms us (suc place) (effect terms u st))
-    (λ e z. omega (arith, update-from-3 n (update-numbered terms u st (eqb-false n accepted e)), z))
-
-close-not-one : (terms : Terms) (us : List Update) (r : Ran) → StopsNotOne r → NotOne (closeRan terms us r)
+close-not-one : (terms : Terms) (us : List Update) (r : Ran) → OfUpdates r → NotOne (closeRan terms us r)
 unfolding close
-close-not-one terms us (Stopped number at) h = h
+close-not-one terms us (Stopped number at) h = λ z. omega (arith, update-from-3 number h, z)
 close-not-one terms us (Reached st) h =
-    let n : ℕ = firstOf (closeChecks terms (st .log) (st .metadata)) in
+    let n : ℕ = firstOf (closeChecks terms (closingLog terms st) (st .metadata)) in
     by-test NotOne (eqb n accepted) (λ e. tt)
-    (λ e z. omega (arith, close-from-20 n (close-numbered terms (st .log) (st .metadata) (eqb-false n accepted e)), z))
+    (λ e z. omega (arith, close-from-20 n (close-numbered terms (closingLog terms st) (st .metadata) (eqb-false n accepted e)), z))
 
 -- a run from a well-formed start
 run-not-one : (terms : Terms) (m : Metadata) (us : List Update) → startFormed terms m ≡ true → NotOne (run terms m us)
 unfolding run startChecks
 run-not-one terms m us f =
     rw f
-    (by-test NotOne (eqb (later (not (leb (listSum us) listRoom)) (isOutside (terms .tolerance))) accepted)
-    (λ e. close-not-one terms us (runFrom terms us 0 (started m)) (updates-not-one terms us 0 (started m)))
-    (λ e. later-not-one (not (leb (listSum us) listRoom)) (isOutside (terms .tolerance))))
+    (by-test NotOne (eqb (later (not (leb (listSum us) listRoom)) (isOutside (terms .tolerance)) (not (isOffice (terms .office)))) accepted)
+    (λ e. close-not-one terms us (runFrom terms us 0 (started m)) (updates-numbered terms us 0 (started m)))
+    (λ e. later-not-one (not (leb (listSum us) listRoom)) (isOutside (terms .tolerance)) (not (isOffice (terms .office)))))
   where
-    later : Bool → Bool → ℕ
-    later long outside = firstOf ((long, listTooLong) ∷ (outside, toleranceOutside) ∷ [])
+    later : Bool → Bool → Bool → ℕ
+    later long outside unknown = firstOf ((long, listTooLong) ∷ (outside, toleranceOutside) ∷ (unknown, officeUnknown) ∷ [])
 
-    later-not-one : (long outside : Bool) → later long outside ≡ startNotFormed → ⊥
-    later-not-one true outside z = omega (arith, z)
-    later-not-one false true z = omega (arith, z)
-    later-not-one false false z = omega (arith, z)
+    later-not-one : (long outside unknown : Bool) → later long outside unknown ≡ startNotFormed → ⊥
+    later-not-one true outside unknown z = omega (arith, z)
+    later-not-one false true unknown z = omega (arith, z)
+    later-not-one false false true z = omega (arith, z)
+    later-not-one false false false z = omega (arith, z)
 
 module _ (m : TableMetadata) (us : UpdateList) (terms : RunTerms) (lent : Lent) where
   -- the metadata is tidy and well formed, and the current file's name is not too long

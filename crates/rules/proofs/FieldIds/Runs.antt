@@ -18,7 +18,7 @@ use Rattle.rules.specs.WellFormed.{specBelow}
 use Rattle.rules.specs.SpecUpdates.{fieldsOfAll, freshOf, numbered, completed, reaches}
 use Rattle.rules.specs.Updates.{updateNumber, effect}
 use Rattle.rules.specs.Close.{closed}
-use Rattle.rules.specs.Run.{runFrom, started, run}
+use Rattle.rules.specs.Run.{runFrom, started, closingLog, run}
 use Rattle.rules.specs.Run.Ran.{Reached}
 use Rattle.rules.specs.Rows.{Given, answeredFrom, endOver}
 use Rattle.rules.specs.FieldIds.{freshBy, freshFrom, freshIn, freshOver, lastPartitionOf, heldFieldIds, isAtMost, isReached}
@@ -194,15 +194,15 @@ run-gives terms (u ∷ us) place st st′ e =
     rw (k .0) (gives-on (st .metadata) (next .metadata) (st′ .metadata) (freshBy terms u st) (freshFrom terms us next) (effect-gives terms u st) (run-gives terms us (suc place) next st′ (k .1)))
 
 -- the close changes neither specs nor last partition id
-closed-gives : (terms : Terms) (m : Metadata) (st : State) (fresh : List ℤ) → GivesOut m (st .metadata) fresh → GivesOut m (closed terms (st .log) st) fresh
+closed-gives : (terms : Terms) (log : List Update) (m : Metadata) (st : State) (fresh : List ℤ) → GivesOut m (st .metadata) fresh → GivesOut m (closed terms log st) fresh
 unfolding closed isReached
-closed-gives terms m st fresh g = record { stays = g .stays; above = g .above; ascend = g .ascend; reached = g .reached; reaches = g .reaches }
+closed-gives terms log m st fresh g = record { stays = g .stays; above = g .above; ascend = g .ascend; reached = g .reached; reaches = g .reaches }
 
 pub accepted-gives : (terms : Terms) (m : Metadata) (us : List Update) (m′ : Metadata) (log : List Update) (expired : List FileEntry) → run terms m us ≡ Accepted m′ log expired → GivesOut m m′ (freshFrom terms us (started m))
 accepted-gives terms m us m′ log expired e =
     let k : Ends terms m′ log expired m us = run-accepted terms m′ log expired m us e in
     subst (λ (x : Metadata). GivesOut m x (freshFrom terms us (started m))) (k .closes .metadata)
-    (closed-gives terms m (k .end) (freshFrom terms us (started m)) (run-gives terms us 0 (started m) (k .end) (k .reached)))
+    (closed-gives terms (closingLog terms (k .end)) m (k .end) (freshFrom terms us (started m)) (run-gives terms us 0 (started m) (k .end) (k .reached)))
 
 -- ---- a sequence of runs
 

@@ -68,7 +68,7 @@ module _ (st : State) where
   leaves-set-ref terms name r =
       by-test (KeepsSpecs st) (isHeldRef name r (st .metadata .refs))
       (λ e. refl)
-      (λ e. by-test (λ (x : State). KeepsSpecs st (putRef name r x)) (isMain name) (λ f. refl) (λ f. refl))
+      (λ e. by-test (λ (x : State). KeepsSpecs st (putRef (terms .office) name r x)) (isMain name) (λ f. refl) (λ f. refl))
 
   leaves-remove-ref : (name : List ℕ) → KeepsSpecs st (removeRef name st)
   unfolding removeRef

@@ -13,7 +13,8 @@ use Rattle.rules.specs.Register.Outcome.{Accepted}
 use Rattle.rules.specs.ChangeLog.{logsAddition, logsMain, logsRemoval}
 use Rattle.rules.specs.Moment.{isBy, currentAt, isWhole, logsRemoved, removesAndAdds}
 use Rattle.rules.specs.Close.{intermediates, isRebuilt, isMissing, isIntermediate, rebuilt, history, closed}
-use Rattle.rules.specs.Run.{Ran, runFrom, started, run}
+use Rattle.rules.specs.Others.{isSecond}
+use Rattle.rules.specs.Run.{Ran, runFrom, started, closingLog, run}
 use Rattle.rules.specs.Run.Ran.{Stopped, Reached}
 use Rattle.rules.proofs.Checks.{by-test, by-option, both, and-left}
 use Rattle.rules.proofs.Tables.{all-then, all-kept}
@@ -22,7 +23,7 @@ use Rattle.rules.proofs.Replay.Lists.{keep-append, keep-all}
 use Rattle.rules.proofs.Replay.Keys.{in-all}
 use Rattle.rules.proofs.History.Lists.{in-any, Dropped, afterLast-drop, keep-second, last-append, all-in, in-drop, in-keep, in-last}
 use Rattle.rules.proofs.History.Accounted.{isMainOf, AccountedState, run-accounted}
-use Rattle.rules.proofs.History.Whole.{isHeldIn, known-held}
+use Rattle.rules.proofs.History.Whole.{isHeldIn, history-left, known-held}
 
 -- ---- the entries of a run
 
@@ -110,7 +111,17 @@ module _ (m : Metadata) (st : State) (a : AccountedState m st) (w : isWhole m �
     mains = a .mains;
   }
 
-  -- the history that the close leaves
+  -- a history that the close leaves as it is
+  left-kept : HistoryKept (a .joined) (st .log) (m .snapshotLog) (st .metadata .snapshotLog)
+  left-kept = record {
+    dropped = 0;
+    skipped = 0;
+    stays = isMainOf (st .log);
+    is = a .appended ∙ ap (λ (l : List LogEntry). m .snapshotLog ++ l) (sym (keep-all (isMainOf (st .log)) (a .joined) (a .mains)));
+    mains = a .mains;
+  }
+
+  -- the history after a close that reads the log
   close-kept : HistoryKept (a .joined) (st .log) (m .snapshotLog) (history (st .log) (st .metadata))
   unfolding rebuilt
   close-kept =
@@ -124,13 +135,14 @@ module _ (m : Metadata) (st : State) (a : AccountedState m st) (w : isWhole m �
       (λ e. subst (λ (l : List LogEntry). P (keep lasting l)) (sym (cut .is)) (kept-of lasting start-not-intermediate (cut .count)))
       (λ e. kept-of (λ x. not (isMissing p x) && lasting x)
       (λ x h. both (ap (λ (t : Bool). not (not t)) (known-held (p .snapshots) log (x .snapshot) e (a .startKnown (x .snapshot) h))) (start-not-intermediate x h)) 0))
-      (λ r. record {
-        dropped = 0;
-        skipped = 0;
-        stays = isMainOf log;
-        is = a .appended ∙ ap (λ (l : List LogEntry). m .snapshotLog ++ l) (sym (keep-all (isMainOf log) (a .joined) (a .mains)));
-        mains = a .mains;
-      })
+      (λ r. left-kept)
+
+  -- and after the close of a run of either office
+  closing-kept : (terms : Terms) → HistoryKept (a .joined) (st .log) (m .snapshotLog) (history (closingLog terms st) (st .metadata))
+  closing-kept terms =
+      by-test (λ (log : List Update). HistoryKept (a .joined) (st .log) (m .snapshotLog) (history log (st .metadata))) (isSecond (terms .office))
+      (λ o. rw (history-left (st .metadata)) left-kept)
+      (λ o. close-kept)
 
 -- ---- the run
 
@@ -163,7 +175,7 @@ module _ (terms : Terms) (m : Metadata) (us : List Update) (m′ : Metadata) (lo
       (joined-same terms m us (k .end) a (k .reached))
       (sym (k .closes .logged))
       (sym (ap (λ (x : Metadata). x .snapshotLog) (k .closes .metadata)))
-      (close-kept m (k .end) a w (rw (k .closes .logged) n))
+      (closing-kept m (k .end) a w (rw (k .closes .logged) n) terms)
 
   -- so the answer for any time is as before, or an entry of this run, or none
   pub moment-kept : (time : ℤ) → MomentKept (joinedBy terms m us) log (currentAt time (m .snapshotLog)) (currentAt time (m′ .snapshotLog))

@@ -3,7 +3,7 @@ use Prim.Native.Nat.{ℕ, zero, suc, _-_}
 use native.Mathlib.Nat.{sub-zero, zero-sub, suc-sub-suc}
 use native.Mathlib.Omega.{arith}
 use mathlib.Core.Path.{_≡_, refl, ap}
-use mathlib.Core.Bool.{Bool, true, false, not, _||_}
+use mathlib.Core.Bool.{Bool, true, false, not, _||_, false≢true}
 use mathlib.Core.List.{List, [], _∷_, _++_, map, List·Memᴰ, List·Memᴰ·not-nil, List·Memᴰ·cases-cons}
 use mathlib.Core.Logic.{⊎-elim}
 use mathlib.Core.List.List·Memᴰ.{List·Memᴰ·head, List·Memᴰ·tail}
@@ -31,6 +31,14 @@ module _ {A : Type 0} (key : A → ℤ) where
       by-either (eqZ (key a) x) (any (λ a. eqZ (key a) x) l)
       (λ q. or-left (isIn (map key l) x) {a = eqZ x (key a)} (rw (numbers-told .equal (key a) x q) (numbers-told .itself x)))
       (λ q. or-right (eqZ x (key a)) (key-in x l q)) h
+
+  -- what a test that holds for all says of each whose key is among the keys of the list
+  pub all-keyed : (p q : A → Bool) (l : List A) → ((x : A) → any (λ a. eqZ (key a) (key x)) l ≡ true → p x ≡ true → q x ≡ true) → all p l ≡ true → all q l ≡ true
+  all-keyed p q [] f h = refl
+  all-keyed p q (x ∷ l) f h =
+      both
+      (f x (or-left (any (λ a. eqZ (key a) (key x)) l) (numbers-told .itself (key x))) (all-head p x l h))
+      (all-keyed p q l (λ y k. f y (or-right (eqZ (key x) (key y)) k)) (all-tail p x l h))
 
   -- one that is sought is among the others, or its key is among those that went
   pub stays-or-goes : (ids : List ℤ) (l : List A) (x : ℤ) → any (λ a. eqZ (key a) x) l ≡ true
@@ -103,6 +111,15 @@ module _ {A : Type 0} where
   pub all-in : (p : A → Bool) (l : List A) {a : A} → all p l ≡ true → List·Memᴰ a l → p a ≡ true
   all-in p [] h k = absurd (List·Memᴰ·not-nil k)
   all-in p (x ∷ l) h k = ⊎-elim (λ q. rw q (all-head p x l h)) (λ q. all-in p l (all-tail p x l h) q) (List·Memᴰ·cases-cons k)
+
+  -- a test that holds for one that stands in the list holds for some of it, and the other way round
+  pub found-any : (p : A → Bool) (l : List A) {a : A} → List·Memᴰ a l → p a ≡ true → any p l ≡ true
+  found-any p [] k h = absurd (List·Memᴰ·not-nil k)
+  found-any p (x ∷ l) k h = ⊎-elim (λ q. or-left (any p l) (rw q at h)) (λ q. or-right (p x) (found-any p l q h)) (List·Memᴰ·cases-cons k)
+
+  pub any-found : (p : A → Bool) (l : List A) → any p l ≡ true → (a : A) × List·Memᴰ a l × (p a ≡ true)
+  any-found p [] h = absurd (false≢true h)
+  any-found p (x ∷ l) h = by-either (p x) (any p l) (λ q. (x, List·Memᴰ·head refl, q)) (λ q. let k = any-found p l q in (k .0, List·Memᴰ·tail (k .1), k .2)) h
 
   -- what stands in a part of a list stands in the list
   pub in-drop : (n : ℕ) (l : List A) {a : A} → List·Memᴰ a (drop n l) → List·Memᴰ a l

@@ -2,17 +2,19 @@
 use Prim.Native.Nat.{_+_, _≤_}
 use native.Mathlib.Omega.{arith}
 use mathlib.Core.Path.{_≡_, refl, sym, ap, _∙_}
-use mathlib.Core.Bool.{Bool, true, false, cond, not, _&&_, _||_, false≢true, and-false}
+use mathlib.Core.Bool.{Bool, true, false, cond, not, _&&_, _||_, false≢true, true≢false, and-false}
 use mathlib.Core.List.{List, [], _∷_, map}
+use mathlib.Core.Option.{Option, some}
 use lib.Dec.{leb}
 use lib.IntN.{ℤ}
 use lib.ListN.{length, length-map}
 use lib.Signed.{ltZ, nonNeg}
 use borrow.Author.Tests.{leb-true, le-leb}
-use Rattle.rules.specs.Words.{eqZ, all, keep, isEmpty, isIn, ascending}
+use borrow.Table.Steps.{cases}
+use Rattle.rules.specs.Words.{eqZ, all, keep, first, isEmpty, isIn, ascending}
 use Rattle.rules.specs.Capacities.{removalRoom}
 use Rattle.rules.specs.WellFormed.{removalFormed}
-use Rattle.rules.proofs.Checks.{both, and-left, and-right, or-left, or-right}
+use Rattle.rules.proofs.Checks.{both, and-left, and-right, or-left, or-right, neither}
 use Rattle.rules.proofs.Orders.{numbers-ordered, numbers-told}
 use Rattle.rules.proofs.Tables.{byKey, all-head, all-tail}
 
@@ -100,7 +102,7 @@ module _ {A : Type 0} (key : A → ℤ) where
       both (le-leb (length (heldIds ids l)) 16 (omega (arith, held-count ids l a))) (held-nonNeg ids l (and-right (leb (length ids) removalRoom) (all nonNeg ids) h))
 
   -- a number is among the held ids exactly if it is asked for and stands in the table
-  held-in : (ids : List ℤ) (l : List A) (k : ℤ) → isIn (heldIds ids l) k ≡ (isIn ids k && isIn (map key l) k)
+  pub held-in : (ids : List ℤ) (l : List A) (k : ℤ) → isIn (heldIds ids l) k ≡ (isIn ids k && isIn (map key l) k)
   held-in ids [] k = sym (and-false (isIn ids k))
   held-in ids (x ∷ l) k = go (isIn ids (key x)) refl (eqZ k (key x)) refl (held-in ids l k)
     where
@@ -114,6 +116,26 @@ module _ {A : Type 0} (key : A → ℤ) where
   -- so one that is not asked for is not among them
   pub held-not-in : (ids : List ℤ) (l : List A) (k : ℤ) → isIn ids k ≡ false → isIn (heldIds ids l) k ≡ false
   held-not-in ids l k h = held-in ids l k ∙ rw h
+
+  -- one that is not among them is found as it was when they are gone
+  pub others-first : (ids : List ℤ) (l : List A) (k : ℤ) → isIn (heldIds ids l) k ≡ false → first (λ x. eqZ (key x) k) (keep (λ x. not (isIn ids (key x))) l) ≡ first (λ x. eqZ (key x) k) l
+  others-first ids [] k h = refl
+  others-first ids (x ∷ l) k h = go (isIn ids (key x)) (others-first ids l k) h
+    where
+      kept : List A
+      kept = keep (λ x. not (isIn ids (key x))) l
+
+      gone : List A
+      gone = keep (λ x. isIn ids (key x)) l
+
+      go : (t : Bool) → (isIn (heldIds ids l) k ≡ false → first (λ x. eqZ (key x) k) kept ≡ first (λ x. eqZ (key x) k) l) → isIn (map key (cond t (x ∷ gone) gone)) k ≡ false
+          → first (λ x. eqZ (key x) k) (cond (not t) (x ∷ kept) kept) ≡ first (λ x. eqZ (key x) k) (x ∷ l)
+      go true ih h =
+          let n = neither (eqZ k (key x)) (isIn (heldIds ids l) k) h in
+          cases (eqZ (key x) k)
+          (λ q. absurd (true≢false (sym (rw (numbers-told .equal (key x) k q) (numbers-told .itself k)) ∙ n .0)))
+          (λ q. rw q (ih (n .1)))
+      go false ih h = ap (λ (o : Option A). cond (eqZ (key x) k) (some x) o) (ih h)
 
   -- two tests that agree on the ids of a table keep the same of it
   keep-alike : (p q : A → Bool) (l : List A) → ((x : A) → isIn (map key l) (key x) ≡ true → p x ≡ q x) → keep p l ≡ keep q l

@@ -16,13 +16,14 @@ use Rattle.rules.specs.Register.Update.{AddSortOrder, SetDefaultSortOrde
 use Rattle.rules.specs.WellFormed.{sortFieldFormed, offeredOrderFormed, orderFormed, orderBelow, ordersFormed, updateFormed}
 use Rattle.rules.specs.SchemaUpdates.{chosen, choiceLogged}
 use Rattle.rules.specs.OrderUpdates.{sameSortField, reusedOrder, orderIds, newOrderId, addedOrder, addSortOrderChecks, reuseOrder, newOrder, addSortOrder, holdsOrder, setDefaultSortOrderChecks, setDefaultSortOrder}
-use Rattle.rules.specs.Updates.{checks, updateNumber, effect}
+use Rattle.rules.specs.Others.{isOthers}
+use Rattle.rules.specs.Updates.{offersFormed, checks, updateNumber, effect}
 use Rattle.rules.specs.Replay.{strip}
 use Rattle.rules.proofs.Checks.{by-test, and-left, parts, whole}
 use Rattle.rules.proofs.Orders.{highest-nonNeg, suc-nonNeg}
 use Rattle.rules.proofs.Tables.{all-first, table-parts}
 use Rattle.rules.proofs.Sound.Metadata.{Sound}
-use Rattle.rules.proofs.Sound.Updates.{accepted-form, accepted-checks}
+use Rattle.rules.proofs.Sound.Updates.{accepted-form, accepted-own, accepted-checks}
 use Rattle.rules.proofs.Replay.Steps.{accepted-if, Replays, nothing, once}
 use Rattle.rules.proofs.Replay.Choices.{Rechosen, rechosen}
 
@@ -39,10 +40,12 @@ renumbered-formed id o n h =
 
 -- neither the checks nor the search for an equal order look at the offered id
 renumbered-accepted : (terms : Terms) (id : ℤ) (o : SortOrder) (st : State) → nonNeg id ≡ true → updateNumber terms (AddSortOrder o) st ≡ 0 → updateNumber terms (AddSortOrder (numbered-as id o)) st ≡ 0
-unfolding checks addSortOrderChecks updateFormed
+unfolding checks addSortOrderChecks updateFormed offersFormed isOthers
 renumbered-accepted terms id o st n e =
     accepted-if terms (AddSortOrder (numbered-as id o)) st
     (renumbered-formed id o n (accepted-form terms (AddSortOrder o) st e))
+    refl
+    (accepted-own terms (AddSortOrder o) st e)
     (accepted-checks terms (AddSortOrder o) st e)
 
 new-id-nonNeg : (o : SortOrder) (l : List SortOrder) → nonNeg (newOrderId o l) ≡ true
@@ -101,8 +104,8 @@ order-rechosen terms id st e =
     (accepted-checks terms (SetDefaultSortOrder id) st e)
 
 order-accepted : (terms : Terms) (id : ℤ) (st : State) → updateNumber terms (SetDefaultSortOrder id) st ≡ 0 → updateNumber terms (SetDefaultSortOrder (orderLogged id st)) st ≡ 0
-unfolding checks setDefaultSortOrderChecks updateFormed
-order-accepted terms id st e = accepted-if terms (SetDefaultSortOrder (orderLogged id st)) st (order-rechosen terms id st e .formed) (order-rechosen terms id st e .passes)
+unfolding checks setDefaultSortOrderChecks updateFormed offersFormed isOthers
+order-accepted terms id st e = accepted-if terms (SetDefaultSortOrder (orderLogged id st)) st (order-rechosen terms id st e .formed) refl (accepted-own terms (SetDefaultSortOrder id) st e) (order-rechosen terms id st e .passes)
 
 pub set-default-sort-order-replays : (terms : Terms) (id : ℤ) (st : State) → updateNumber terms (SetDefaultSortOrder id) st ≡ 0 → Replays terms 1 st (effect terms (SetDefaultSortOrder id) st)
 unfolding effect setDefaultSortOrder strip

@@ -15,14 +15,15 @@ use Rattle.rules.specs.WellFormed.{nameFormed, snapshotFormed, refFormed
 use Rattle.rules.specs.ChangeLog.{logsAddition}
 use Rattle.rules.specs.SnapshotUpdates.{addSnapshotChecks, addSnapshot}
 use Rattle.rules.specs.RefUpdates.{refNamed, isHeldRef, isTag, ownAfter, asMain, putRef, committed, withoutRef, setRefChecks, setRef, setBranchSnapshotChecks, setBranchSnapshot, removeRef}
-use Rattle.rules.specs.Updates.{checks, updateNumber, effect}
+use Rattle.rules.specs.Others.{isOthers}
+use Rattle.rules.specs.Updates.{offersFormed, checks, updateNumber, effect}
 use Rattle.rules.specs.Replay.{strip}
 use Rattle.rules.proofs.Checks.{both, and-left, and-right, parts, passed-before, passed-after}
 use Rattle.rules.proofs.Tables.{table-parts}
 use Rattle.rules.proofs.Sound.Metadata.{Sound}
 use Rattle.rules.proofs.Sound.Snapshots.{add-snapshot-numbered}
 use Rattle.rules.proofs.Sound.Refs.{committed-formed}
-use Rattle.rules.proofs.Sound.Updates.{accepted-form, accepted-checks}
+use Rattle.rules.proofs.Sound.Updates.{accepted-form, accepted-own, accepted-checks}
 use Rattle.rules.proofs.Replay.Steps.{withLog, accepted-if, Replays, nothing, once, followed}
 use Rattle.rules.proofs.Replay.Snapshots.{add-snapshot-replays}
 
@@ -32,7 +33,7 @@ use Rattle.rules.proofs.Replay.Snapshots.{add-snapshot-replays}
 abbrev taken : Terms → List ℕ → Reference → Bool → State → State
 taken terms name r main st =
     logged (SetRef name r)
-    (putRef name r
+    (putRef (terms .office) name r
     (cond main
     (asMain (terms .clock) (r .snapshot) (withOwn (ownAfter (r .snapshot) st) st))
     (withOwn (ownAfter (r .snapshot) st) st)))
@@ -81,10 +82,12 @@ module _ (terms : Terms) (name : List ℕ) (s : Snapshot) (st : State) (e : upda
       (accepted-checks terms (SetBranchSnapshot name s) st e)
 
   commit-adds : updateNumber terms (AddSnapshot s) st ≡ 0
-  unfolding checks updateFormed
+  unfolding checks updateFormed offersFormed isOthers
   commit-adds =
       accepted-if terms (AddSnapshot s) st
       (and-right (nameFormed name) (snapshotFormed s) commit-form)
+      refl
+      refl
       (passed-before (addSnapshotChecks (terms .tolerance) s st) (setRefChecks name commit (addSnapshot s st)) commit-checks)
 
   commit-set-formed : Sound (st .metadata) → updateFormed (SetRef name commit) ≡ true
@@ -93,11 +96,14 @@ module _ (terms : Terms) (name : List ℕ) (s : Snapshot) (st : State) (e : upda
       let n : nonNeg (s .id) ≡ true = parts (nonNeg (s .id)) (ifSome nonNeg (s .parent) ∷ nonNeg (s .sequence .0) ∷ []) (and-right (nameFormed name) (snapshotFormed s) commit-form) .0 in
       both (and-left (nameFormed name) (snapshotFormed s) commit-form) (committed-formed name (s .id) (st .metadata .refs) n (held-refs-formed (st .metadata .refs) (k .refs)))
 
+  -- the addition leaves the refs as they are, so the ref is still not the other office's
   commit-sets : Sound (st .metadata) → updateNumber terms (SetRef name commit) (addSnapshot s st) ≡ 0
-  unfolding checks
+  unfolding checks offersFormed isOthers addSnapshot
   commit-sets k =
       accepted-if terms (SetRef name commit) (addSnapshot s st)
       (commit-set-formed k)
+      refl
+      (accepted-own terms (SetBranchSnapshot name s) st e)
       (passed-after (addSnapshotChecks (terms .tolerance) s st) (setRefChecks name commit (addSnapshot s st)) (add-snapshot-numbered (terms .tolerance) s st) commit-checks)
 
 -- a commit is an addition and a ref, and so are its two entries

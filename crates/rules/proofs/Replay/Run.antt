@@ -9,6 +9,7 @@ use lib.ListN.{length}
 use borrow.Author.Tests.{eqb-true}
 use Rattle.rules.specs.Words.{all, ifSome}
 use Rattle.rules.specs.Capacities.{listRoom}
+use Rattle.rules.specs.Offices.{isOffice}
 use Rattle.rules.specs.Register.{FileEntry, Metadata, Update, Terms, State}
 use Rattle.rules.specs.Register.Outcome.{Accepted}
 use Rattle.rules.specs.Register.Update.{AssignUuid, UpgradeFormatVersion, SetLocation, AddSnapshot, SetBranchSnapshot, RemoveSnapshots, SetRef, RemoveRef, AddSchema, SetCurrentSchema, RemoveSchemas, AddSortOrder, SetDefaultSortOrder, SetStatistics, RemoveStatistics, AddPartitionSpec, SetDefaultPartitionSpec, RemovePartitionSpecs, NotFormed}
@@ -59,15 +60,15 @@ update-replays terms (NotFormed counts) st e k = absurd (false≢true (accepted-
 
 -- ---- the updates of a run, from any state and at any place
 
-updates-replay : (terms : Terms) (us : List Update) (place : ℕ) (st st′ : State) → runFrom terms us place st ≡ Reached st′ → Sound (st .metadata) → Replays terms (listSum us) st st′
+updates-replay : (terms : Terms) → isOffice (terms .office) ≡ true → (us : List Update) (place : ℕ) (st st′ : State) → runFrom terms us place st ≡ Reached st′ → Sound (st .metadata) → Replays terms (listSum us) st st′
 unfolding runFrom listSum
-updates-replay terms [] place st st′ e k = subst (Replays terms 0 st) (same-state st st′ e) (nothing terms 0 st)
-updates-replay terms (u ∷ us) place st st′ e k =
+updates-replay terms o [] place st st′ e k = subst (Replays terms 0 st) (same-state st st′ e) (nothing terms 0 st)
+updates-replay terms o (u ∷ us) place st st′ e k =
     let t = only-then (eqb (updateNumber terms u st) 0) (not-reached (updateNumber terms u st) place st′) e in
     let n : updateNumber terms u st ≡ 0 = eqb-true (updateNumber terms u st) 0 (t .0) in
     followed terms (weight u) (listSum us) st (effect terms u st) st′
     (update-replays terms u st n k)
-    (updates-replay terms us (suc place) (effect terms u st) st′ (t .1) (effect-sound terms u st n k))
+    (updates-replay terms o us (suc place) (effect terms u st) st′ (t .1) (effect-sound terms u st o n k))
 
 -- ---- an accepted run
 
@@ -76,7 +77,7 @@ module _ (terms : Terms) (m : Metadata) (us : List Update) (m′ : Metadata) (lo
   ends = run-accepted terms m′ log expired m us accepted
 
   replays : Replays terms (listSum us) (started m) (ends .end)
-  replays = updates-replay terms us 0 (started m) (ends .end) (ends .reached) (formed-sound m (and-left (metadataFormed m) (ifSome fileNameFormed (terms .file)) (ends .formed)))
+  replays = updates-replay terms (ends .office) us 0 (started m) (ends .end) (ends .reached) (formed-sound m (and-left (metadataFormed m) (ifSome fileNameFormed (terms .file)) (ends .formed)))
 
   -- the log is what the updates logged
   log-is : replays .entries ≡ log
@@ -93,7 +94,7 @@ module _ (terms : Terms) (m : Metadata) (us : List Update) (m′ : Metadata) (lo
 
   accepted-again : run terms m log ≡ Accepted m′ (strip log) expired
   accepted-again =
-      rw (run-started terms m log (ends .formed) log-light (ends .tolerated), reached-again)
+      rw (run-started terms m log (ends .formed) log-light (ends .tolerated) (ends .office), reached-again)
       (rw (ends .closes .logged) at (close-alike terms m′ log expired (length log) (ends .end) (ends .closes)))
 
 -- ---- the theorems

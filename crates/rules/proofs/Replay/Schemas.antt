@@ -5,7 +5,7 @@ use mathlib.Core.List.{List, [], _∷_, _++_, append-nil}
 use mathlib.Core.Option.{Option, none, some}
 use lib.IntN.{ℤ, sucℤ}
 use lib.Signed.{ltZ, nonNeg}
-use Rattle.rules.specs.Words.{eqZ, someWith, keep, isEmpty, isIn, highest, ascending, firstOf, Check}
+use Rattle.rules.specs.Words.{eqZ, someWith, keep, isEmpty, isIn, highest, ascending}
 use Rattle.rules.specs.Replies.{currentSchemaRemoved}
 use Rattle.rules.specs.Capacities.{schemaRoom}
 use Rattle.rules.specs.Register.{Schema, SchemaOffer, Update, Terms, State, withSchemas, withMetadata, withCurrentSchema, onFields, logged}
@@ -13,15 +13,16 @@ use Rattle.rules.specs.Register.Update.{AddSchema, SetCurrentSchema, Rem
 use Rattle.rules.specs.WellFormed.{schemaFormed, schemaBelow, schemasFormed, updateFormed}
 use Rattle.rules.specs.Offers.{offeredSchema}
 use Rattle.rules.specs.SchemaUpdates.{offeredAs, reusedSchema, schemaIds, addedSchema, isTaken, addSchemaChecks, reuseSchema, newSchema, addSchema, chosen, choiceLogged, holdsSchema, setCurrentSchemaChecks, setCurrentSchema, removeSchemasChecks, heldSchemas, removeSchemas}
-use Rattle.rules.specs.Updates.{checks, updateNumber, effect}
+use Rattle.rules.specs.Others.{isOthers}
+use Rattle.rules.specs.Updates.{offersFormed, checks, updateNumber, effect}
 use Rattle.rules.specs.Replay.{strip}
-use Rattle.rules.proofs.Checks.{passed, passed-after}
+use Rattle.rules.proofs.Checks.{passed}
 use Rattle.rules.proofs.Orders.{highest-nonNeg, suc-nonNeg}
 use Rattle.rules.proofs.Tables.{byKey, table-parts}
 use Rattle.rules.proofs.Sound.Metadata.{Sound}
 use Rattle.rules.proofs.Replay.Keys.{held-formed, held-not-in, held-again, others-again, none-held}
-use Rattle.rules.proofs.Sound.Schemas.{offer-check, offer-passed, reoffered-formed}
-use Rattle.rules.proofs.Sound.Updates.{accepted-form, accepted-checks}
+use Rattle.rules.proofs.Sound.Schemas.{reoffered-formed}
+use Rattle.rules.proofs.Sound.Updates.{accepted-form, accepted-offers, accepted-own, accepted-checks}
 use Rattle.rules.proofs.Replay.Choices.{Rechosen, rechosen}
 use Rattle.rules.proofs.Replay.Steps.{withLog, accepted-if, Replays, nothing, once}
 
@@ -33,12 +34,12 @@ numbered-as id s = record { id = id; fields = s .fields }
 
 -- neither the checks nor the search for an equal schema look at the offered id
 renumbered-accepted : (terms : Terms) (id : ℤ) (o : SchemaOffer) (st : State) → nonNeg id ≡ true → updateNumber terms (AddSchema o) st ≡ 0 → updateNumber terms (AddSchema (offeredAs id o)) st ≡ 0
-unfolding checks addSchemaChecks isTaken updateFormed offeredSchema
+unfolding checks addSchemaChecks isTaken updateFormed offersFormed isOthers offeredSchema
 renumbered-accepted terms id o st n e =
-    let cs : List Check = addSchemaChecks (offeredSchema (terms .offers) o) st in
-    let k : firstOf (offer-check (terms .offers) o ++ cs) ≡ 0 = accepted-checks terms (AddSchema o) st e in
     accepted-if terms (AddSchema (offeredAs id o)) st n
-    (rw (reoffered-formed (terms .offers) id o n (offer-passed (terms .offers) o cs k)) (passed-after (offer-check (terms .offers) o) cs refl k))
+    (reoffered-formed (terms .offers) id o n (accepted-offers terms (AddSchema o) st e))
+    (accepted-own terms (AddSchema o) st e)
+    (accepted-checks terms (AddSchema o) st e)
 
 pub add-schema-replays : (terms : Terms) (o : SchemaOffer) (st : State) → updateNumber terms (AddSchema o) st ≡ 0 → Replays terms 1 st (effect terms (AddSchema o) st)
 unfolding effect addSchema strip offeredSchema
@@ -78,8 +79,8 @@ schema-rechosen terms id st e =
     (accepted-checks terms (SetCurrentSchema id) st e)
 
 schema-accepted : (terms : Terms) (id : ℤ) (st : State) → updateNumber terms (SetCurrentSchema id) st ≡ 0 → updateNumber terms (SetCurrentSchema (schemaLogged id st)) st ≡ 0
-unfolding checks setCurrentSchemaChecks updateFormed
-schema-accepted terms id st e = accepted-if terms (SetCurrentSchema (schemaLogged id st)) st (schema-rechosen terms id st e .formed) (schema-rechosen terms id st e .passes)
+unfolding checks setCurrentSchemaChecks updateFormed offersFormed isOthers
+schema-accepted terms id st e = accepted-if terms (SetCurrentSchema (schemaLogged id st)) st (schema-rechosen terms id st e .formed) refl (accepted-own terms (SetCurrentSchema id) st e) (schema-rechosen terms id st e .passes)
 
 pub set-current-schema-replays : (terms : Terms) (id : ℤ) (st : State) → updateNumber terms (SetCurrentSchema id) st ≡ 0 → Replays terms 1 st (effect terms (SetCurrentSchema id) st)
 unfolding effect setCurrentSchema strip
@@ -103,11 +104,13 @@ schemas-ascending l h = table-parts schemaRoom schemaFormed schemaBelow l h .2
 
 -- the current schema is not in the list, so it is not among the held ids of the list
 held-accepted : (terms : Terms) (ids : List ℤ) (st : State) → updateNumber terms (RemoveSchemas ids) st ≡ 0 → Sound (st .metadata) → updateNumber terms (RemoveSchemas (heldSchemas ids (st .metadata .schemas))) st ≡ 0
-unfolding checks updateFormed removeSchemasChecks
+unfolding checks updateFormed offersFormed isOthers removeSchemasChecks
 held-accepted terms ids st e k =
     let p : isIn ids (st .metadata .fields .currentSchema) ≡ false = passed ((isIn ids (st .metadata .fields .currentSchema), currentSchemaRemoved) ∷ []) refl (accepted-checks terms (RemoveSchemas ids) st e) .0 in
     accepted-if terms (RemoveSchemas (heldSchemas ids (st .metadata .schemas))) st
     (held-formed idOf ids (st .metadata .schemas) (schemas-ascending (st .metadata .schemas) (k .schemas)) (accepted-form terms (RemoveSchemas ids) st e))
+    refl
+    (accepted-own terms (RemoveSchemas ids) st e)
     (rw (held-not-in idOf ids (st .metadata .schemas) (st .metadata .fields .currentSchema) p))
 
 pub remove-schemas-replays : (terms : Terms) (ids : List ℤ) (st : State) → updateNumber terms (RemoveSchemas ids) st ≡ 0 → Sound (st .metadata) → Replays terms 1 st (effect terms (RemoveSchemas ids) st)

@@ -13,10 +13,11 @@ use Rattle.rules.specs.Register.{Terms, State, withUuid, withVersion, wi
 use Rattle.rules.specs.Register.Update.{AssignUuid, UpgradeFormatVersion, SetLocation}
 use Rattle.rules.specs.WellFormed.{updateFormed}
 use Rattle.rules.specs.SingleUpdates.{assignUuid, upgradeFormatVersion, setLocation}
-use Rattle.rules.specs.Updates.{checks, updateNumber, effect}
+use Rattle.rules.specs.Others.{isOthers}
+use Rattle.rules.specs.Updates.{offersFormed, checks, updateNumber, effect}
 use Rattle.rules.specs.Replay.{strip}
 use Rattle.rules.proofs.Sound.Singles.{trimmed-length}
-use Rattle.rules.proofs.Sound.Updates.{accepted-form}
+use Rattle.rules.proofs.Sound.Updates.{accepted-form, accepted-own}
 use Rattle.rules.proofs.Replay.Steps.{accepted-if, Replays, nothing, once}
 
 -- ---- uuid
@@ -63,10 +64,10 @@ trimmed-again (b ∷ bs) = go (all isSlash (b ∷ bs)) refl (trimmed-again bs)
     go false q ih = rw (trimmed-slashes bs, q, ih)
 
 trimmed-accepted : (terms : Terms) (location : List ℕ) (st : State) → updateNumber terms (SetLocation location) st ≡ 0 → updateNumber terms (SetLocation (trimmed location)) st ≡ 0
-unfolding checks updateFormed
+unfolding checks updateFormed offersFormed isOthers
 trimmed-accepted terms location st e =
     let h : length location ≤ 96 = leb-true (length location) 96 (accepted-form terms (SetLocation location) st e) in
-    accepted-if terms (SetLocation (trimmed location)) st (le-leb (length (trimmed location)) 96 (omega (arith, trimmed-length location))) refl
+    accepted-if terms (SetLocation (trimmed location)) st (le-leb (length (trimmed location)) 96 (omega (arith, trimmed-length location))) refl (accepted-own terms (SetLocation location) st e) refl
 
 pub location-replays : (terms : Terms) (location : List ℕ) (st : State) → updateNumber terms (SetLocation location) st ≡ 0 → Replays terms 1 st (effect terms (SetLocation location) st)
 unfolding effect setLocation strip

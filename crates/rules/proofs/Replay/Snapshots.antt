@@ -10,13 +10,14 @@ use Rattle.rules.specs.Register.{Snapshot, Terms, State, logged}
 use Rattle.rules.specs.Register.Update.{AddSnapshot, RemoveSnapshots}
 use Rattle.rules.specs.WellFormed.{snapshotFormed, snapshotBelow, snapshotsFormed, pointsIn, refsHeld, updateFormed}
 use Rattle.rules.specs.SnapshotUpdates.{addSnapshot, heldSnapshots, withoutSnapshots, removeSnapshots}
-use Rattle.rules.specs.Updates.{checks, updateNumber, effect}
+use Rattle.rules.specs.Others.{isOthers}
+use Rattle.rules.specs.Updates.{offersFormed, checks, updateNumber, effect}
 use Rattle.rules.specs.Replay.{strip}
 use Rattle.rules.proofs.Tables.{byKey, table-parts}
 use Rattle.rules.proofs.Sound.Metadata.{Sound}
 use Rattle.rules.proofs.Replay.Lists.{keep-all}
 use Rattle.rules.proofs.Replay.Keys.{held-formed, held-again, others-again, none-held}
-use Rattle.rules.proofs.Sound.Updates.{accepted-form}
+use Rattle.rules.proofs.Sound.Updates.{accepted-form, accepted-own}
 use Rattle.rules.proofs.Replay.Steps.{accepted-if, Replays, nothing, once}
 
 -- ---- add snapshot
@@ -39,11 +40,14 @@ snapshots-ascending : (l : List Snapshot) → snapshotsFormed l ≡ true → asc
 unfolding snapshotsFormed
 snapshots-ascending l h = table-parts snapshotRoom snapshotFormed snapshotBelow l h .2
 
+-- no more goes than was asked for
 held-accepted : (terms : Terms) (ids : List ℤ) (st : State) → updateNumber terms (RemoveSnapshots ids) st ≡ 0 → Sound (st .metadata) → updateNumber terms (RemoveSnapshots (heldSnapshots ids (st .metadata .snapshots))) st ≡ 0
-unfolding checks updateFormed
+unfolding checks updateFormed offersFormed isOthers
 held-accepted terms ids st e k =
     accepted-if terms (RemoveSnapshots (heldSnapshots ids (st .metadata .snapshots))) st
     (held-formed idOf ids (st .metadata .snapshots) (snapshots-ascending (st .metadata .snapshots) (k .snapshots)) (accepted-form terms (RemoveSnapshots ids) st e))
+    refl
+    (rw (held-again idOf ids (st .metadata .snapshots)) (accepted-own terms (RemoveSnapshots ids) st e))
     refl
 
 pub remove-snapshots-replays : (terms : Terms) (ids : List ℤ) (st : State) → updateNumber terms (RemoveSnapshots ids) st ≡ 0 → Sound (st .metadata) → Replays terms 1 st (effect terms (RemoveSnapshots ids) st)

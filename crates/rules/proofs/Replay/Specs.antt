@@ -11,7 +11,7 @@ use lib.IntN.{ℤ, sucℤ}
 use lib.ListN.{length, take, drop, length-map}
 use lib.Signed.{ltZ, nonNeg}
 use Rattle.rules.specs.Words.{eqZ, ifSome, someWith, all, keep, first, isEmpty, sameList, pairUp, isIn, highest, smallest, ascending, firstOf}
-use Rattle.rules.specs.Replies.{updateNotFormed, defaultSpecRemoved}
+use Rattle.rules.specs.Replies.{defaultSpecRemoved}
 use Rattle.rules.specs.Capacities.{specRoom, partitionFieldRoom, partitionBytes}
 use Rattle.rules.specs.Register.{PartitionField, PartitionSpec, SpecOffer, Metadata, Update, Terms, State, withSpecs, withMetadata, withDefaultSpec, onFields, logged}
 use Rattle.rules.specs.Register.Update.{AddPartitionSpec, SetDefaultPartitionSpec, RemovePartitionSpecs}
@@ -20,15 +20,16 @@ use Rattle.rules.specs.WellFormed.{atLeastOne, partitionFieldFormed, off
 use Rattle.rules.specs.Offers.{offeredPartition, isTidyPartition, partitionsOf, offeredSpec, isTidySpec, specOfferFormed}
 use Rattle.rules.specs.SchemaUpdates.{chosen, choiceChecks, choiceLogged}
 use Rattle.rules.specs.SpecUpdates.{withFieldId, fieldsOfAll, likeIds, givenOrReused, reusing, isClashing, isMisfit, isRepeating, reusedSpec, completed, isOutOfSequence, specChecks, addPartitionSpecChecks, addedSpec, specNamed, specOfferedAs, reuseSpec, newSpec, specAdded, addPartitionSpec, misfitChecks, setDefaultPartitionSpecChecks, setDefaultPartitionSpec, removePartitionSpecsChecks, heldSpecs, removePartitionSpecs}
-use Rattle.rules.specs.Updates.{checks, updateNumber, effect}
+use Rattle.rules.specs.Others.{isOthers}
+use Rattle.rules.specs.Updates.{offersFormed, checks, updateNumber, effect}
 use Rattle.rules.specs.Replay.{strip}
-use Rattle.rules.proofs.Checks.{both, and-left, parts, whole, form-passed, form-after, passed, passed-after, first-after, offered-of}
+use Rattle.rules.proofs.Checks.{both, and-left, parts, whole, passed, passed-after, first-after, offered-of}
 use Rattle.rules.proofs.Orders.{highest-nonNeg, suc-nonNeg}
 use Rattle.rules.proofs.Tables.{byKey, all-first, table-parts}
 use Rattle.rules.proofs.Slots.Laid.{all-map}
 use Rattle.rules.proofs.Sound.Metadata.{Sound}
-use Rattle.rules.proofs.Sound.Specs.{field-id, reusing-formed, spec-named-formed, choice-passed}
-use Rattle.rules.proofs.Sound.Updates.{accepted-form, accepted-checks, spec-offer-formed}
+use Rattle.rules.proofs.Sound.Specs.{spec-offer-formed, field-id, reusing-formed, spec-named-formed, choice-passed}
+use Rattle.rules.proofs.Sound.Updates.{accepted-form, accepted-offers, accepted-own, accepted-checks}
 use Rattle.rules.proofs.Replay.Keys.{held-formed, held-not-in, held-again, others-again}
 use Rattle.rules.proofs.Replay.Choices.{Rechosen, rechosen}
 use Rattle.rules.proofs.Replay.Steps.{withLog, accepted-if, Replays, nothing, once}
@@ -139,18 +140,19 @@ checks-unnamed id s m = refl
 -- an accepted addition is accepted as it is logged
 pub relogged-accepted : (terms : Terms) (id : ℤ) (o : SpecOffer) (st : State) → nonNeg id ≡ true → updateNumber terms (AddPartitionSpec o) st ≡ 0 → Sound (st .metadata)
     → updateNumber terms (AddPartitionSpec (reoffer (terms .offers) o (st .metadata .specs) id)) st ≡ 0
-unfolding checks addPartitionSpecChecks updateFormed
+unfolding checks addPartitionSpecChecks updateFormed offersFormed isOthers
 relogged-accepted terms id o st n e k =
     let offers : List ℕ = terms .offers in
     let l : List PartitionSpec = st .metadata .specs in
     let s : PartitionSpec = offeredSpec offers o in
-    let c : firstOf ((not (specOfferFormed offers o), updateNotFormed) ∷ addPartitionSpecChecks s st) ≡ 0 = accepted-checks terms (AddPartitionSpec o) st e in
-    let f : offeredSpecFormed (relogged offers o l id) ≡ true = spec-named-formed id (reusing l s) n (reusing-formed l s (k .specs) (spec-offer-formed terms o st c)) in
+    let g : specOfferFormed offers o ≡ true = accepted-offers terms (AddPartitionSpec o) st e in
+    let f : offeredSpecFormed (relogged offers o l id) ≡ true = spec-named-formed id (reusing l s) n (reusing-formed l s (k .specs) (spec-offer-formed offers o g)) in
     let again : addPartitionSpecChecks (offeredSpec offers (reoffer offers o l id)) st ≡ addPartitionSpecChecks s st = ap (λ (x : PartitionSpec). specChecks x (st .metadata)) (reoffered-reuses offers o l id) ∙ checks-unnamed id (reusing l s) (st .metadata) in
     accepted-if terms (AddPartitionSpec (reoffer offers o l id)) st
     (offered-ids-formed (relogged offers o l id) o f)
-    (rw (reoffer-formed offers o l id f (form-passed (specOfferFormed offers o) updateNotFormed refl (addPartitionSpecChecks s st) c), again)
-    (form-after (specOfferFormed offers o) updateNotFormed refl (addPartitionSpecChecks s st) c))
+    (reoffer-formed offers o l id f g)
+    (accepted-own terms (AddPartitionSpec o) st e)
+    (rw again (accepted-checks terms (AddPartitionSpec o) st e))
 
 held-specs-formed : (l : List PartitionSpec) → specsFormed l ≡ true → all specFormed l ≡ true
 unfolding specsFormed
@@ -217,13 +219,13 @@ spec-rechosen terms id st e =
     (choice-passed id st (accepted-checks terms (SetDefaultPartitionSpec id) st e))
 
 spec-accepted : (terms : Terms) (id : ℤ) (st : State) → updateNumber terms (SetDefaultPartitionSpec id) st ≡ 0 → updateNumber terms (SetDefaultPartitionSpec (specLogged id st)) st ≡ 0
-unfolding checks setDefaultPartitionSpecChecks updateFormed
+unfolding checks setDefaultPartitionSpecChecks updateFormed offersFormed isOthers
 spec-accepted terms id st e =
     let added : Option ℤ = st .added .spec in
     let default : ℤ = st .metadata .fields .defaultSpec in
     let held : ℤ → Bool = holdsSpec (st .metadata .specs) in
     let r : Rechosen id added default held (specLogged id st) = spec-rechosen terms id st e in
-    accepted-if terms (SetDefaultPartitionSpec (specLogged id st)) st (r .formed)
+    accepted-if terms (SetDefaultPartitionSpec (specLogged id st)) st (r .formed) refl (accepted-own terms (SetDefaultPartitionSpec id) st e)
     (first-after (choiceChecks (specLogged id st) added default held) (misfitChecks (chosen (specLogged id st) added) (st .metadata)) refl (r .passes)
     ∙ ap (λ (c : ℤ). firstOf (misfitChecks c (st .metadata))) (r .same)
     ∙ passed-after (choiceChecks id added default held) (misfitChecks (chosen id added) (st .metadata)) refl (accepted-checks terms (SetDefaultPartitionSpec id) st e))
@@ -250,11 +252,13 @@ specs-ascending l h = table-parts specRoom specFormed specBelow l h .2
 
 -- the default spec is not in the list, so it is not among the held ids of the list
 held-accepted : (terms : Terms) (ids : List ℤ) (st : State) → updateNumber terms (RemovePartitionSpecs ids) st ≡ 0 → Sound (st .metadata) → updateNumber terms (RemovePartitionSpecs (heldSpecs ids (st .metadata .specs))) st ≡ 0
-unfolding checks updateFormed removePartitionSpecsChecks
+unfolding checks updateFormed offersFormed isOthers removePartitionSpecsChecks
 held-accepted terms ids st e k =
     let p : isIn ids (st .metadata .fields .defaultSpec) ≡ false = passed ((isIn ids (st .metadata .fields .defaultSpec), defaultSpecRemoved) ∷ []) refl (accepted-checks terms (RemovePartitionSpecs ids) st e) .0 in
     accepted-if terms (RemovePartitionSpecs (heldSpecs ids (st .metadata .specs))) st
     (held-formed specIdOf ids (st .metadata .specs) (specs-ascending (st .metadata .specs) (k .specs)) (accepted-form terms (RemovePartitionSpecs ids) st e))
+    refl
+    (accepted-own terms (RemovePartitionSpecs ids) st e)
     (rw (held-not-in specIdOf ids (st .metadata .specs) (st .metadata .fields .defaultSpec) p))
 
 pub remove-partition-specs-replays : (terms : Terms) (ids : List ℤ) (st : State) → updateNumber terms (RemovePartitionSpecs ids) st ≡ 0 → Sound (st .metadata) → Replays terms 1 st (effect terms (RemovePartitionSpecs ids) st)

@@ -1,7 +1,7 @@
 -- What it means that entries of a log replay a step, and that replays can be joined: the entries of two steps, one after the other.
 use Prim.Native.Nat.{ℕ, suc, _+_, _≤_}
 use mathlib.Core.Path.{_≡_, refl, sym, ap, _∙_}
-use mathlib.Core.Bool.{true}
+use mathlib.Core.Bool.{true, false}
 use mathlib.Core.List.{List, [], _∷_, _++_, append-nil, append-assoc}
 use native.Mathlib.Omega.{arith}
 use lib.Dec.{eqb}
@@ -17,7 +17,8 @@ use Rattle.rules.specs.SchemaUpdates.{addSchemaChecks, setCurrentSchemaC
 use Rattle.rules.specs.OrderUpdates.{addSortOrderChecks, setDefaultSortOrderChecks}
 use Rattle.rules.specs.StatisticsUpdates.{setStatisticsChecks}
 use Rattle.rules.specs.SpecUpdates.{addPartitionSpecChecks, setDefaultPartitionSpecChecks, removePartitionSpecsChecks}
-use Rattle.rules.specs.Updates.{checks, updateNumber, effect}
+use Rattle.rules.specs.Others.{isOthers}
+use Rattle.rules.specs.Updates.{offersFormed, checks, updateNumber, effect}
 use Rattle.rules.specs.Run.{weight, listSum, Ran, runFrom}
 use Rattle.rules.specs.Run.Ran.{Reached}
 use Rattle.rules.specs.Replay.{strip}
@@ -62,9 +63,10 @@ number-alike terms u l st = rw (checks-alike terms u l st)
 
 -- ---- an accepted update
 
-pub accepted-if : (terms : Terms) (u : Update) (st : State) → updateFormed u ≡ true → firstOf (checks terms u st) ≡ 0 → updateNumber terms u st ≡ 0
+pub accepted-if : (terms : Terms) (u : Update) (st : State) → updateFormed u ≡ true → offersFormed terms u ≡ true → isOthers (terms .office) u (st .metadata) ≡ false → firstOf (checks terms u st) ≡ 0
+    → updateNumber terms u st ≡ 0
 unfolding updateNumber
-accepted-if terms u st f e = rw f e
+accepted-if terms u st f o n e = rw (f, o, n) e
 
 run-one : (terms : Terms) (u : Update) (place : ℕ) (st : State) → updateNumber terms u st ≡ 0 → runFrom terms (u ∷ []) place st ≡ Reached (effect terms u st)
 unfolding runFrom

@@ -16,7 +16,7 @@ use Rattle.rules.specs.WellFormed.{snapshotBelow}
 use Rattle.rules.specs.SnapshotUpdates.{isVersion3, addSnapshot, withoutSnapshots}
 use Rattle.rules.specs.Updates.{updateNumber, effect}
 use Rattle.rules.specs.Close.{closed}
-use Rattle.rules.specs.Run.{runFrom, started, run}
+use Rattle.rules.specs.Run.{runFrom, started, closingLog, run}
 use Rattle.rules.specs.Run.Ran.{Reached}
 use Rattle.rules.specs.Rows.{nextRowOf, endOf, areDisjoint, rowsDisjoint, rowsEndBy, isApart}
 use Rattle.rules.proofs.Checks.{only-then, or-left, or-right, Hold, parts, whole}
@@ -123,12 +123,12 @@ run-apart terms (u ∷ us) place st st′ e p =
     run-apart terms us (suc place) next st′ (k .1) (step-apart st next _ (effect-step terms u st (eqb-true (updateNumber terms u st) accepted (k .0)) (p .version)) p)
 
 -- the close leaves version, next row id and snapshots
-closed-apart : (terms : Terms) (st : State) → Passes (st .metadata) → Passes (closed terms (st .log) st)
+closed-apart : (terms : Terms) (log : List Update) (st : State) → Passes (st .metadata) → Passes (closed terms log st)
 unfolding closed
-closed-apart terms st p = record { version = p .version; ranges = p .ranges; ends = p .ends }
+closed-apart terms log st p = record { version = p .version; ranges = p .ranges; ends = p .ends }
 
 -- an accepted run from metadata that is apart answers metadata that is apart
 pub apart-stays : (terms : Terms) (m : Metadata) (us : List Update) (m′ : Metadata) (log : List Update) (expired : List FileEntry) → run terms m us ≡ Accepted m′ log expired → isApart m ≡ true → isApart m′ ≡ true
 apart-stays terms m us m′ log expired e h =
     let k : Ends terms m′ log expired m us = run-accepted terms m′ log expired m us e in
-    passes-apart m′ (subst Passes (k .closes .metadata) (closed-apart terms (k .end) (run-apart terms us 0 (started m) (k .end) (k .reached) (apart-passes m h))))
+    passes-apart m′ (subst Passes (k .closes .metadata) (closed-apart terms (closingLog terms (k .end)) (k .end) (run-apart terms us 0 (started m) (k .end) (k .reached) (apart-passes m h))))

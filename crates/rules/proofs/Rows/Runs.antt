@@ -18,7 +18,7 @@ use Rattle.rules.specs.WellFormed.{snapshotBelow}
 use Rattle.rules.specs.SnapshotUpdates.{addSnapshot, withoutSnapshots}
 use Rattle.rules.specs.Updates.{updateNumber, effect}
 use Rattle.rules.specs.Close.{closed}
-use Rattle.rules.specs.Run.{runFrom, started, run}
+use Rattle.rules.specs.Run.{runFrom, started, closingLog, run}
 use Rattle.rules.specs.Run.Ran.{Reached}
 use Rattle.rules.specs.Rows.{newSnapshots, hasRows, rangesOf, Given, answeredFrom, addedBy, addedOver, endOver, nextRowOf, endOf, climbs, Ascend, Disjoint}
 use Rattle.rules.specs.Examples.{snapRows, draft, clockAt, terms, fileTerms, empty}
@@ -132,9 +132,9 @@ run-takes terms (u ∷ us) place st st′ e v =
     (takes-on st next st′ (newSnapshots (u ∷ [])) (newSnapshots us) t (run-takes terms us (suc place) next st′ (k .1) (t .adds .version)))
 
 -- the close leaves version and next row id
-closed-adds : (terms : Terms) (m : Metadata) (st : State) (new : List Snapshot) → Adds m (st .metadata) new → Adds m (closed terms (st .log) st) new
+closed-adds : (terms : Terms) (log : List Update) (m : Metadata) (st : State) (new : List Snapshot) → Adds m (st .metadata) new → Adds m (closed terms log st) new
 unfolding closed
-closed-adds terms m st new a = record { version = a .version; ranged = a .ranged; climb = a .climb; next = a .next; holds = a .holds }
+closed-adds terms log m st new a = record { version = a .version; ranged = a .ranged; climb = a .climb; next = a .next; holds = a .holds }
 
 module _ (terms : Terms) (m : Metadata) (us : List Update) (m′ : Metadata) (log : List Update) (expired : List FileEntry) (e : run terms m us ≡ Accepted m′ log expired) (v : m .fields .version ≡ 3) where
   ends : Ends terms m′ log expired m us
@@ -149,7 +149,7 @@ module _ (terms : Terms) (m : Metadata) (us : List Update) (m′ : Metadata) (lo
 
   -- and these it adds
   pub run-adds : Adds m m′ (newSnapshots log)
-  run-adds = rw logs-new (subst (λ (x : Metadata). Adds m x (newSnapshots us)) (ends .closes .metadata) (closed-adds terms m (ends .end) (newSnapshots us) (taken .adds)))
+  run-adds = rw logs-new (subst (λ (x : Metadata). Adds m x (newSnapshots us)) (ends .closes .metadata) (closed-adds terms (closingLog terms (ends .end)) m (ends .end) (newSnapshots us) (taken .adds)))
 
 -- ---- a sequence of runs
 

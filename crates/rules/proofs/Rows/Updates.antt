@@ -91,7 +91,7 @@ module _ (st : State) where
   set-ref-keeps terms name r =
       by-test (Keeps st) (isHeldRef name r (st .metadata .refs))
       (λ e. refl)
-      (λ e. by-test (λ (x : State). Keeps st (logged (SetRef name r) (putRef name r x))) (isMain name) (λ f. logged-keeps st (SetRef name r) refl) (λ f. logged-keeps st (SetRef name r) refl))
+      (λ e. by-test (λ (x : State). Keeps st (logged (SetRef name r) (putRef (terms .office) name r x))) (isMain name) (λ f. logged-keeps st (SetRef name r) refl) (λ f. logged-keeps st (SetRef name r) refl))
 
   pub remove-ref-keeps : (name : List ℕ) → Keeps st (removeRef name st)
   unfolding removeRef
@@ -193,7 +193,7 @@ pub data Step (st st′ : State) : List Snapshot → Type 0 where
   adds : (tolerance : ℤ) (s : Snapshot) → firstOf (addSnapshotChecks tolerance s st) ≡ 0 → Keeps (addSnapshot s st) st′ → Step st st′ (s ∷ [])
 
 -- the checks of a branch commit are those of the addition, and more
-commit-adds : (tolerance : ℤ) (name : List ℕ) (s : Snapshot) (st : State) → firstOf (setBranchSnapshotChecks tolerance name s st) ≡ 0 → firstOf (addSnapshotChecks tolerance s st) ≡ 0
+pub commit-adds : (tolerance : ℤ) (name : List ℕ) (s : Snapshot) (st : State) → firstOf (setBranchSnapshotChecks tolerance name s st) ≡ 0 → firstOf (addSnapshotChecks tolerance s st) ≡ 0
 unfolding setBranchSnapshotChecks
 commit-adds tolerance name s st e =
     let more : List Check = setRefChecks name (committed name (s .id) (st .metadata .refs)) (addSnapshot s st) in

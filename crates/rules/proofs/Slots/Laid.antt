@@ -18,7 +18,7 @@ use Rattle.rules.specs.Register as plain
 use Rattle.rules.specs.Register.{Update}
 use Rattle.rules.specs.Register.Update.{AssignUuid, UpgradeFormatVersion, SetLocation, AddSnapshot, SetBranchSnapshot, RemoveSnapshots, SetRef, RemoveRef, AddSchema, SetCurrentSchema, RemoveSchemas, AddSortOrder, SetDefaultSortOrder, SetStatistics, RemoveStatistics, AddPartitionSpec, SetDefaultPartitionSpec, RemovePartitionSpecs, NotFormed}
 use Rattle.rules.specs.Register.StatisticsTable.{Statistics, PartitionStatistics}
-use Rattle.rules.specs.WellFormed.{snapshotFormed, refFormed, nameFormed, fileNameFormed, schemaFormed, orderFormed, offeredOrderFormed, sortFieldFormed, partitionFieldFormed, offeredSpecFormed, transformFormed, specFormed, statisticsFileFormed, removalFormed, atLeastOne, fieldTypeFormed, schemaFieldFormed, versionFormed, locationFormed, snapshotBelow, refBelow, schemaBelow, orderBelow, specBelow, statisticsBelow, snapshotsFormed, refsFormed, snapshotLogFormed, metadataLogFormed, schemasFormed, ordersFormed, specsFormed, statisticsFormed, fieldsFormed, refsHeld, mainAgrees, currentSchemaHeld, defaultOrderHeld, defaultSpecHeld, metadataFormed, offeredIdsFormed, updateFormed}
+use Rattle.rules.specs.WellFormed.{snapshotFormed, referenceFormed, ownerFormed, refFormed, nameFormed, fileNameFormed, schemaFormed, orderFormed, offeredOrderFormed, sortFieldFormed, partitionFieldFormed, offeredSpecFormed, transformFormed, specFormed, statisticsFileFormed, removalFormed, atLeastOne, fieldTypeFormed, schemaFieldFormed, versionFormed, locationFormed, snapshotBelow, refBelow, schemaBelow, orderBelow, specBelow, statisticsBelow, snapshotsFormed, refsFormed, snapshotLogFormed, metadataLogFormed, schemasFormed, ordersFormed, specsFormed, statisticsFormed, fieldsFormed, refsHeld, mainAgrees, currentSchemaHeld, defaultOrderHeld, defaultSpecHeld, metadataFormed, offeredIdsFormed, updateFormed}
 use Rattle.rules.specs.Blanks.{isZero, isZeroZ, restBlank, tidySlots, isTidyName, isTidyText, isTidySnapshot, isBlankSnapshot, isTidySnapshots, isBlankSnapshotId, isTidySnapshotIds, isBlankSnapshotIds, isBlankLogEntry, isTidySnapshotLog, isTidyReference, isBlankReference, isTidyRef, isBlankRef, isTidyRefs, isTidySchemaField, isBlankSchemaField, isTidySchema, isBlankSchema, isTidySchemas, isBlankSchemaId, isTidySchemaIds, isBlankSchemaIds, isBlankSortField, isTidySortOrder, isBlankSortOrder, isTidySortOrders, isTidyPartitionField, isBlankPartitionField, isTidyPartitionSpec, isBlankPartitionSpec, isTidyPartitionSpecs, isBlankFieldId, isTidySpecOffer, isBlankSpecOffer, isBlankSpecId, isTidySpecIds, isBlankSpecIds, isTidyStatisticsFile, isBlankStatisticsFile, isTidyStatistics, isTidyMetadataLogEntry, isBlankMetadataLogEntry, isTidyMetadataLog, isTidyFields, isTidyMetadata}
 use Rattle.rules.specs.Layout.{pad, firstRow, addedRows, laidName, laidText, laidSnapshot, laidSnapshots, laidSnapshotIds, laidLogEntry, laidSnapshotLog, laidReference, laidRef, laidRefs, laidSchemaField, laidSchema, laidSchemas, laidSchemaIds, laidSortField, laidSortOrder, laidSortOrders, laidPartitionField, laidPartitionSpec, laidPartitionSpecs, laidFieldId, laidSpecOffer, laidSpecIds, laidStatisticsFile, laidStatistics, laidMetadataLogEntry, laidMetadataLog, laidFields, laidMetadata}
 use Rattle.rules.specs.Kinds.{isTidyFieldsPart, isTidySnapshotsPart, isTidyRefsPart, isTidySchemasPart, isTidySortOrdersPart, isTidyStatisticsPart, isTidyPartitionSpecsPart, isTidyUpdate, laidUpdate}
@@ -116,7 +116,7 @@ tidy-reference r = both (both (absent-zero (r .minSnapshots)) (absent-zero (r .m
 
 pub tidy-ref : (r : plain.NamedRef) → refFormed r ≡ true → isTidyRef (laidRef r) ≡ true
 unfolding isTidyRef laidRef
-tidy-ref r f = both (tidy-ref-name (r .name) (and-left (nameFormed (r .name)) _ f)) (tidy-reference (r .reference))
+tidy-ref r f = both (tidy-ref-name (r .name) (parts (nameFormed (r .name)) (referenceFormed (r .reference) ∷ ownerFormed r ∷ []) f .0)) (tidy-reference (r .reference))
 
 no-ref : isBlankRef noRef ≡ true
 unfolding isBlankRef isBlankReference

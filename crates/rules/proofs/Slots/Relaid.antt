@@ -48,7 +48,7 @@ use Rattle.records.specs.declared.snapshot.Snapshot.{Snapshot}
 use Rattle.records.specs.declared.snapshot.Snapshots.{Snapshots}
 use Rattle.rules.specs.Words.{isSome, orElse, ifSome, all, ascending}
 use Rattle.rules.specs.Capacities.{snapshotRoom, refRoom, snapshotLogRoom, metadataLogRoom, schemaRoom, schemaFieldRoom, sortOrderRoom, sortFieldRoom, specRoom, partitionFieldRoom, statisticsRoom, removalRoom, nameRoom, textRoom}
-use Rattle.rules.specs.WellFormed.{snapshotFormed, refFormed, nameFormed, fileNameFormed, schemaFormed, orderFormed, offeredOrderFormed, sortFieldFormed, partitionFieldFormed, transformFormed, offeredSpecFormed, specFormed, statisticsFileFormed, removalFormed, offeredIdsFormed, atLeastOne, fieldTypeFormed, schemaFieldFormed, versionFormed, locationFormed, snapshotBelow, refBelow, schemaBelow, orderBelow, specBelow, statisticsBelow, snapshotsFormed, refsFormed, snapshotLogFormed, metadataLogFormed, schemasFormed, ordersFormed, specsFormed, statisticsFormed, fieldsFormed, refsHeld, mainAgrees, currentSchemaHeld, defaultOrderHeld, defaultSpecHeld, metadataFormed}
+use Rattle.rules.specs.WellFormed.{snapshotFormed, referenceFormed, ownerFormed, refFormed, nameFormed, fileNameFormed, schemaFormed, orderFormed, offeredOrderFormed, sortFieldFormed, partitionFieldFormed, transformFormed, offeredSpecFormed, specFormed, statisticsFileFormed, removalFormed, offeredIdsFormed, atLeastOne, fieldTypeFormed, schemaFieldFormed, versionFormed, locationFormed, snapshotBelow, refBelow, schemaBelow, orderBelow, specBelow, statisticsBelow, snapshotsFormed, refsFormed, snapshotLogFormed, metadataLogFormed, schemasFormed, ordersFormed, specsFormed, statisticsFormed, fieldsFormed, refsHeld, mainAgrees, currentSchemaHeld, defaultOrderHeld, defaultSpecHeld, metadataFormed}
 use Rattle.rules.specs.Blanks.{isZero, isZeroZ, restBlank, tidySlots, noneUsed, isBlankUuid, isTidyName, isBlankName, isTidyText, isBlankText, isTidySnapshot, isBlankSnapshot, isTidySnapshots, isBlankSnapshotId, isTidySnapshotIds, isBlankSnapshotIds, isBlankLogEntry, isTidySnapshotLog, isTidyReference, isBlankReference, isTidyRef, isBlankRef, isTidyRefs, isTidySchemaField, isBlankSchemaField, isTidySchema, isBlankSchema, isTidySchemas, isBlankSchemaOffer, isBlankSchemaId, isTidySchemaIds, isBlankSchemaIds, isBlankSortField, isTidySortOrder, isBlankSortOrder, isTidySortOrders, isTidyPartitionField, isBlankPartitionField, isTidyPartitionSpec, isBlankPartitionSpec, isTidyPartitionSpecs, isBlankFieldId, isTidySpecOffer, isBlankSpecOffer, isBlankSpecId, isTidySpecIds, isBlankSpecIds, isTidyStatisticsFile, isBlankStatisticsFile, isTidyStatistics, isTidyMetadataLogEntry, isBlankMetadataLogEntry, isTidyMetadataLog, isTidyFields, isTidyMetadata}
 use Rattle.rules.specs.Layout.{counted, pad, given, firstRow, addedRows, readName, laidName, readText, laidText, readSnapshot, laidSnapshot, readSnapshots, laidSnapshots, readSnapshotIds, laidSnapshotIds, readLogEntry, laidLogEntry, readSnapshotLog, laidSnapshotLog, readReference, laidReference, readRef, laidRef, readRefs, laidRefs, readSchemaField, laidSchemaField, readSchema, laidSchema, readSchemas, laidSchemas, readSchemaIds, laidSchemaIds, readSortField, laidSortField, readSortOrder, laidSortOrder, readSortOrders, laidSortOrders, readPartitionField, laidPartitionField, readPartitionSpec, laidPartitionSpec, readPartitionSpecs, laidPartitionSpecs, readFieldId, laidFieldId, readSpecOffer, laidSpecOffer, readSpecIds, laidSpecIds, readStatisticsFile, laidStatisticsFile, readStatistics, laidStatistics, readMetadataLogEntry, laidMetadataLogEntry, readMetadataLog, laidMetadataLog, readFields, laidFields, readMetadata, laidMetadata}
 use Rattle.rules.specs.Register as plain
@@ -293,16 +293,18 @@ back-reference r e =
 pub blank-ref : (r : NamedRef) → isBlankRef r ≡ true → r ≡ noRef
 unfolding isBlankRef
 blank-ref r e =
-    let n : r .name ≡ noName = blank-ref-name (r .name) (and-left (isBlankName (r .name)) _ e) in
-    let f : r .reference ≡ noReference = blank-reference (r .reference) (and-right (isBlankName (r .name)) _ e) in
-    λ i. record { name = n i; reference = f i }
+    let k = parts (isBlankName (r .name)) (isBlankReference (r .reference) ∷ isZero (r .owner) ∷ []) e in
+    let n : r .name ≡ noName = blank-ref-name (r .name) (k .0) in
+    let f : r .reference ≡ noReference = blank-reference (r .reference) (k .1 .0) in
+    let o : r .owner ≡ 0 = zero (r .owner) (k .1 .1 .0) in
+    λ i. record { name = n i; reference = f i; owner = o i }
 
 pub back-ref : (r : NamedRef) → isTidyRef r ≡ true → refFormed (readRef r) ≡ true → laidRef (readRef r) ≡ r
 unfolding isTidyRef laidRef
 back-ref r e f =
-    let n : laidName (readName (r .name)) ≡ r .name = back-ref-name (r .name) (and-left (isTidyName (r .name)) _ e) (leb-true _ nameRoom (and-left (nameFormed (readName (r .name))) _ f)) in
+    let n : laidName (readName (r .name)) ≡ r .name = back-ref-name (r .name) (and-left (isTidyName (r .name)) _ e) (leb-true _ nameRoom (parts (nameFormed (readName (r .name))) (referenceFormed (readReference (r .reference)) ∷ ownerFormed (readRef r) ∷ []) f .0)) in
     let g : laidReference (readReference (r .reference)) ≡ r .reference = back-reference (r .reference) (and-right (isTidyName (r .name)) _ e) in
-    λ i. record { name = n i; reference = g i }
+    λ i. record { name = n i; reference = g i; owner = r .owner }
 
 pub back-refs : (t : Refs) → isTidyRefs t ≡ true → refsFormed (readRefs t) ≡ true → laidRefs (readRefs t) ≡ t
 unfolding isTidyRefs laidRefs refsFormed

@@ -103,7 +103,7 @@ reread-reference r = λ i. record { snapshot = r .snapshot; kind = r .kind; minS
 
 pub reread-ref : (r : plain.NamedRef) → readRef (laidRef r) ≡ r
 unfolding laidRef
-reread-ref r = λ i. record { name = reread-ref-name (r .name) i; reference = reread-reference (r .reference) i }
+reread-ref r = λ i. record { name = reread-ref-name (r .name) i; owner = r .owner; reference = reread-reference (r .reference) i }
 
 pub reread-refs : (l : List plain.NamedRef) → readRefs (laidRefs l) ≡ l
 unfolding laidRefs

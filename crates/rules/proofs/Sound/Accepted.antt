@@ -1,4 +1,4 @@
--- What it says that a run is accepted: it passes 1, 2 and 26, its updates lead to a state, and the close passes its checks there.
+-- What it says that a run is accepted: it passes 1, 2, 26 and 39, its updates lead to a state, and the close passes its checks there.
 use Prim.Native.Nat.{ℕ, _≤_}
 use native.Mathlib.Omega.{arith}
 use mathlib.Core.Path.{_≡_, refl}
@@ -11,10 +11,11 @@ use Rattle.rules.specs.Words.{firstOf}
 use Rattle.rules.specs.Replies.{accepted}
 use Rattle.rules.specs.Capacities.{listRoom}
 use Rattle.rules.specs.Window.{isOutside}
+use Rattle.rules.specs.Offices.{isOffice}
 use Rattle.rules.specs.Register.{FileEntry, Metadata, Update, Terms, State}
 use Rattle.rules.specs.Register.Outcome.{Refused, Accepted}
 use Rattle.rules.specs.Close.{expired, closeChecks, closed}
-use Rattle.rules.specs.Run.{listSum, Ran, runFrom, started, close, closeRan, startFormed, startChecks, run}
+use Rattle.rules.specs.Run.{listSum, Ran, runFrom, started, close, closingLog, closeRan, startFormed, startChecks, run}
 use Rattle.rules.specs.Run.Ran.{Stopped, Reached}
 use Rattle.rules.proofs.Checks.{only-then, Passed, passed}
 
@@ -25,15 +26,15 @@ refused number place m log gone e = let z : _≡_ {A = ℕ} 0 1 = cc in omega ar
 module _ (terms : Terms) (m : Metadata) (log : List Update) (gone : List FileEntry) where
   -- the state closes with this metadata, log and expired entries
   pub record Closes (st : State) : Type 0 where
-    pub passes : firstOf (closeChecks terms (st .log) (st .metadata)) ≡ 0
-    pub metadata : closed terms (st .log) st ≡ m
+    pub passes : firstOf (closeChecks terms (closingLog terms st) (st .metadata)) ≡ 0
+    pub metadata : closed terms (closingLog terms st) st ≡ m
     pub logged : st .log ≡ log
     pub expired : expired terms (st .metadata) ≡ gone
 
-  pub close-accepted : (place : ℕ) (st : State) → close terms place (st .log) st ≡ Accepted m log gone → Closes st
+  pub close-accepted : (place : ℕ) (st : State) → close terms place (closingLog terms st) st ≡ Accepted m log gone → Closes st
   unfolding close
   close-accepted place st e =
-      let number : ℕ = firstOf (closeChecks terms (st .log) (st .metadata)) in
+      let number : ℕ = firstOf (closeChecks terms (closingLog terms st) (st .metadata)) in
       let k = only-then (eqb number accepted) (refused number place m log gone) e in
       record { passes = eqb-true number accepted (k .0); metadata = cc; logged = cc; expired = cc }
 
@@ -42,6 +43,7 @@ module _ (terms : Terms) (m : Metadata) (log : List Update) (gone : List FileEnt
     pub formed : startFormed terms start ≡ true
     pub short : listSum us ≤ listRoom
     pub tolerated : isOutside (terms .tolerance) ≡ false
+    pub office : isOffice (terms .office) ≡ true
     pub end : State
     pub reached : runFrom terms us 0 (started start) ≡ Reached end
     pub closes : Closes end
@@ -59,13 +61,14 @@ module _ (terms : Terms) (m : Metadata) (log : List Update) (gone : List FileEnt
         formed = not-false (startFormed terms start) (p .0);
         short = leb-true (listSum us) listRoom (not-false (leb (listSum us) listRoom) (p .1 .0));
         tolerated = p .1 .1 .0;
+        office = not-false (isOffice (terms .office)) (p .1 .1 .1 .0);
         end = st;
         reached = q;
         closes = close-accepted (length us) st e;
       }
 
--- a run that passes 1, 2 and 26 is its updates, and the close of where they lead
-pub run-started : (terms : Terms) (start : Metadata) (us : List Update) → startFormed terms start ≡ true → listSum us ≤ listRoom → isOutside (terms .tolerance) ≡ false
+-- a run that passes 1, 2, 26 and 39 is its updates, and the close of where they lead
+pub run-started : (terms : Terms) (start : Metadata) (us : List Update) → startFormed terms start ≡ true → listSum us ≤ listRoom → isOutside (terms .tolerance) ≡ false → isOffice (terms .office) ≡ true
     → run terms start us ≡ closeRan terms us (runFrom terms us 0 (started start))
 unfolding run startChecks
-run-started terms start us f s t = rw (f, le-leb (listSum us) listRoom s, t)
+run-started terms start us f s t o = rw (f, le-leb (listSum us) listRoom s, t, o)

@@ -73,6 +73,9 @@ formed-sound m h =
       specHeld = k .1 .1 .1 .1 .1 .1 .1 .1 .1 .1 .1 .1 .1 .1 .0;
     }
 
+pub formed-agrees : (m : Metadata) → metadataFormed m ≡ true → mainAgrees m ≡ true
+formed-agrees m h = formed-parts m h .1 .1 .1 .1 .1 .1 .1 .1 .1 .1 .1 .0
+
 pub sound-formed : (m : Metadata) → Sound m → mainAgrees m ≡ true → metadataFormed m ≡ true
 unfolding metadataFormed
 sound-formed m s h =

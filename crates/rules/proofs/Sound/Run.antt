@@ -11,13 +11,14 @@ use borrow.Author.Tests.{ltb-false, eqb-true, not-false}
 use Rattle.rules.specs.Words.{ifSome, orElse, all, afterLast, firstOf}
 use Rattle.rules.specs.Replies.{accepted}
 use Rattle.rules.specs.Capacities.{snapshotLogRoom, metadataLogRoom}
+use Rattle.rules.specs.Offices.{isOffice}
 use Rattle.rules.specs.Register.{LogEntry, FileEntry, Metadata, Update, Terms, State, withSnapshotLog, withMetadataLog, withLastUpdated}
 use Rattle.rules.specs.Register.Outcome.{Accepted}
 use Rattle.rules.specs.WellFormed.{fileNameFormed, snapshotLogFormed, metadataLogFormed, fieldsFormed, mainAgrees, metadataFormed}
 use Rattle.rules.specs.ChangeLog.{logsRemoval}
 use Rattle.rules.specs.Updates.{updateNumber, effect}
 use Rattle.rules.specs.Close.{isRebuilt, isMissing, isIntermediate, rebuilt, history, joined, surplus, staying, closeChecks, closed}
-use Rattle.rules.specs.Run.{runFrom, started, run}
+use Rattle.rules.specs.Run.{runFrom, started, closingLog, run}
 use Rattle.rules.specs.Run.Ran.{Stopped, Reached}
 use Rattle.rules.proofs.Checks.{by-test, by-option, only-then, both, and-left, and-right, passed}
 use Rattle.rules.proofs.Tables.{all-append, all-drop, log-all, log-formed, log-keep, log-afterLast}
@@ -42,8 +43,8 @@ run-keeps terms P f (u ∷ us) place st st′ e p =
     let k = only-then (eqb (updateNumber terms u st) accepted) (not-reached (updateNumber terms u st) place st′) e in
     run-keeps terms P f us (suc place) (effect terms u st) st′ (k .1) (f u st (eqb-true (updateNumber terms u st) accepted (k .0)) p)
 
-pub run-sound : (terms : Terms) (us : List Update) (place : ℕ) (st st′ : State) → runFrom terms us place st ≡ Reached st′ → Sound (st .metadata) → Sound (st′ .metadata)
-run-sound terms = run-keeps terms SoundState (effect-sound terms)
+pub run-sound : (terms : Terms) → isOffice (terms .office) ≡ true → (us : List Update) (place : ℕ) (st st′ : State) → runFrom terms us place st ≡ Reached st′ → Sound (st .metadata) → Sound (st′ .metadata)
+run-sound terms o = run-keeps terms SoundState (λ u st. effect-sound terms u st o)
 
 -- ---- the close
 
@@ -75,20 +76,20 @@ staying-formed terms m f r h =
     let p : FileEntry → Bool = λ e. fileNameFormed (e .file) in
     log-formed metadataLogRoom p (staying terms m) r (all-drop p (surplus terms m) (joined terms m) (joined-formed terms m f (log-all metadataLogRoom p (m .metadataLog) h)))
 
-closed-sound : (terms : Terms) (st : State) → Sound (st .metadata) → ifSome fileNameFormed (terms .file) ≡ true → length (staying terms (st .metadata)) ≤ metadataLogRoom → Sound (closed terms (st .log) st)
+closed-sound : (terms : Terms) (log : List Update) (st : State) → Sound (st .metadata) → ifSome fileNameFormed (terms .file) ≡ true → length (staying terms (st .metadata)) ≤ metadataLogRoom → Sound (closed terms log st)
 unfolding closed fieldsFormed
-closed-sound terms st s f r =
+closed-sound terms log st s f r =
     let m : Metadata = st .metadata in
     let files : Metadata = withMetadataLog (staying terms m) m in
-    let past : Metadata = withSnapshotLog (history (st .log) m) files in
+    let past : Metadata = withSnapshotLog (history log m) files in
     let a : Sound files = with-metadata-log m s (staying terms m) (staying-formed terms m f r (s .metadataLog)) in
-    let b : Sound past = with-snapshot-log files a (history (st .log) m) (history-formed (st .log) m (s .snapshotLog)) in
+    let b : Sound past = with-snapshot-log files a (history log m) (history-formed log m (s .snapshotLog)) in
     with-fields past b (withLastUpdated (orElse (st .own) (terms .clock)) (m .fields)) (s .fields) refl refl refl
 
 -- 22: main agrees, also after the close, which changes neither of the two
-closed-agrees : (terms : Terms) (st : State) → mainAgrees (st .metadata) ≡ true → mainAgrees (closed terms (st .log) st) ≡ true
+closed-agrees : (terms : Terms) (log : List Update) (st : State) → mainAgrees (st .metadata) ≡ true → mainAgrees (closed terms log st) ≡ true
 unfolding closed mainAgrees
-closed-agrees terms st h = h
+closed-agrees terms log st h = h
 
 close-passed : (terms : Terms) (log : List Update) (m : Metadata) → firstOf (closeChecks terms log m) ≡ 0 → (mainAgrees m ≡ true) × (length (staying terms m) ≤ metadataLogRoom)
 unfolding closeChecks
@@ -96,10 +97,10 @@ close-passed terms log m e =
     let k = passed (closeChecks terms log m) refl e in
     (not-false (mainAgrees m) (k .1 .1 .1 .1 .0), ltb-false metadataLogRoom (length (staying terms m)) (k .1 .1 .1 .1 .1 .0))
 
-pub close-formed : (terms : Terms) (st : State) → Sound (st .metadata) → ifSome fileNameFormed (terms .file) ≡ true → firstOf (closeChecks terms (st .log) (st .metadata)) ≡ 0 → metadataFormed (closed terms (st .log) st) ≡ true
-close-formed terms st s f e =
-    let k = close-passed terms (st .log) (st .metadata) e in
-    sound-formed (closed terms (st .log) st) (closed-sound terms st s f (k .1)) (closed-agrees terms st (k .0))
+pub close-formed : (terms : Terms) (log : List Update) (st : State) → Sound (st .metadata) → ifSome fileNameFormed (terms .file) ≡ true → firstOf (closeChecks terms log (st .metadata)) ≡ 0 → metadataFormed (closed terms log st) ≡ true
+close-formed terms log st s f e =
+    let k = close-passed terms log (st .metadata) e in
+    sound-formed (closed terms log st) (closed-sound terms log st s f (k .1)) (closed-agrees terms log st (k .0))
 
 -- ---- the run
 
@@ -109,4 +110,4 @@ accepted-formed terms m us m′ log expired e =
     let f : ifSome fileNameFormed (terms .file) ≡ true = and-right (metadataFormed m) (ifSome fileNameFormed (terms .file)) (k .formed) in
     let s : Sound m = formed-sound m (and-left (metadataFormed m) (ifSome fileNameFormed (terms .file)) (k .formed)) in
     subst (λ (x : Metadata). metadataFormed x ≡ true) (k .closes .metadata)
-    (close-formed terms (k .end) (run-sound terms us 0 (started m) (k .end) (k .reached) s) f (k .closes .passes))
+    (close-formed terms (closingLog terms (k .end)) (k .end) (run-sound terms (k .office) us 0 (started m) (k .end) (k .reached) s) f (k .closes .passes))

@@ -2,37 +2,30 @@
 use Prim.Native.Nat.{ℕ, _<_}
 use mathlib.Core.Path.{_≡_, refl, ap, _∙_}
 use mathlib.Core.Bool.{Bool, true, false, cond, not}
-use mathlib.Core.List.{List, [], _∷_, _++_}
+use mathlib.Core.List.{List, [], _∷_}
 use mathlib.Core.Option.{Option}
 use lib.IntN.{ℤ, sucℤ}
 use lib.Signed.{nonNeg}
 use lib.ListN.{length}
 use borrow.Author.Tests.{leb-false, not-false}
-use Rattle.rules.specs.Words.{eqZ, larger, isSome, someWith, any, keep, isEmpty, isIn, highest, put, firstOf, Check}
-use Rattle.rules.specs.Replies.{updateNotFormed, nameClash}
+use Rattle.rules.specs.Words.{eqZ, larger, isSome, someWith, any, keep, isEmpty, isIn, highest, put, firstOf}
+use Rattle.rules.specs.Replies.{nameClash}
 use Rattle.rules.specs.Capacities.{schemaRoom}
 use Rattle.rules.specs.Register.{Schema, SchemaOffer, Metadata, State, withSchemas, withLastColumn}
 use Rattle.rules.specs.WellFormed.{fieldIds, schemaFormed, schemaBelow, schemasFormed, fieldsFormed, currentSchemaHeld, hasSchema}
 use Rattle.rules.specs.Offers.{offeredSchema, isTidyOffer, offerFormed}
 use Rattle.rules.specs.SchemaUpdates.{reusedSchema, schemaIds, isTaken, newSchemaChecks, addSchemaChecks, offeredAs, newSchema, addSchema, chosen, choiceChecks, holdsSchema, setCurrentSchemaChecks, setCurrentSchema, removeSchemasChecks, removeSchemas}
-use Rattle.rules.proofs.Checks.{by-test, by-option, both, and-left, and-right, parts, whole, schemaTests, passed, passed-unless, passed-after, form-passed}
+use Rattle.rules.proofs.Checks.{by-test, by-option, both, and-left, and-right, parts, whole, schemaTests, passed, passed-unless, passed-after}
 use Rattle.rules.proofs.Orders.{numbers-ordered, numbers-told, highest-nonNeg, suc-nonNeg}
 use Rattle.rules.proofs.Tables.{any-put, any-keep, table-put, table-keep}
 use Rattle.rules.proofs.Sound.Metadata.{Sound, SoundState, with-fields, with-current-schema, with-schemas}
 
 -- ---- offers
 
-module _ (offers : List ℕ) (o : SchemaOffer) where
-  -- the check that an offer is well formed
-  abbrev pub offer-check : List Check
-  offer-check = (not (offerFormed offers o), updateNotFormed) ∷ []
-
-  pub offer-passed : (cs : List Check) → firstOf (offer-check ++ cs) ≡ 0 → offerFormed offers o ≡ true
-  offer-passed cs e = form-passed (offerFormed offers o) updateNotFormed refl cs e
-
-  pub offer-formed : (cs : List Check) → firstOf (offer-check ++ cs) ≡ 0 → schemaFormed (offeredSchema offers o) ≡ true
-  unfolding offerFormed
-  offer-formed cs e = and-right (isTidyOffer offers o) (schemaFormed (offeredSchema offers o)) (offer-passed cs e)
+-- an offer that is well formed offers a well-formed schema
+pub offer-formed : (offers : List ℕ) (o : SchemaOffer) → offerFormed offers o ≡ true → schemaFormed (offeredSchema offers o) ≡ true
+unfolding offerFormed
+offer-formed offers o h = and-right (isTidyOffer offers o) (schemaFormed (offeredSchema offers o)) h
 
 -- ---- add schema
 
@@ -45,7 +38,7 @@ pub reoffered-formed : (offers : List ℕ) (id : ℤ) (o : SchemaOffer) → nonN
 unfolding offerFormed isTidyOffer offeredSchema
 reoffered-formed offers id o n h =
     both (and-left (isTidyOffer offers o) (schemaFormed (offeredSchema offers o)) h)
-    (schema-named (offeredSchema offers o) id n (and-right (isTidyOffer offers o) (schemaFormed (offeredSchema offers o)) h))
+    (schema-named (offeredSchema offers o) id n (offer-formed offers o h))
 
 new-schema-sound : (o : SchemaOffer) (s : Schema) (st : State) → schemaFormed s ≡ true → length (st .metadata .schemas) < schemaRoom → Sound (st .metadata) → Sound (newSchema o s st .metadata)
 unfolding schemasFormed fieldsFormed currentSchemaHeld

@@ -15,15 +15,23 @@ use Rattle.rules.specs.Capacities.{specRoom, partitionFieldRoom}
 use Rattle.rules.specs.Register.{PartitionField, PartitionSpec, SpecOffer, Metadata, State, withSpecs, withLastPartition}
 use Rattle.rules.specs.Partitions.{isRedundant, partitionNames, partitionIds, specIds, holdsSpec}
 use Rattle.rules.specs.WellFormed.{atLeastOne, transformFormed, nameFormed, partitionFieldFormed, offeredSpecFormed, specFormed, specBelow, specsFormed, defaultSpecHeld, hasSpec}
+use Rattle.rules.specs.Offers.{isTidySpec, offeredSpec, specOfferFormed}
 use Rattle.rules.specs.SchemaUpdates.{chosen, choiceChecks}
 use Rattle.rules.specs.SpecUpdates.{withFieldId, fieldsOfAll, isLike, likeIds, givenOrReused, reusing, currentFields, isClashing, isMisfit, isRepeating, reusedSpec, nextFree, numbered, completed, newSpecChecks, specChecks, addPartitionSpecChecks, specNamed, reaches, newSpec, specAdded, addPartitionSpec, misfitChecks, setDefaultPartitionSpecChecks, setDefaultPartitionSpec, removePartitionSpecsChecks, heldSpecs, removePartitionSpecs}
-use Rattle.rules.proofs.Checks.{Hold, by-test, by-option, both, neither, parts, whole, specTests, offered-of, passed, passed-unless, passed-before, passed-after}
+use Rattle.rules.proofs.Checks.{Hold, by-test, by-option, both, and-right, neither, parts, whole, specTests, offered-of, passed, passed-unless, passed-before, passed-after}
 use Rattle.rules.proofs.Orders.{numbers-ordered, numbers-told, highest-nonNeg, suc-nonNeg}
 use Rattle.rules.proofs.Tables.{all-head, all-tail, all-then, all-append, all-keep, any-put, any-keep, table-parts, table-put, table-keep}
 use Rattle.rules.proofs.Fresh.{idsOf, above-one, one-nonNeg, larger-nonNeg, all-if-in, next-above, fresh-unequal}
 use Rattle.rules.proofs.Sound.Metadata.{Sound, SoundState, with-fields, with-default-spec, with-specs}
 use Rattle.rules.proofs.Sound.Singles.{partition-formed, partition-nonNeg}
 use Rattle.rules.proofs.Sound.Schemas.{chosen-held}
+
+-- ---- offers
+
+-- an offer that is well formed offers a well-formed spec
+pub spec-offer-formed : (offers : List ℕ) (o : SpecOffer) → specOfferFormed offers o ≡ true → offeredSpecFormed (offeredSpec offers o) ≡ true
+unfolding specOfferFormed
+spec-offer-formed offers o h = and-right (isTidySpec offers o) (offeredSpecFormed (offeredSpec offers o)) h
 
 -- ---- fields that differ in their ids alone
 

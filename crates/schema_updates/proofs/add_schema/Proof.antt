@@ -14,7 +14,7 @@ use Rattle.rules.specs.Register.{Terms, State}
 use Rattle.rules.specs.Register.Update.{AddSchema}
 use Rattle.rules.specs.Offers.{offeredSchema}
 use Rattle.rules.specs.SchemaUpdates.{addSchemaChecks, offeredAs}
-use Rattle.rules.specs.Updates.{checks, effect}
+use Rattle.rules.specs.Updates.{offersFormed, checks, offerChecks, effect}
 use Rattle.rules.specs.Layout.{readSchema, laidSchema, readSchemaOffer, laidSchemaOffer}
 use Rattle.rules.specs.Kinds.{readUpdate, withSchemasPart, withSchemaOffer}
 use Rattle.rules.proofs.Slots.Reread.{reread-schema}
@@ -41,7 +41,7 @@ module _ (s : tie.Start) where
   Told st = Sought (st .metadata) (readSchema (s .args .offered .schema)) (s .args .keys) (s .args .equal) (s .args .taken)
 
   -- a number other than 0: nothing is changed
-  refused : (d : Decision) (n : ℕ) → (n ≡ 0 → ⊥) → d .number ≡ n → d .grows ≡ false → ((terms : Terms) (st : State) → Offered (terms .offers) offer (s .args .offered) → Told st → n ≡ firstOf (checks terms (AddSchema offer) st))
+  refused : (d : Decision) (n : ℕ) → (n ≡ 0 → ⊥) → d .number ≡ n → d .grows ≡ false → ((terms : Terms) (st : State) → Offered (terms .offers) offer (s .args .offered) → Told st → n ≡ firstOf (offerChecks terms (AddSchema offer) st))
       → SchemaDecided (s .args .b) (s .args .keys) (s .args .equal) (s .args .taken) (s .args .offered) (s .args .u) d
   refused d n z e g k =
       record {
@@ -60,7 +60,7 @@ module _ (s : tie.Start) where
     named = sym (ap (λ (t : Schema). t .«schema_id» .0) (f .says w))
 
 returns : tie.Need-returns
-unfolding checks
+unfolding checks offersFormed
 returns c =
     let s = c .before .before .before in
     let n : s .args .offered .formed ≡ false = not-true (s .args .offered .formed) (c .before .if1 .taken) in
@@ -70,7 +70,7 @@ returns c =
     (λ terms st f q. rw (sym (f .formed) ∙ n))
 
 returns-2 : tie.Need-returns-2
-unfolding checks addSchemaChecks
+unfolding checks offersFormed addSchemaChecks
 returns-2 c =
     let s = c .before .before .before .before in
     let w : s .args .offered .formed ≡ true = not-false (s .args .offered .formed) (c .before .before .if1 .left) in
@@ -80,7 +80,7 @@ returns-2 c =
     (λ terms st f q. rw (sym (f .formed) ∙ w, ← (said s w terms f), ← (q .clash), c .before .if2 .taken))
 
 returns-3 : tie.Need-returns-3
-unfolding checks effect
+unfolding checks offersFormed effect
 returns-3 c =
     let x = c .before .before .before .before in
     let s = x .before .before .before .before in

@@ -16,7 +16,7 @@ use Rattle.rules.specs.Register.{withSchemas, withMetadata}
 use Rattle.rules.specs.Register.Update.{RemoveSchemas}
 use Rattle.rules.specs.WellFormed.{updateFormed}
 use Rattle.rules.specs.SchemaUpdates.{heldSchemas, removeSchemasChecks, removeSchemas}
-use Rattle.rules.specs.Updates.{checks, effect}
+use Rattle.rules.specs.Updates.{offersFormed, checks, effect}
 use Rattle.rules.specs.Layout.{counted, readSchemaIds, laidSchemaIds, laidFields}
 use Rattle.rules.specs.Kinds.{readUpdate, laidUpdate, withSchemasPart, withSchemaIds}
 use Rattle.rules.proofs.Slots.Relaid.{length-counted}
@@ -41,7 +41,7 @@ module _ (s : tie.Start) where
   laid-ids = given-schema-ids (s .args .u) (s .pre .1 .0) (formed-kind (s .args .u) (s .pre .1 .0) 11 (s .pre .1 .1 .1) (s .pre .1 .1 .0))
 
 returns : tie.Need-returns
-unfolding checks effect removeSchemasChecks removeSchemas laidBuilder laidFields laidUpdate
+unfolding checks offersFormed effect removeSchemasChecks removeSchemas laidBuilder laidFields laidUpdate
 returns c terms st p q =
     let h = c .before in
     let r = h .before .before in

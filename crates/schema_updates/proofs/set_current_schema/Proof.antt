@@ -2,7 +2,7 @@
 use mathlib.Core.Path.{ap}
 use borrow.Author.Needs.{needs}
 use Rattle.records.specs.declared.update.TableUpdate.{TableUpdate}
-use Rattle.rules.specs.Updates.{checks, effect}
+use Rattle.rules.specs.Updates.{offersFormed, checks, effect}
 use Rattle.rules.specs.Kinds.{withSchemasPart, withSchemaId}
 use Rattle.builder.proofs.Steps.{entry-as}
 use Rattle.builder.proofs.Entries.{of-kind, read-kind}
@@ -10,7 +10,7 @@ use Rattle.schema_updates.proofs.set_current_schema.Statement.{statemen
 use Rattle.schema_updates.proofs.set_current_schema.Tie as tie
 
 returns : tie.Need-returns
-unfolding checks effect
+unfolding checks offersFormed effect
 returns c terms st p q =
     let x = c .before .before .before in
     let s = x .before .before in

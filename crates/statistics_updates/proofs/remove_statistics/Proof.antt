@@ -4,7 +4,7 @@ use mathlib.Core.List.{List}
 use borrow.Author.Needs.{needs}
 use Rattle.rules.specs.Register as plain
 use Rattle.rules.specs.StatisticsUpdates.{hasFileOf}
-use Rattle.rules.specs.Updates.{checks, effect}
+use Rattle.rules.specs.Updates.{offersFormed, checks, effect}
 use Rattle.statistics_updates.proofs.Rules.{remove-steps}
 use Rattle.statistics_updates.proofs.Reading.{remove-read, remove-laid}
 use Rattle.statistics_updates.proofs.Tables.{read-statistics}
@@ -12,7 +12,7 @@ use Rattle.statistics_updates.proofs.remove_statistics.Statement.{state
 use Rattle.statistics_updates.proofs.remove_statistics.Tie as tie
 
 returns : tie.Need-returns
-unfolding checks effect
+unfolding checks offersFormed effect
 returns c which terms st k p q =
     let h = c .before in
     let s = h .before in

@@ -7,7 +7,7 @@ use lib.ListN.{length}
 use Rattle.rules.specs.Words.{firstOf}
 use Rattle.rules.specs.Register as plain
 use Rattle.rules.specs.StatisticsUpdates.{hasFileOf}
-use Rattle.rules.specs.Updates.{checks, effect}
+use Rattle.rules.specs.Updates.{offersFormed, checks, effect}
 use Rattle.rules.specs.Layout.{readStatisticsFile}
 use Rattle.tables.specs.Laid.{LaidStatisticsFile}
 use Rattle.tables.proofs.Table.{read-length}
@@ -23,7 +23,7 @@ module _ (s : tie.Start) where
   offered = file-laid (s .args .u) (s .pre .1 .0) (s .pre .1 .1 .0) (s .pre .1 .1 .1)
 
 returns : tie.Need-returns
-unfolding checks effect
+unfolding checks offersFormed effect
 returns c =
     let F = c .before in
     let h = F .before in

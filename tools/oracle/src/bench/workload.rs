@@ -1,8 +1,8 @@
 //! The workloads, as records, so that every engine is given the same.
 
 use crate::case::{
-    BRANCH, DEFAULT_SPEC_ID, Flagged, LAST_PARTITION_ID, Metadata, MetadataLogEntry, Order, Ref,
-    Run, Schema, Snapshot, SnapshotLogEntry, SortField, Spec, TAG, Update,
+    BRANCH, DEFAULT_SPEC_ID, Flagged, LAST_PARTITION_ID, Metadata, MetadataLogEntry, OFFICE_1,
+    Order, Ref, Run, Schema, Snapshot, SnapshotLogEntry, SortField, Spec, TAG, Update,
 };
 
 pub enum Workload {
@@ -77,6 +77,7 @@ pub fn reference(name: &str, kind: u8, snapshot_id: i64) -> Ref {
         min_snapshots: Flagged::of(None),
         max_snapshot_age_ms: Flagged::of(None),
         max_ref_age_ms: Flagged::of(None),
+        owner: OFFICE_1,
     }
 }
 

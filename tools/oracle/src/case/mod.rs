@@ -12,7 +12,7 @@ mod update;
 mod write;
 mod write_records;
 
-pub use more::{DEFAULT_TOLERANCE, More, TOLERANCES, Table};
+pub use more::{More, OFFICE_1, OFFICE_2, TOLERANCES, Table, Terms};
 pub use partition::{
     BUCKET, DAY, DEFAULT_SPEC_ID, IDENTITY, LAST_PARTITION_ID, MONTH, PartitionField, Spec, YEAR,
 };
@@ -65,6 +65,8 @@ pub struct Ref {
     pub min_snapshots: Flagged<i32>,
     pub max_snapshot_age_ms: Flagged<i64>,
     pub max_ref_age_ms: Flagged<i64>,
+    /// The office that it belongs to. A ref in an update or a log has none: there it is 1, and nobody looks.
+    pub owner: u8,
 }
 
 #[derive(Debug, Clone, Copy, PartialEq)]
@@ -195,11 +197,11 @@ impl Case {
         }
     }
 
-    /// The run and its tolerance, if the case is a run.
-    pub fn run(&self) -> Option<(&Run, i64)> {
+    /// The run and its terms, if the case is a run.
+    pub fn run(&self) -> Option<(&Run, Terms)> {
         match self {
-            Self::Run(run) => Some((run, DEFAULT_TOLERANCE)),
-            Self::RunGiven(run, more) => Some((run, more.tolerance())),
+            Self::Run(run) => Some((run, Terms::default())),
+            Self::RunGiven(run, more) => Some((run, more.terms())),
             _ => None,
         }
     }

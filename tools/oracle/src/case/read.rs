@@ -103,11 +103,27 @@ impl<R: BufRead> CaseReader<R> {
                     metadata.default_spec_id = self.number()?;
                     metadata.last_partition_id = self.number()?;
                 }
+                6 => more.office = Some(self.number()?),
+                7 => {
+                    more.owners = true;
+                    self.owners(&mut metadata.refs)?;
+                }
                 _ => return Err(BadCase),
             }
             before = tag;
         }
         Ok(more)
+    }
+
+    /// One for each ref.
+    fn owners(&mut self, refs: &mut [Ref]) -> Read<()> {
+        if self.number::<u64>()? != refs.len() as u64 {
+            return Err(BadCase);
+        }
+        for reference in refs {
+            reference.owner = self.number()?;
+        }
+        Ok(())
     }
 
     fn walk_terms(&mut self) -> Read<WalkTerms> {

@@ -27,6 +27,7 @@ impl<R: BufRead> CaseReader<R> {
             min_snapshots: self.flagged()?,
             max_snapshot_age_ms: self.flagged()?,
             max_ref_age_ms: self.flagged()?,
+            owner: OFFICE_1,
         })
     }
 

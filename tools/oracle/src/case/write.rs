@@ -134,11 +134,20 @@ impl Line {
     /// A count, then the tags that are given, ascending, with what they give.
     fn more(&mut self, more: &More, m: &Metadata) -> &mut Self {
         let tables = more.tables(m);
-        self.number(more.tolerance.is_some() as usize + tables.len());
+        let numbers = [more.tolerance.is_some(), more.office.is_some()];
+        let given = numbers.into_iter().filter(|given| *given);
+        self.number(given.count() + tables.len());
         if let Some(tolerance) = more.tolerance {
             self.number(1).number(tolerance);
         }
-        for (tag, table) in tables {
+        let (before, behind): (Vec<_>, Vec<_>) = tables.into_iter().partition(|(tag, _)| *tag < 6);
+        for (tag, table) in before {
+            self.number(tag).table(table);
+        }
+        if let Some(office) = more.office {
+            self.number(6).number(office);
+        }
+        for (tag, table) in behind {
             self.number(tag).table(table);
         }
         self
@@ -154,6 +163,9 @@ impl Line {
             Table::Specs(m) => {
                 self.counted(capacity::SPECS, &m.specs, Self::spec);
                 self.number(m.default_spec_id).number(m.last_partition_id)
+            }
+            Table::Owners(refs) => {
+                self.counted(capacity::REFS, refs, |line, r| line.number(r.owner))
             }
         }
     }

@@ -46,8 +46,8 @@ pub fn cases(mut output: impl Write) -> io::Result<()> {
 
 /// The number, and behind a refused run's its place.
 fn here(case: &Case) -> String {
-    if let Some((run, tolerance)) = case.run() {
-        return match port::run(run, tolerance).answer {
+    if let Some((run, terms)) = case.run() {
+        return match port::run(run, terms).answer {
             Ok(accepted) => {
                 let (version, next_row_id) =
                     (accepted.metadata.version, accepted.metadata.next_row_id);

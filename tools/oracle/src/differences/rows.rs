@@ -2,8 +2,8 @@
 
 use super::specs;
 use crate::case::{
-    BRANCH, Case, Flagged, Metadata, MetadataLogEntry, More, Order, Ref, Run, Schema, Snapshot,
-    SnapshotLogEntry, SortField, StatisticsFile, Update, WalkTerms, capacity,
+    BRANCH, Case, Flagged, Metadata, MetadataLogEntry, More, OFFICE_1, Order, Ref, Run, Schema,
+    Snapshot, SnapshotLogEntry, SortField, StatisticsFile, Update, WalkTerms, capacity,
 };
 use crate::port;
 
@@ -64,6 +64,7 @@ fn reference(name: &str, snapshot_id: i64, min_snapshots: Option<i32>) -> Ref {
         min_snapshots: Flagged::of(min_snapshots),
         max_snapshot_age_ms: Flagged::of(None),
         max_ref_age_ms: Flagged::of(None),
+        owner: OFFICE_1,
     }
 }
 

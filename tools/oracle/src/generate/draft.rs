@@ -1,4 +1,4 @@
-//! A run in the making, with the builder that its updates have led to, so that the next update can be chosen to suit.
+//! A run in the making, with the state that its updates have led to, so that the next update can be chosen to suit.
 
 use super::propose::{self, Now};
 use super::random::Random;
@@ -6,14 +6,12 @@ use super::start;
 use super::world::World;
 use super::{damage, leaves};
 use crate::case::{More, Order, Run, Spec, Update, capacity};
-use crate::port::{self, Owns};
-use crate::published::from_published as from;
-use crate::spec::table_metadata_builder::TableMetadataBuilder;
+use crate::port::{self, Going, Owns};
 
 pub struct Draft {
     pub run: Run,
     world: World,
-    builder: TableMetadataBuilder,
+    going: Going,
 }
 
 impl Draft {
@@ -33,33 +31,30 @@ impl Draft {
             updates: Vec::new(),
         };
         adjust(random, &mut run);
-        let begun = port::begin(&run, world.tolerance, &mut Owns::new());
-        let builder = begun.expect("a start is well formed");
-        Self {
-            run,
-            world,
-            builder,
-        }
+        let begun = port::begin(&run, world.terms, &mut Owns::new());
+        let going = begun.expect("a start is well formed");
+        Self { run, world, going }
     }
 
     pub fn now(&self) -> Now<'_> {
         Now {
             world: &self.world,
-            metadata: from::metadata(self.builder.held()),
-            own_last_updated_ms: self.builder.own_last_updated_ms(),
+            metadata: self.going.metadata(),
+            own_last_updated_ms: self.going.builder().own_last_updated_ms(),
+            book: self.going.book(),
         }
     }
 
     /// Adds the update to the list if it is accepted here; else gives its number.
     pub fn offer(&mut self, update: Update) -> Result<(), u8> {
-        self.builder = port::step(self.builder.clone(), &update, &mut Owns::new())?;
+        self.going = port::step(self.going.clone(), &update, &mut Owns::new())?;
         self.run.updates.push(update);
         Ok(())
     }
 
     /// What the close would say now: 0, or its number.
     pub fn close(&self) -> u8 {
-        let closed = port::close(self.builder.clone(), &mut Owns::new());
+        let closed = port::close(self.going.clone(), &mut Owns::new());
         closed.err().unwrap_or(0)
     }
 
@@ -109,7 +104,7 @@ impl Draft {
                 }
             }
         }
-        let refused = |run: &Run| port::run(run, self.world.tolerance).answer.is_err();
+        let refused = |run: &Run| port::run(run, self.world.terms).answer.is_err();
         while refused(&self.run) && self.run.updates.pop().is_some() {}
     }
 

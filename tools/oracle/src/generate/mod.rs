@@ -1,9 +1,10 @@
 //! A seeded generator of cases: deep accepted runs, every refusal, boundaries, damaged records, walks, the small entry points,
-//! tolerances, tables of statistics files, and partition specs.
+//! tolerances, tables of statistics files, partition specs, and two offices.
 
 mod damage;
 mod draft;
 mod leaves;
+mod offices;
 mod propose;
 mod provoke;
 mod random;
@@ -28,10 +29,11 @@ pub enum Kind {
     Tolerance,
     Statistics,
     Specs,
+    Offices,
     Mixed,
 }
 
-/// What a mixed lot has, each as often as it is to come.
+/// What a mixed lot has, each as often as it is to come. Offices are a lot of their own, so that mixed ones stay what they were.
 const MIXED: [(Kind, usize); 6] = [
     (Kind::Run, 6),
     (Kind::Walk, 2),
@@ -57,6 +59,7 @@ fn case(random: &mut Random, kind: Kind) -> Case {
         Kind::Tolerance => tolerances::given(random),
         Kind::Statistics => statistics::given(random),
         Kind::Specs => specs::given(random),
+        Kind::Offices => offices::given(random),
         Kind::Mixed => {
             let kind = random.weighted(&MIXED);
             case(random, kind)

@@ -1,12 +1,15 @@
 //! One update that suits the metadata as it stands: mostly one that takes effect, often one that repeats or undoes another.
 
+use super::offices;
 use super::random::Random;
 use super::specs;
 use super::start;
 use super::world::World;
 use crate::case::{
-    Bytes, Flagged, Metadata, Order, Schema, Snapshot, SortField, StatisticsFile, Update, capacity,
+    Bytes, Flagged, Metadata, OFFICE_2, Order, Schema, Snapshot, SortField, StatisticsFile, Update,
+    capacity,
 };
+use crate::port::Book;
 
 /// What an update is proposed for.
 pub struct Now<'a> {
@@ -15,6 +18,8 @@ pub struct Now<'a> {
     pub metadata: Metadata,
     /// The run's own last update, if it has one yet.
     pub own_last_updated_ms: Option<i64>,
+    /// Whose refs and snapshots are.
+    pub book: &'a Book,
 }
 
 /// Updates by kind, each as often as it is to come.
@@ -39,6 +44,14 @@ const KINDS: [(u8, usize); 17] = [
 ];
 
 pub fn propose(random: &mut Random, now: &Now) -> Update {
+    // Most of what follows is not office 2's to change.
+    let own = match now.world.terms.office {
+        OFFICE_2 => 90,
+        _ => 40,
+    };
+    if now.world.offices && random.percent(own) {
+        return offices::propose(random, now);
+    }
     if let Some(pools) = now.world.specs.as_ref().filter(|_| random.percent(50)) {
         return specs::propose(random, now, pools);
     }
@@ -127,7 +140,7 @@ fn time(random: &mut Random, now: &Now) -> i64 {
     let log_end = now.metadata.snapshot_log.last();
     let last = log_end.map_or(i64::MIN, |entry| entry.timestamp_ms);
     let last = last.max(last_update(now));
-    let tolerance = now.world.tolerance;
+    let tolerance = now.world.terms.tolerance;
     let passing = [-tolerance, 1 - tolerance, -1, 0, 0, 1, 1000, tolerance + 1];
     match random.percent(if now.world.far { 60 } else { 95 }) {
         true => last.saturating_add(random.one_of(&passing)),

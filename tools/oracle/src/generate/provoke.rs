@@ -1,12 +1,11 @@
 //! Updates that the metadata as it stands refuses with a given number.
 
-use super::damage;
 use super::propose::{self, Now};
 use super::random::Random;
-use super::specs;
-use super::start;
+use super::{damage, offices, specs, start};
 use crate::case::{
-    Flagged, Metadata, Order, Run, Schema, Snapshot, StatisticsFile, TAG, Update, capacity,
+    Flagged, Metadata, More, OFFICE_2, Order, Run, Schema, Snapshot, StatisticsFile, TAG, Update,
+    capacity,
 };
 
 /// What a run is to be refused with.
@@ -15,14 +14,21 @@ pub struct Aim {
     pub number: u8,
     /// By an update of partition specs or of a named schema.
     pub of_specs: bool,
+    /// For what is the other's (35), or by a close of office 2, which no update of its own brings about.
+    pub of_offices: bool,
 }
 
 impl Aim {
     /// In a run about specs a number that other updates are refused with too is aimed at either way.
-    pub fn new(random: &mut Random, about_specs: bool, number: u8) -> Self {
-        let either = about_specs && [14, 15, 18, 19].contains(&number);
-        let of_specs = number > 30 || either && random.percent(60);
-        Self { number, of_specs }
+    pub fn new(random: &mut Random, more: &More, number: u8) -> Self {
+        let either = more.has_specs() && [14, 15, 18, 19].contains(&number);
+        let of_specs = (31..35).contains(&number) || either && random.percent(60);
+        let closes = more.office == Some(OFFICE_2) && [20, 31, 32].contains(&number);
+        Self {
+            number,
+            of_specs,
+            of_offices: number == 35 || closes,
+        }
     }
 }
 
@@ -30,6 +36,7 @@ impl Aim {
 pub fn prepare(random: &mut Random, run: &mut Run, aim: Aim) {
     let m = &mut run.metadata;
     match aim.number {
+        number if aim.of_offices => offices::prepare(random, m, number),
         number if aim.of_specs => specs::prepare(random, m, number),
         18 if random.percent(50) => {
             let last = m.schemas.last_mut().expect("a start has a schema");
@@ -60,6 +67,7 @@ fn overfill_metadata_log(random: &mut Random, run: &mut Run) {
 /// What may stand before the refused update.
 pub fn lead(random: &mut Random, now: &Now, aim: Aim) -> Vec<Update> {
     match (aim.number, &now.world.specs) {
+        (35, _) => offices::lead(random, now),
         (number, Some(pools)) if aim.of_specs => specs::lead(random, now, pools, number),
         (number, _) => lead_plainly(random, now, number),
     }
@@ -102,13 +110,14 @@ fn set_statistics(random: &mut Random) -> fn(StatisticsFile) -> Update {
 /// An update that may be refused with this number; nothing where the metadata forbids it from the outset.
 pub fn update(random: &mut Random, now: &Now, aim: Aim) -> Option<Update> {
     match (aim.number, &now.world.specs) {
+        (35, _) => offices::update(random, now),
         (number, Some(pools)) if aim.of_specs => specs::update(random, now, pools, number),
         (number, _) => plain_update(random, now, number),
     }
 }
 
 /// The number is 3 to 19.
-fn plain_update(random: &mut Random, now: &Now, number: u8) -> Option<Update> {
+pub fn plain_update(random: &mut Random, now: &Now, number: u8) -> Option<Update> {
     let m = &now.metadata;
     match number {
         3 => {
@@ -145,6 +154,8 @@ pub fn closing(random: &mut Random, now: &Now, number: u8) -> Option<Vec<Update>
     let m = &now.metadata;
     let current = m.current_snapshot_id.get();
     match number {
+        // What is refused is in the start.
+        _ if now.world.terms.office == OFFICE_2 => Some(Vec::new()),
         20 => {
             let sorted_by = propose::default_sort_fields(m).first()?.source_id;
             let mut fields = propose::current_schema(m).fields.clone();
@@ -186,9 +197,9 @@ fn add_or_commit(random: &mut Random, now: &Now, number: u8) -> Update {
     }
 }
 
-fn spoil(random: &mut Random, now: &Now, number: u8, s: &mut Snapshot) {
+pub fn spoil(random: &mut Random, now: &Now, number: u8, s: &mut Snapshot) {
     let m = &now.metadata;
-    let early = now.world.tolerance + random.one_of(&[1, 1, 2, 940_000]);
+    let early = now.world.terms.tolerance + random.one_of(&[1, 1, 2, 940_000]);
     let before = |last: i64| last.saturating_sub(early);
     let next = m.next_row_id;
     match number {

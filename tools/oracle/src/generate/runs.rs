@@ -5,7 +5,7 @@ use super::draft::Draft;
 use super::provoke::{self, Aim};
 use super::random::Random;
 use super::specs;
-use crate::case::{More, Run, Update, capacity};
+use crate::case::{More, OFFICE_2, Run, Update, capacity};
 use crate::port;
 
 /// So many drafts are tried for a wanted number.
@@ -23,7 +23,7 @@ pub fn run(random: &mut Random, more: &More) -> Run {
     }
 }
 
-fn accepted(random: &mut Random, more: &More) -> Run {
+pub fn accepted(random: &mut Random, more: &More) -> Run {
     let sum = match random.below(100) {
         0..25 => random.below(5),
         25..70 => 4 + random.below(12),
@@ -36,14 +36,14 @@ fn accepted(random: &mut Random, more: &More) -> Run {
     draft.run
 }
 
-fn as_it_comes(random: &mut Random, more: &More) -> Run {
+pub fn as_it_comes(random: &mut Random, more: &More) -> Run {
     let mut draft = Draft::new(random, more, |_, _| ());
     let count = random.below(20);
     draft.add_unasked(random, count);
     draft.run
 }
 
-/// A run that is refused with this number, 1 to 23 or 31 to 34; one that is accepted if no draft allows it.
+/// A run that is refused with this number, 1 to 23 or 31 to 35; one that is accepted if no draft allows it.
 pub fn refused(random: &mut Random, more: &More, number: u8) -> Run {
     let found = (0..TRIES).find_map(|_| refused_if(random, more, number));
     found.unwrap_or_else(|| accepted(random, more))
@@ -55,10 +55,12 @@ fn refused_if(random: &mut Random, more: &More, number: u8) -> Option<Run> {
         1 => ill_formed_start(random, more),
         2 => too_long(random, more),
         20..24 => refused_close(random, more, number)?,
-        31 | 32 if random.percent(35) => refused_close(random, more, number)?,
+        31 | 32 if more.office == Some(OFFICE_2) || random.percent(35) => {
+            refused_close(random, more, number)?
+        }
         _ => refused_update(random, more, number)?,
     };
-    let answer = port::run(&run, more.tolerance()).answer;
+    let answer = port::run(&run, more.terms()).answer;
     let wanted = matches!(answer, Err((given, _)) if given == number);
     wanted.then_some(run)
 }
@@ -93,7 +95,7 @@ fn too_long(random: &mut Random, more: &More) -> Run {
 
 /// Some accepted updates, at times some that lead up to it, then the refused one, then some that are never reached.
 fn refused_update(random: &mut Random, more: &More, number: u8) -> Option<Run> {
-    let aim = Aim::new(random, more.has_specs(), number);
+    let aim = Aim::new(random, more, number);
     let mut draft = Draft::new(random, more, |random, run| {
         provoke::prepare(random, run, aim)
     });
@@ -113,7 +115,7 @@ fn refused_update(random: &mut Random, more: &More, number: u8) -> Option<Run> {
 }
 
 fn refused_close(random: &mut Random, more: &More, number: u8) -> Option<Run> {
-    let aim = Aim::new(random, more.has_specs(), number);
+    let aim = Aim::new(random, more, number);
     let mut draft = Draft::new(random, more, |random, run| {
         provoke::prepare(random, run, aim)
     });

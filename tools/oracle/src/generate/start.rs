@@ -3,14 +3,17 @@
 use super::random::Random;
 use super::world::World;
 use crate::case::{
-    BRANCH, Bytes, Flagged, Metadata, MetadataLogEntry, More, Order, Ref, Schema, Snapshot,
-    SnapshotLogEntry, SortField, StatisticsFile, TAG, capacity,
+    BRANCH, Bytes, Flagged, Metadata, MetadataLogEntry, More, OFFICE_1, Order, Ref, Schema,
+    Snapshot, SnapshotLogEntry, SortField, StatisticsFile, TAG, capacity,
 };
-use crate::generate::specs;
+use crate::generate::{offices, specs};
 
 /// The start of a run that is given this: a table that is not given is what it is without.
 pub fn start(random: &mut Random, world: &World, more: &More) -> Metadata {
-    let snapshots = snapshots(random, world);
+    let mut snapshots = snapshots(random, world);
+    if world.offices {
+        offices::link(random, &mut snapshots);
+    }
     let held: Vec<i64> = snapshots.iter().map(|s| s.id).collect();
     let current = random.any_of(&held).filter(|_| random.percent(80));
     let schemas = schemas(random, world);
@@ -26,7 +29,7 @@ pub fn start(random: &mut Random, world: &World, more: &More) -> Metadata {
         next_row_id: next_row_id(random),
         last_column_id: random.one_of(&[0, 3, 8, -1, i32::MAX, i32::MIN]),
         current_snapshot_id: Flagged::of(current),
-        refs: refs(random, world, &held, current),
+        refs: refs(random, world, more, &held, current),
         snapshot_log: snapshot_log(random, world, &held, current),
         metadata_log: metadata_log(random, world),
         snapshots,
@@ -115,10 +118,17 @@ pub fn reference(random: &mut Random, name: Bytes, snapshot_id: i64) -> Ref {
         min_snapshots: Flagged::of(min.filter(|_| !is_tag)),
         max_snapshot_age_ms: Flagged::of(age(random).filter(|_| !is_tag)),
         max_ref_age_ms: Flagged::of(age(random)),
+        owner: OFFICE_1,
     }
 }
 
-fn refs(random: &mut Random, world: &World, held: &[i64], current: Option<i64>) -> Vec<Ref> {
+fn refs(
+    random: &mut Random,
+    world: &World,
+    more: &More,
+    held: &[i64],
+    current: Option<i64>,
+) -> Vec<Ref> {
     if held.is_empty() {
         return Vec::new();
     }
@@ -139,6 +149,9 @@ fn refs(random: &mut Random, world: &World, held: &[i64], current: Option<i64>) 
         .collect();
     refs.extend(current.map(|id| reference(random, b"main".to_vec(), id)));
     refs.sort_by(|a, b| a.name.cmp(&b.name));
+    if more.owners {
+        offices::give_owners(random, &mut refs);
+    }
     refs
 }
 

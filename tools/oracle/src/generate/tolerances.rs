@@ -20,7 +20,7 @@ pub fn tolerance(random: &mut Random) -> i64 {
     }
 }
 
-fn outside(random: &mut Random) -> i64 {
+pub fn outside(random: &mut Random) -> i64 {
     random.one_of(&[-1, -1, -60_000, i64::MIN, 3_600_001, 3_600_001, i64::MAX])
 }
 

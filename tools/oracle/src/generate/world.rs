@@ -2,18 +2,19 @@
 
 use super::random::Random;
 use super::specs;
-use crate::case::{Bytes, More, capacity};
+use crate::case::{Bytes, More, Terms, capacity};
 
 pub struct World {
     pub time: i64,
-    /// The run's tolerance.
-    pub tolerance: i64,
+    pub terms: Terms,
     /// Times lie anywhere in 64 bits.
     pub far: bool,
     /// Row ranges may start above the next row id.
     pub gaps: bool,
     /// Updates are often of statistics files.
     pub statistics: bool,
+    /// Two offices share the metadata.
+    pub offices: bool,
     /// What partition specs and named schemas are made of, if the run is about them.
     pub specs: Option<specs::Pools>,
     pub snapshot_ids: Vec<i64>,
@@ -32,10 +33,11 @@ impl World {
         };
         let mut world = Self {
             time,
-            tolerance: more.tolerance(),
+            terms: more.terms(),
             far: random.percent(8),
             gaps: random.percent(30),
             statistics: more.has_statistics(),
+            offices: more.has_offices(),
             specs: None,
             snapshot_ids: snapshot_ids(random),
             ref_names: ref_names(random),
@@ -49,7 +51,14 @@ impl World {
 
     /// A time near the world's, or anywhere.
     pub fn any_time(&self, random: &mut Random) -> i64 {
-        let ends = [i64::MIN, i64::MIN + 1, -1 - self.tolerance, -2, 0, i64::MAX];
+        let ends = [
+            i64::MIN,
+            i64::MIN + 1,
+            -1 - self.terms.tolerance,
+            -2,
+            0,
+            i64::MAX,
+        ];
         match self.far && random.percent(40) {
             true => random.one_of(&ends),
             false => self.time.saturating_add(random.one_of(&self.nearby())),
@@ -58,7 +67,7 @@ impl World {
 
     /// Differences that lie on the tolerance and beside it.
     fn nearby(&self) -> [i64; 12] {
-        let [below, at, above] = [-1, 0, 1].map(|beside| self.tolerance + beside);
+        let [below, at, above] = [-1, 0, 1].map(|beside| self.terms.tolerance + beside);
         [
             -above, -at, -below, -1000, -1, 0, 0, 1, 1000, below, at, above,
         ]

@@ -2,7 +2,7 @@
 //! builder subtracts are moved towards the snapshot's, to the nearest whose difference fits, and put back after the update.
 //! A moved difference lies at an end of 64 bits and so on the same side of the tolerance as the exact one.
 
-use super::reply::Step;
+use super::reply::Built;
 use crate::case::Update;
 use crate::published::apply::{apply, call};
 use crate::published::number::{Refusal, attempt};
@@ -30,7 +30,7 @@ fn near(time: i64, last: i64) -> i64 {
 }
 
 /// Applies an update that brings `time`, with the times near it.
-pub fn apply_near(mut builder: TableMetadataBuilder, update: &Update, time: i64) -> Step {
+pub fn apply_near(mut builder: TableMetadataBuilder, update: &Update, time: i64) -> Built {
     let (metadata, own) = builder.steered();
     let log_end = metadata.snapshot_log.len().checked_sub(1);
     let log_time = log_end.map(|end| metadata.snapshot_log[end].timestamp_ms);

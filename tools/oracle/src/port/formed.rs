@@ -2,8 +2,8 @@
 
 use super::formed_specs::{held_spec, schema, spec};
 use crate::case::{
-    BRANCH, Flagged, Metadata, Order, Ref, Run, Snapshot, SortField, StatisticsFile, TAG, Update,
-    capacity,
+    BRANCH, Flagged, Metadata, OFFICE_1, OFFICE_2, Order, Ref, Run, Snapshot, SortField,
+    StatisticsFile, TAG, Update, capacity,
 };
 use crate::spec::MAIN_BRANCH;
 
@@ -57,6 +57,7 @@ pub fn metadata(m: &Metadata) -> bool {
         && table(&m.specs, capacity::SPECS, |s| &s.id, held_spec)
         && logs(m)
         && m.refs.iter().all(|r| holds_snapshot(m, r.snapshot_id))
+        && m.refs.iter().all(owner)
         && current_is_main(m)
         && m.schemas.iter().any(|s| s.id == m.current_schema_id)
         && m.orders.iter().any(|o| o.id == m.default_order_id)
@@ -119,6 +120,11 @@ fn reference(r: &Ref) -> bool {
         && retention(&r.min_snapshots)
         && retention(&r.max_snapshot_age_ms)
         && retention(&r.max_ref_age_ms)
+}
+
+/// An office's; `main` is office 1's.
+pub fn owner(r: &Ref) -> bool {
+    r.owner == OFFICE_1 || r.owner == OFFICE_2 && r.name != MAIN_BRANCH.as_bytes()
 }
 
 /// At least 1 where present.

@@ -4,8 +4,8 @@ use super::own::{Own, Owns};
 use super::run::{Outcome, run};
 use super::steps::{begin, step};
 use crate::case::{
-    DEFAULT_SPEC_ID, DEFAULT_TOLERANCE, Flagged, LAST_PARTITION_ID, Metadata, MetadataLogEntry,
-    Order, Run, Schema, Snapshot, SnapshotLogEntry, Spec, Update,
+    DEFAULT_SPEC_ID, Flagged, LAST_PARTITION_ID, Metadata, MetadataLogEntry, Order, Run, Schema,
+    Snapshot, SnapshotLogEntry, Spec, Terms, Update,
 };
 use crate::published::to_published as to;
 use crate::spec::table_metadata_builder::TableMetadataBuilder;
@@ -114,10 +114,10 @@ fn within(time: i64, last: i64, tolerance: i64, owns: &mut Owns) -> bool {
         snapshot_log: vec![entry],
         ..bare()
     };
-    let begun = begin(&run_of(start, Vec::new()), DEFAULT_TOLERANCE, owns);
-    let builder = begun.expect("bare metadata begins");
+    let begun = begin(&run_of(start, Vec::new()), Terms::default(), owns);
+    let going = begun.expect("bare metadata begins");
     set_tolerance(tolerance);
-    !matches!(step(builder, &add(time, (0, 0)), owns), Err(7))
+    !matches!(step(going, &add(time, (0, 0)), owns), Err(7))
 }
 
 /// Adds a snapshot with this row range.
@@ -127,7 +127,7 @@ pub fn row_ids(next_row_id: u64, first_row: u64, added_rows: u64) -> Outcome {
         ..bare()
     };
     let updates = vec![add(0, (first_row, added_rows))];
-    run(&run_of(start, updates), DEFAULT_TOLERANCE)
+    run(&run_of(start, updates), Terms::default())
 }
 
 /// Sets the location of metadata that has an empty one.

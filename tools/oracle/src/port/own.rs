@@ -2,6 +2,8 @@
 
 use std::collections::BTreeSet;
 
+use super::offices::Cause;
+
 #[derive(Debug, Clone, Copy, PartialEq, Eq, PartialOrd, Ord)]
 pub enum Own {
     /// 1: metadata, a file's name or a walk's lists break the rules for records.
@@ -24,6 +26,12 @@ pub enum Own {
     ShortBuffer,
     /// 26.
     ToleranceOutside,
+    /// 35: the published code has no offices.
+    TheOthers(Cause),
+    /// 39.
+    NoSuchOffice,
+    /// The published close rebuilds or refuses the snapshot log, that of office 2 does not look at it, and the answer is another for it.
+    LogUnbuilt,
     /// The snapshot that was current at a time, and whether row ranges are apart: the published code answers neither.
     NotPublished,
     /// The published next row id grows by added rows alone, and the answer is another for it.
@@ -51,8 +59,9 @@ pub enum Own {
 pub type Owns = BTreeSet<Own>;
 
 impl Own {
-    pub fn describe(self) -> &'static str {
-        match self {
+    pub fn describe(self) -> String {
+        let text = match self {
+            Own::TheOthers(cause) => return format!("35: {}", cause.describe()),
             Own::StartNotFormed => {
                 "1: start or walk lists not well formed, the published code does not look"
             }
@@ -65,6 +74,8 @@ impl Own {
             Own::Cycle => "24: the published walk never ends",
             Own::ShortBuffer => "25: the published walk has no buffer",
             Own::ToleranceOutside => "26: the published code is given no tolerance",
+            Own::NoSuchOffice => "39: the published code has no offices",
+            Own::LogUnbuilt => "close of office 2: the published one rebuilds or refuses the log",
             Own::NotPublished => "current at a time, rows apart: the published code has neither",
             Own::NextRowId => "next row id: the published one grows by added rows alone",
             Own::Tolerance => "tolerance: the published one is a minute",
@@ -78,6 +89,7 @@ impl Own {
                 "allowance: pick among several equal schemas, orders or specs, steered"
             }
             Own::OrderOfIds => "allowance: map order of two or more logged ids, sorted",
-        }
+        };
+        text.to_owned()
     }
 }

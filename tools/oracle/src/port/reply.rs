@@ -1,5 +1,6 @@
 //! What a run and its steps come to.
 
+use super::steps::Going;
 use crate::case::{Metadata, MetadataLogEntry, Update};
 use crate::spec::table_metadata_builder::TableMetadataBuilder;
 
@@ -14,5 +15,8 @@ pub struct Accepted {
 /// The answer, or the number and place of the refusal.
 pub type Reply = Result<Accepted, (u8, usize)>;
 
-/// The builder after an update, or the refusal's number.
-pub type Step = Result<TableMetadataBuilder, u8>;
+/// The run after an update, or the refusal's number.
+pub type Step = Result<Going, u8>;
+
+/// The same of the published builder.
+pub type Built = Result<TableMetadataBuilder, u8>;

@@ -4,7 +4,7 @@
 use super::own::Owns;
 use super::reply::Reply;
 use super::steps::{begin, step};
-use crate::case::{Run, TOLERANCES};
+use crate::case::{Run, TOLERANCES, Terms};
 use crate::spec::MINUTE_MS;
 
 /// A run may be given it, and it is not a minute.
@@ -14,10 +14,10 @@ pub fn is_another_tolerance(tolerance: i64) -> bool {
 
 /// Whether two answers to a run, by its tolerance and by a minute, which are not equal, differ by the tolerance and by nothing else:
 /// the smaller one refuses a time that lies between the two, and the larger one comes further.
-pub fn differ_by_rule(run: &Run, tolerance: i64, ours: &Reply, published: &Reply) -> bool {
-    let (small, by_small, large, by_large) = match tolerance < MINUTE_MS {
-        true => (tolerance, ours, MINUTE_MS, published),
-        false => (MINUTE_MS, published, tolerance, ours),
+pub fn differ_by_rule(run: &Run, terms: Terms, ours: &Reply, published: &Reply) -> bool {
+    let (small, by_small, large, by_large) = match terms.tolerance < MINUTE_MS {
+        true => (terms.tolerance, ours, MINUTE_MS, published),
+        false => (MINUTE_MS, published, terms.tolerance, ours),
     };
     let Err((number @ (7 | 8), place)) = by_small else {
         return false;
@@ -29,17 +29,18 @@ pub fn differ_by_rule(run: &Run, tolerance: i64, ours: &Reply, published: &Reply
         Err((other, there)) if there == place => [9, 10, 11, 19].contains(other),
         Err((_, there)) => there > place,
     };
-    let early = early_by(run, tolerance, *number, *place);
+    let early = early_by(run, terms, *number, *place);
     further && early.is_some_and(|ms| i128::from(small) < ms && ms <= i128::from(large))
 }
 
 /// By how much the snapshot of the update at this place comes before the time that 7 or 8 looks back from.
-fn early_by(run: &Run, tolerance: i64, number: u8, place: usize) -> Option<i128> {
+fn early_by(run: &Run, terms: Terms, number: u8, place: usize) -> Option<i128> {
     let owns = &mut Owns::new();
-    let mut builder = begin(run, tolerance, owns).ok()?;
+    let mut going = begin(run, terms, owns).ok()?;
     for update in &run.updates[..place] {
-        builder = step(builder, update, owns).ok()?;
+        going = step(going, update, owns).ok()?;
     }
+    let builder = going.builder();
     let own = builder.own_last_updated_ms().unwrap_or(0);
     let last = match number {
         7 => builder.held().snapshot_log.last()?.timestamp_ms,

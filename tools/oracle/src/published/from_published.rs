@@ -26,6 +26,7 @@ fn snapshot(s: &Snapshot) -> case::Snapshot {
     }
 }
 
+/// The published code has no owners; `port::offices` says whose a ref of the metadata is.
 fn reference(name: &str, r: &SnapshotReference) -> case::Ref {
     let (kind, min_snapshots, max_snapshot_age_ms, max_ref_age_ms) = match r.retention {
         SnapshotRetention::Branch {
@@ -47,6 +48,7 @@ fn reference(name: &str, r: &SnapshotReference) -> case::Ref {
         min_snapshots: Flagged::of(min_snapshots),
         max_snapshot_age_ms: Flagged::of(max_snapshot_age_ms),
         max_ref_age_ms: Flagged::of(max_ref_age_ms),
+        owner: case::OFFICE_1,
     }
 }
 

@@ -3,7 +3,7 @@ use mathlib.Core.Path.{ap}
 use borrow.Author.Needs.{needs}
 use Rattle.records.specs.declared.update.TableUpdate.{TableUpdate}
 use Rattle.rules.specs.WellFormed.{updateFormed}
-use Rattle.rules.specs.Updates.{checks, effect}
+use Rattle.rules.specs.Updates.{offersFormed, checks, effect}
 use Rattle.rules.specs.Kinds.{withFieldsPart, withLocation}
 use Rattle.builder.proofs.Steps.{entry-as}
 use Rattle.builder.proofs.Entries.{of-kind, read-kind, formed-kind}
@@ -19,7 +19,7 @@ fits c κs =
     (s .pre .0, given-location u (formed-kind u (s .pre .1 .0) 3 (s .pre .1 .1 .1) (s .pre .1 .1 .0)))
 
 returns : tie.Need-returns
-unfolding checks effect
+unfolding offersFormed checks effect
 returns c terms st p =
     let x = c .before .before .before in
     let s = x .before .before in

@@ -1,13 +1,13 @@
 -- The answer is that of the builder's method, and the entry is the update as given.
 use borrow.Author.Needs.{needs}
-use Rattle.rules.specs.Updates.{checks, effect}
+use Rattle.rules.specs.Updates.{offersFormed, checks, effect}
 use Rattle.builder.proofs.Steps.{entry-as}
 use Rattle.builder.proofs.Entries.{of-kind, read-kind}
 use Rattle.builder.proofs.decision.upgrade_format_version.Statement.{statement}
 use Rattle.builder.proofs.decision.upgrade_format_version.Tie as tie
 
 returns : tie.Need-returns
-unfolding checks effect
+unfolding offersFormed checks effect
 returns c terms st p =
     let x = c .before .before in
     let s = x .before in

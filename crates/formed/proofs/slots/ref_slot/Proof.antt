@@ -13,8 +13,9 @@ ref-slot-spec =
     (λ c κs. search needs)
     (λ c κs. search needs)
     (λ c κs. search needs)
-    (λ c. let f = c .before .before in let n = f .before .before .before .before .args .r .name in
-    rw (f .before .if1 .taken, f .name-fits .ensures, c .before .reference-fits .ensures, c .reference-formed .ensures, length-counted 0 (n .bytes) (n .len)))
+    (λ c κs. search needs)
+    (λ c. let f = c .before .before .before in let n = f .before .before .before .before .args .r .name in
+    rw (f .before .if1 .taken, f .name-fits .ensures, c .before .before .reference-fits .ensures, c .before .reference-formed .ensures, c .owner-formed .ensures, length-counted 0 (n .bytes) (n .len)))
     (λ c κs. search needs)
     (λ c κs. search needs)
     (λ c. rw (c .before .before .if1 .left, c .before .name-fits2 .ensures, c .reference-fits2 .ensures)))

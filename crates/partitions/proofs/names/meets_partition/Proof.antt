@@ -5,9 +5,9 @@ use borrow.Author.Needs.{needs}
 use Rattle.rules.specs.Words.{any, sameBytes}
 use Rattle.rules.specs.Register as plain
 use Rattle.rules.specs.Layout.{readSchema, readPartitionSpecs}
+use Rattle.rules.proofs.Tables.{any-turned}
 use Rattle.tables.proofs.Each.{partitionSpecs, tidy-partition-specs, spec-at}
 use Rattle.partitions.proofs.Scans.{Asked, asked-start, asked-on, asked-end}
-use Rattle.partitions.proofs.Taken.{any-turned}
 use Rattle.partitions.proofs.names.meets_partition.Statement.{statement}
 use Rattle.partitions.proofs.names.meets_partition.Tie as tie
 

@@ -14,7 +14,7 @@ use Rattle.rules.specs.Register.{Terms, State}
 use Rattle.rules.specs.Register.Update.{AddPartitionSpec}
 use Rattle.rules.specs.Offers.{offeredSpec}
 use Rattle.rules.specs.SpecUpdates.{reusing, specAdded, addPartitionSpecChecks, addPartitionSpec}
-use Rattle.rules.specs.Updates.{checks, effect}
+use Rattle.rules.specs.Updates.{offersFormed, checks, effect}
 use Rattle.rules.specs.Layout.{readPartitionSpec, readPartitionSpecs, laidPartitionSpecs, readSpecOffer}
 use Rattle.rules.specs.Kinds.{readUpdate, withPartitionSpecsPart, withSpecOffer}
 use Rattle.rules.proofs.Slots.Reread.{reread-partition-spec}
@@ -54,7 +54,7 @@ said c terms st f q =
     ∙ (λ i. reusing (specs-read (st .metadata .specs) q i) ((ap readPartitionSpec (f .says w) ∙ reread-partition-spec (offeredSpec (terms .offers) (offer s))) i))
 
 returns : tie.Need-returns
-unfolding checks
+unfolding checks offersFormed
 returns c =
     let s = c .before .before .before in
     let n : s .args .offered .formed ≡ false = not-true (s .args .offered .formed) (c .before .if1 .taken) in
@@ -66,7 +66,7 @@ returns c =
     }
 
 returns-2 : tie.Need-returns-2
-unfolding checks effect addPartitionSpecChecks addPartitionSpec
+unfolding checks offersFormed effect addPartitionSpecChecks addPartitionSpec
 returns-2 c =
     let d = c .before in
     let x = d .before .before .before in

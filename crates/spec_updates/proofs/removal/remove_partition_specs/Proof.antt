@@ -16,7 +16,7 @@ use Rattle.rules.specs.Register.{State, withSpecs, withMetadata}
 use Rattle.rules.specs.Register.Update.{RemovePartitionSpecs}
 use Rattle.rules.specs.WellFormed.{specFormed, specBelow, specsFormed, updateFormed}
 use Rattle.rules.specs.SpecUpdates.{heldSpecs, removePartitionSpecsChecks, removePartitionSpecs}
-use Rattle.rules.specs.Updates.{checks, effect}
+use Rattle.rules.specs.Updates.{offersFormed, checks, effect}
 use Rattle.rules.specs.Layout.{readSpecIds, laidSpecIds, readPartitionSpecs, laidPartitionSpecs, laidFields}
 use Rattle.rules.specs.Kinds.{readUpdate, laidUpdate, withPartitionSpecsPart, withSpecIds}
 use Rattle.rules.proofs.Checks.{by-test}
@@ -63,7 +63,7 @@ module _ (s : tie.Start) where
   ascends = table-parts specRoom specFormed specBelow (readPartitionSpecs (s .args .t)) (s .pre .1 .0) .2
 
 returns : tie.Need-returns
-unfolding checks effect removePartitionSpecsChecks removePartitionSpecs laidSpecIds laidBuilder laidFields laidUpdate
+unfolding checks offersFormed effect removePartitionSpecsChecks removePartitionSpecs laidSpecIds laidBuilder laidFields laidUpdate
 returns c =
     let d = c .before in
     let h = d .before in

@@ -59,7 +59,7 @@ pub fn given(random: &mut Random) -> Case {
 }
 
 /// Mostly leaves out a table that is what it is without.
-fn leave_out(random: &mut Random, run: &Run, more: &mut More) {
+pub fn leave_out(random: &mut Random, run: &Run, more: &mut More) {
     let m = &run.metadata;
     let unpartitioned = m.specs == [Spec::unpartitioned()]
         && m.default_spec_id == DEFAULT_SPEC_ID
