@@ -1,4 +1,9 @@
 // What a run may be given more, after its updates: a count, then that many tags with their values, in ascending order of the tags.
+use cards::table::OF_NAMED_SCHEMAS;
+use cards::table::OF_OWNERS;
+use cards::table::OF_PARTITION_SPECS;
+use cards::table::OF_PARTITION_STATISTICS;
+use cards::table::OF_STATISTICS;
 use tokens::field::read_u64;
 use tokens::input::Input;
 use tokens::input::Place;
@@ -50,6 +55,28 @@ impl Given {
             _ => {}
         }
         self
+    }
+
+    pub fn has(self, tag: u64) -> bool {
+        match tag {
+            STATISTICS => self.statistics,
+            PARTITION_STATISTICS => self.partition_statistics,
+            SCHEMAS => self.schemas,
+            PARTITION_SPECS => self.partition_specs,
+            OWNERS => self.owners,
+            _ => false,
+        }
+    }
+}
+
+// The table of a tag that has one.
+pub fn table_of(tag: u64) -> usize {
+    match tag {
+        STATISTICS => OF_STATISTICS,
+        PARTITION_STATISTICS => OF_PARTITION_STATISTICS,
+        SCHEMAS => OF_NAMED_SCHEMAS,
+        PARTITION_SPECS => OF_PARTITION_SPECS,
+        _ => OF_OWNERS,
     }
 }
 

@@ -107,7 +107,7 @@ fn read_given_terms(
 }
 
 // Metadata with the tables that are given, which stand in the place of what it has, and with owners if they are.
-fn read_given(
+pub fn read_given(
     given: Given,
     mut metadata: TableMetadata,
     input: &mut Input,

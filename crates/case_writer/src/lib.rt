@@ -3,9 +3,8 @@
 // The page of the case format decides.
 pub mod ids;
 mod layout;
-mod metadata;
-pub mod run;
+pub mod metadata;
 pub mod snapshot;
 pub mod table;
 pub mod text;
-mod update;
+pub mod update;

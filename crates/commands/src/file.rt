@@ -69,7 +69,7 @@ fn say_where(turn: Turn, place: &Place, output: &mut Output, end: &mut usize) {
     let mut name = io::buffer();
     let mut piece = [0u8; 8];
     // What an input is made of, by the number of the command.
-    let pieces = b"\nrun\nquestion\n\n\n\ncase\n";
+    let pieces = b"\nrun\nquestion\n\nexpiry\n\n\ncase\n";
     let len = read_name(turn, &mut name);
     let word = read_part(pieces, b'\n', 0, turn.command, &mut piece);
     say_fault(output, end, &name[..len], &piece[..word], place);

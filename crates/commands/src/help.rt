@@ -17,6 +17,7 @@ fn say_help(output: &mut Output, end: &mut usize, command: usize) {
         \x20 run        what a run makes of last session's metadata, in plain words\n\
         \x20 replay     whether a stored log leads from one metadata to another\n\
         \x20 current    which snapshot was current at a moment, or in a day\n\
+        \x20 expire     what goes and what stays by age and count, why, and the list of updates for it\n\
         \x20 examples   the examples P1 to P12 of the requirements\n\
         \x20 tour       every command on example files, each with what is asked\n\
         \x20 cases      answers to cases, in numbers\n\
@@ -41,13 +42,19 @@ fn say_help(output: &mut Output, end: &mut usize, command: usize) {
         \x20 1741773600000             milliseconds since 1970\n\
         The metadata is in the case format (docs/CASES.md), in the file or, without one, on standard input.\n\
         Example: ./soritauba current --in crates/soritauba/data/register.metadata 2025-03-12\n\
+        |soritauba expire [--run] [FILE..]: what goes and what stays by age and count, why, and the list of updates for it\n\
+        It reads expiries in the case format (docs/CASES.md), any number of them: cases of kind 12.\n\
+        For each it prints every ref and every snapshot with why it stays or goes, the list, and what the run of it answers; or the refusal, with the reason.\n\
+        With --run it prints for each the run of the list in the case format, for run to read, and nothing else; or the refusal.\n\
+        Each file is read by itself, in the order given, up to the first that can not be read; without files, standard input is.\n\
+        Example: ./soritauba expire crates/soritauba/data/expiring.case\n\
         |soritauba examples [NAME..]: the examples of the requirements\n\
         It takes names from P1 to P12 and prints a line for each; without names it prints all, each with its name. It reads nothing.\n\
         Example: ./soritauba examples P3\n\
         |soritauba tour [all]: every command on example files, each with what is asked\n\
         It reads the files of crates/soritauba/data, in the folder in which it is started.\n\
         With the word all, every other example file follows.\n\
-        |soritauba cases [FILE..]: answers of the run, the walks and the small functions, in numbers\n\
+        |soritauba cases [FILE..]: answers of the run, the expiry, the walks and the small functions, in numbers\n\
         It reads cases in the case format (docs/CASES.md), any number of them, and prints for each a line with its answer.\n\
         Each file is read by itself, in the order given, up to the first that can not be read; without files, standard input is.\n\
         Example: ./soritauba cases crates/soritauba/data/small.cases\n\

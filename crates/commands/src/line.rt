@@ -3,6 +3,7 @@ use crate::turn::COMMANDS;
 use crate::turn::CURRENT;
 use crate::turn::END;
 use crate::turn::EXAMPLES;
+use crate::turn::EXPIRE;
 use crate::turn::FILES;
 use crate::turn::HELP;
 use crate::turn::HELPED;
@@ -14,6 +15,7 @@ use crate::turn::Turn;
 use crate::turn::UNKNOWN;
 use crate::turn::start_of_lines;
 use crate::words::asks_for_help;
+use crate::words::asks_for_run;
 use crate::words::command_at;
 use crate::words::first_moment;
 use crate::words::read_tour;
@@ -26,9 +28,9 @@ use std::num::wrapping_add_usize;
 use tokens::output::Output;
 
 // How many lines the tour has, and how many with the other example files.
-const TOUR_LINES: usize = 20;
+const TOUR_LINES: usize = 26;
 
-const ALL_LINES: usize = 52;
+const ALL_LINES: usize = 66;
 
 // The program's own line, or the tour, with the word `all` whole.
 pub fn begin() -> Turn {
@@ -79,6 +81,17 @@ fn begin_files(mut turn: Turn, first: usize, last: usize) -> Turn {
     turn
 }
 
+// The files of expiries. Where their runs are to be written, none is asked.
+fn begin_expiries(mut turn: Turn, is_written: bool, words: usize) -> Turn {
+    turn.times = 1;
+    if is_written {
+        turn.times = 0;
+        begin_files(turn, 2, words)
+    } else {
+        begin_files(turn, 1, words)
+    }
+}
+
 // What `help` says: of the command that its word names, or the list.
 fn begin_help(mut turn: Turn, command: usize, words: usize) -> Turn {
     turn.at = 1;
@@ -108,6 +121,8 @@ fn begin_command(mut turn: Turn, line: &[u8]) -> Turn {
         turn
     } else if command == EXAMPLES {
         begin_examples(turn, words)
+    } else if command == EXPIRE {
+        begin_expiries(turn, asks_for_run(line), words)
     } else if command != CURRENT {
         begin_files(turn, 1, words)
     } else if moment < words {

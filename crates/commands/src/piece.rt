@@ -1,10 +1,12 @@
-// One piece of an input: a run, a question, a case, a time; or the one thing that it holds. A run is left to the caller.
+// One piece of an input: a run, a question, an expiry, a case, a time; or the one thing that it holds. A run is left to the caller.
 use crate::turn::ANSWERED;
 use crate::turn::ASKED;
 use crate::turn::CASES;
 use crate::turn::CLOSED;
 use crate::turn::CURRENT;
 use crate::turn::DATES;
+use crate::turn::EXPIRE;
+use crate::turn::EXPIRED;
 use crate::turn::JUDGED;
 use crate::turn::LEFT;
 use crate::turn::PIECES;
@@ -19,6 +21,7 @@ use case_reader::case::read_case;
 use case_reader::run::RUN;
 use case_reader::run::RUN_GIVEN_MORE;
 use case_reader::run::read_first_of_run;
+use expiries::asked::read_first_of_expiry;
 use tokens::field::read_u64;
 use tokens::input::Input;
 use tokens::input::Place;
@@ -66,6 +69,17 @@ fn read_first(mut turn: Turn, input: &mut Input, place: &mut Place) -> Turn {
     turn
 }
 
+fn read_expiry(mut turn: Turn, input: &mut Input, place: &mut Place) -> Turn {
+    turn.first = read_first_of_expiry(input, place);
+    turn.stage = PIECES;
+    if turn.first == NO_PIECE {
+        turn.stage = LEFT;
+    } else {
+        turn.wanted = EXPIRED;
+    }
+    turn
+}
+
 fn read_kind(mut turn: Turn, input: &mut Input, place: &mut Place) -> Turn {
     let kind = read_case(input, place, CASE, trials::KINDS);
     turn.first = kind;
@@ -103,6 +117,8 @@ pub fn read_piece(turn: Turn, input: &mut Input, place: &mut Place) -> Turn {
         read_kind(turn, input, place)
     } else if turn.command == REPEAT {
         read_repeated(turn, input, place)
+    } else if turn.command == EXPIRE {
+        read_expiry(turn, input, place)
     } else {
         read_first(turn, input, place)
     }

@@ -13,7 +13,7 @@ pub struct Turn {
     pub name: usize,
     // The descriptor of the file that is read, 0 for standard input.
     pub file: i32,
-    // The number with which a run or a case starts, and how often it is asked.
+    // The number with which a run or a case starts, and how often it is asked: by `expire --run`, which writes the run of its list, not at all.
     pub first: u64,
     pub times: u64,
     // The next step of an example, and the one behind its last; of help, the command.
@@ -52,7 +52,7 @@ pub const READ: usize = 10;
 
 pub const ANSWERED: usize = 11;
 
-// What is wanted after a step: nothing, the end, a run, a verdict, the run of an example, a close by itself.
+// What is wanted after a step: nothing, the end, a run, a verdict, the run of an example, a close by itself, an expiry with the run of its list.
 pub const GO_ON: usize = 0;
 
 pub const END: usize = 1;
@@ -65,6 +65,8 @@ pub const SHOWN: usize = 4;
 
 pub const CLOSED: usize = 5;
 
+pub const EXPIRED: usize = 6;
+
 // The commands, in the order of their names.
 pub const HELP: usize = 0;
 
@@ -74,18 +76,20 @@ pub const REPLAY: usize = 2;
 
 pub const CURRENT: usize = 3;
 
-pub const EXAMPLES: usize = 4;
+pub const EXPIRE: usize = 4;
 
-pub const TOUR: usize = 5;
+pub const EXAMPLES: usize = 5;
 
-pub const CASES: usize = 6;
+pub const TOUR: usize = 6;
 
-pub const REPEAT: usize = 7;
+pub const CASES: usize = 7;
 
-pub const DATES: usize = 8;
+pub const REPEAT: usize = 8;
+
+pub const DATES: usize = 9;
 
 // One for every other word.
-pub const COMMANDS: usize = 9;
+pub const COMMANDS: usize = 10;
 
 // Before the first of some lines.
 pub fn start_of_lines(line: usize, last_line: usize) -> Turn {

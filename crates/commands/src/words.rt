@@ -10,7 +10,7 @@ const NO_QUOTE: u8 = 0;
 
 // The command that the word at a place of a line names.
 pub fn command_at(line: &[u8], at: usize) -> usize {
-    let names = b"help\nrun\nreplay\ncurrent\nexamples\ntour\ncases\nrepeat\ndates\n";
+    let names = b"help\nrun\nreplay\ncurrent\nexpire\nexamples\ntour\ncases\nrepeat\ndates\n";
     which_word(line, at, names)
 }
 
@@ -27,6 +27,11 @@ pub fn first_moment(line: &[u8]) -> usize {
     1
 }
 
+// The words of `expire` are files, after `--run` where the run of the list is to be written and not asked.
+pub fn asks_for_run(line: &[u8]) -> bool {
+    which_word(line, 1, b"--run\n") == 0
+}
+
 // A line of the tour, between marks. Behind the first, which is empty, each step has two: what is asked, and the command line.
 pub fn read_tour(at: usize, line: &mut [u8]) -> usize
     ensures { λ r. ⌜ Counted r (now (line .exit)) ⌝ }
@@ -40,6 +45,12 @@ pub fn read_tour(at: usize, line: &mut [u8]) -> usize
         current --in register.metadata 2025-03-12 2025-02-01 2024-12-31|\
         \nAnd at these moments?|\
         current --in register.metadata 2025-03-12T10:00:00Z 2025-03-12T12:00+02:00 noon|\
+        \nWhich refs and snapshots go by age and count, which stay, and why? Which updates does that make, and what does their run answer?|\
+        expire expiring.case|\
+        \nThe run of these updates, in numbers|\
+        expire --run expiring.case|\
+        \nWhat does that run make of the metadata? The file holds the line above|\
+        run expired.case|\
         \nWhat does the third example of the requirements give, and what the fourth?|\
         examples P3 P4|\
         \nWhat is a run refused for, and what becomes of the metadata?|\
@@ -78,13 +89,21 @@ pub fn read_tour(at: usize, line: &mut [u8]) -> usize
         cases offices.case|\
         \nDoes the log of the first run lead there? By the other office? Does one that removes the other's ref? And where owners and refs are not as many?|\
         replay offices-log.case|\
+        \nFurther expiries: of two offices, with a list whose run is refused, where nothing goes, with tables given, and refused|\
+        expire further-expiries.case|\
+        \nTheir runs, in numbers|\
+        expire --run further-expiries.case|\
+        \nTheir answers, in numbers|\
+        cases further-expiries.case|\
+        \nWhat if a file holds no expiry?|\
+        expire small.cases|\
         \nAll examples|\
         examples|\
         \nThe dates of some times|\
         dates some.times|\
         \nA run answered three times|\
         repeat repeated.case|\
-        \nCases of every kind, the last of them cut short|\
+        \nCases of every kind but the expiry, the last of them cut short|\
         cases picked.cases|";
     read_part(lines, b'|', NO_QUOTE, at, line)
 }

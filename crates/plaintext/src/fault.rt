@@ -40,7 +40,8 @@ fn say_wanted(output: &mut Output, end: &mut usize, wanted: usize, bound: usize)
         there should be a tag of at most 7 and above \n\
         there should be a kind from 0 to 3 or \n\
         there should be as many owners as refs, which is \n\
-        there should be the end of the input\n";
+        there should be the end of the input\n\
+        there should be the kind of an expiry, 12\n";
     say_line(output, end, words, wanted);
     if wanted >= UP_TO && wanted <= OWNERS {
         say_count(output, end, bound);

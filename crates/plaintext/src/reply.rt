@@ -14,8 +14,8 @@ fn say_refused(output: &mut Output, end: &mut usize, number: u8, place: usize) {
     say_count(output, end, place);
 }
 
-// A fault of a start, by its number of the crate `faults`. A line stands for each number.
-fn say_fault(output: &mut Output, end: &mut usize, fault: u8) {
+// A fault of metadata or of a run's start, by its number of the crate `faults`. A line stands for each number.
+pub fn say_fault(output: &mut Output, end: &mut usize, fault: u8) {
     let faults = b"none\n\
         format version: not 1, 2 or 3\n\
         location: longer than 96 bytes, or an unused byte is not 0\n\

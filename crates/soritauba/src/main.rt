@@ -9,10 +9,17 @@ use commands::tell::put_answer_of;
 use commands::turn::ASKED;
 use commands::turn::CLOSED;
 use commands::turn::END;
+use commands::turn::EXPIRED;
 use commands::turn::JUDGED;
 use commands::turn::RUN;
 use commands::turn::SHOWN;
 use commands::turn::Turn;
+use expiries::asked::read_asked;
+use expiries::asked::terms_of;
+use expiries::told::find;
+use expiries::told::say_outcome;
+use expiries::told::tell;
+use expiry::expiring_updates;
 use records::capacities::OFFERS;
 use records::metadata::MetadataLog;
 use records::metadata::TableMetadata;
@@ -190,6 +197,43 @@ fn replay(
     }
 }
 
+// What the run of an expiry's list answers.
+struct Outcome {
+    number: u8,
+    place: usize,
+}
+
+fn outcome_of(m: TableMetadata, us: UpdateList, terms: RunTerms) -> Outcome {
+    let answer = register::run(m, us, terms, b"", b"");
+    Outcome {
+        number: answer.number,
+        place: answer.place,
+    }
+}
+
+fn expire(turn: Turn, input: &mut Input, place: &mut Place, output: &mut Output, end: &mut usize) {
+    let asked = read_asked(input, place);
+    if is_good(place) {
+        let terms = terms_of(asked.policy);
+        let expiry = expiring_updates(asked.metadata, asked.policy);
+        let fault = fault_of(expiry.number, asked.metadata, terms);
+        let found = find(asked.metadata, asked.policy, expiry.number, fault);
+        tell(
+            output,
+            end,
+            turn.times,
+            piece_of(place),
+            asked,
+            expiry,
+            found,
+        );
+        if expiry.number == 0 && turn.times > 0 {
+            let run = outcome_of(asked.metadata, expiry.updates, terms);
+            say_outcome(output, end, run.number, run.place);
+        }
+    }
+}
+
 // What a run logs. No example offers anything.
 fn changes_of(m: TableMetadata, us: UpdateList, terms: RunTerms, limit: &[u8]) -> UpdateList {
     let answer = register::run(m, us, terms, limit, b"");
@@ -248,6 +292,9 @@ fn main() {
             &mut output,
             &mut end,
         );
+        if turn.wanted == EXPIRED {
+            expire(turn, &mut input, &mut place, &mut output, &mut end);
+        }
         turn = advance(turn, &mut input, &mut place, &mut output, &mut end);
         left -= 1;
     }

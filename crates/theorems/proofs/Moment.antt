@@ -1,18 +1,22 @@
 -- The entry point `run`, and which snapshot was current at a time: what an accepted run makes of a history and of the answer, by the contract of `run` alone.
-use mathlib.Core.Path.{_≡_, sym, ap, subst, _∙_}
+use Prim.Native.Nat.{ℕ}
+use mathlib.Core.Path.{_≡_, refl, sym, ap, subst, _∙_}
 use mathlib.Core.Bool.{true, false}
 use mathlib.Core.List.{List}
 use lib.IntN.{ℤ}
 use Rattle.records.specs.declared.run.Answer.{Answer}
+use Rattle.rules.specs.Replies.{startNotFormed}
 use Rattle.rules.specs.Offices.{firstOffice}
-use Rattle.rules.specs.Register.{LogEntry, Metadata, Update, Terms}
-use Rattle.rules.specs.Register.Outcome.{Accepted}
+use Rattle.rules.specs.Register.{LogEntry, Metadata, Update, Terms, Outcome}
+use Rattle.rules.specs.Register.Outcome.{Refused, Accepted}
 use Rattle.rules.specs.ChangeLog.{logsRemoval}
 use Rattle.rules.specs.Moment.{currentAt, isWhole, removesAndAdds}
 use Rattle.rules.specs.Run.{run}
+use Rattle.rules.specs.Blanks.{isTidyMetadata}
 use Rattle.rules.specs.Layout.{readMetadata, readMetadataLog}
 use Rattle.rules.specs.Kinds.{readUpdates}
-use Rattle.rules.specs.Answer.{readTerms}
+use Rattle.rules.specs.Answer.{readTerms, laidOutcome, answer}
+use Rattle.rules.proofs.Checks.{by-test}
 use Rattle.rules.proofs.Answer.Laws.{answer-read}
 use Rattle.rules.proofs.History.Whole.{whole-stays, whole-after-removal}
 use Rattle.rules.proofs.History.Kept.{joinedBy, HistoryKept, history-kept, MomentKept, moment-kept}
@@ -39,6 +43,17 @@ module _ (c : Call) where
   -- the entries that the updates of the run append to the history
   abbrev pub joined : List LogEntry
   joined = joinedBy under before asked
+
+-- what holds of 0, of 1 and of every number with which the rules refuse holds of the number that is answered
+pub answered-number : (c : Call) (P : ℕ → Type 0) → P 0 → P startNotFormed → ((number place : ℕ) → run (under c) (before c) (asked c) ≡ Refused number place → P number) → P (c .answered .number)
+unfolding answer laidOutcome
+answered-number c P a u f =
+    subst (λ (x : Answer). P (x .number)) (sym (says c))
+    (by-test (λ (o : Outcome). P (laidOutcome (start c) o .number)) (isTidyMetadata (start c)) (λ t. go (run (under c) (before c) (asked c)) refl) (λ n. u))
+  where
+    go : (o : Outcome) → run (under c) (before c) (asked c) ≡ o → P (laidOutcome (start c) o .number)
+    go (Refused number place) q = f number place q
+    go (Accepted m log expired) q = a
 
 module _ (c : Call) (e : c .answered .number ≡ 0) where
   -- the rules accept, and lead to what is answered

@@ -10,16 +10,14 @@ use lib.IntN.{ℤ}
 use borrow.Author.Tests.{eqb-true, eqb-false, eq-eqb}
 use borrow.Table.Steps.{cases}
 use Rattle.records.specs.declared.metadata.TableMetadata.{TableMetadata}
-use Rattle.records.specs.declared.run.Answer.{Answer}
 use Rattle.rules.specs.Words.{all}
 use Rattle.rules.specs.Replies.{startNotFormed, logEndsElsewhere, mainDisagrees}
 use Rattle.rules.specs.Offices.{firstOffice, secondOffice}
 use Rattle.rules.specs.Register.{NamedRef, Metadata, Outcome}
-use Rattle.rules.specs.Register.Outcome.{Refused, Accepted}
+use Rattle.rules.specs.Register.Outcome.{Refused}
 use Rattle.rules.specs.Walk.{Listed, recordAncestors}
 use Rattle.rules.specs.RefUpdates.{refNamed, ownerAfter}
 use Rattle.rules.specs.Others.{othersRefs, othersReach}
-use Rattle.rules.specs.Run.{run}
 use Rattle.rules.specs.OneOffice.{runAlone}
 use Rattle.rules.specs.Moment.{currentAt}
 use Rattle.rules.specs.Blanks.{isTidyMetadata}
@@ -35,7 +33,7 @@ use Rattle.rules.proofs.Offices.Kept.{Kept, office-no-log-refusal}
 use Rattle.rules.proofs.Offices.Alone.{one-office-as-before}
 use Rattle.rules.proofs.Offices.Runs.{office-refs-over, office-history-over, office-kept-over}
 use Rattle.theorems.proofs.Run.{Call, start, terms, says, run-refused}
-use Rattle.theorems.proofs.Moment.{before, asked, under, after, accepted}
+use Rattle.theorems.proofs.Moment.{before, asked, under, after, answered-number, accepted}
 use Rattle.theorems.proofs.Chains.{Chain, endOver, alone, runsOf, chain-ends}
 
 -- every call is the office's
@@ -119,15 +117,6 @@ module _ (c : Call) where
 abbrev pub Spared : ℕ → Type 0
 Spared number = (number ≡ logEndsElsewhere → ⊥) × (number ≡ mainDisagrees → ⊥)
 
-laid-spared : (m : TableMetadata) (o : Outcome) → ((number place : ℕ) → o ≡ Refused number place → Spared number) → Spared (laidOutcome m o .number)
-unfolding laidOutcome
-laid-spared m (Refused number place) f = f number place refl
-laid-spared m (Accepted m′ log expired) f = (λ q. omega (arith, q), λ q. omega (arith, q))
-
-untidy-spared : (m : TableMetadata) → Spared (laidOutcome m (Refused startNotFormed 0) .number)
-unfolding laidOutcome
-untidy-spared m = (λ q. omega (arith, q), λ q. omega (arith, q))
-
 -- of the second office
 module _ (c : Call) (s : terms c .office ≡ secondOffice) where
   -- the snapshot log and the current snapshot stay,
@@ -144,12 +133,9 @@ module _ (c : Call) (s : terms c .office ≡ secondOffice) where
 
   -- and it is refused neither with 21 nor with 22
   pub run-no-log-refusal : Spared (c .answered .number)
-  unfolding answer
   run-no-log-refusal =
-      subst (λ (a : Answer). Spared (a .number)) (sym (says c))
-      (by-test (λ (o : Outcome). Spared (laidOutcome (start c) o .number)) (isTidyMetadata (start c))
-      (λ t. laid-spared (start c) (run (under c) (before c) (asked c)) (office-no-log-refusal (under c) (before c) (asked c) (eq-eqb (terms c .office) secondOffice s)))
-      (λ f. untidy-spared (start c)))
+      answered-number c Spared (λ q. omega (arith, q), λ q. omega (arith, q)) (λ q. omega (arith, q), λ q. omega (arith, q))
+      (office-no-log-refusal (under c) (before c) (asked c) (eq-eqb (terms c .office) secondOffice s))
 
 -- With office 1 and no ref of the other's the answer is what it was before there were two offices.
 pub run-one-office-as-before : (c : Call) → terms c .office ≡ firstOffice → all (λ (r : NamedRef). eqb (r .owner) firstOffice) (before c .refs) ≡ true

@@ -23,3 +23,6 @@ pub const OWNERS: usize = 7;
 
 // The end of the input.
 pub const END: usize = 8;
+
+// The kind of an expiry.
+pub const EXPIRY: usize = 9;

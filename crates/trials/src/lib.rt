@@ -1,7 +1,8 @@
-// The cases of the case format but the runs: walks, small functions, the snapshot at a time, rows apart; walks made again and again, to time
-// them; and the date of a time. Each is read, and its answer written in numbers.
+// The cases of the case format but the runs: walks, small functions, the snapshot at a time, rows apart, expiries; walks made again and again, to
+// time them; and the date of a time. Each is read, and its answer written in numbers.
 // Nothing is refused but what can not be read.
 // The page of the case format decides.
+use expiries::asked::EXPIRY;
 use tokens::input::Input;
 use tokens::input::Place;
 use tokens::input::spoil;
@@ -15,7 +16,7 @@ mod rows;
 mod walks;
 
 // The highest kind of a case.
-pub const KINDS: u64 = 11;
+pub const KINDS: u64 = 12;
 
 // Those that are worth being timed: walks over ids, and over records.
 pub const WALK_OVER_IDS: u64 = 2;
@@ -41,6 +42,7 @@ pub fn answer(
         8 => moments::current_at(input, place, output, end),
         10 => leaf::window(true, input, place, output, end),
         11 => rows::rows_apart(input, place, output, end),
+        EXPIRY => expiries::list::answer(input, place, output, end),
         _ => spoil(place, CASE, KINDS),
     }
 }

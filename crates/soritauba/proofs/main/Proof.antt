@@ -1,7 +1,8 @@
 -- The loop ends since its turns are counted; from turn to turn no byte of the offers is added or lost.
 use mathlib.Core.Path.{_≡_}
-use borrow.Author.Needs.{needs}
 use lib.ListN.{length}
+use borrow.Author.Needs.{needs}
+use native.Mathlib.Omega.{arith}
 use Rattle.soritauba.proofs.main.Statement.{statement}
 use Rattle.soritauba.proofs.main.Tie as tie
 
@@ -25,8 +26,9 @@ main-spec =
     (λ c. search needs)
     (λ c κs. search needs)
     (λ c κs. search needs)
-    (λ c. search needs)
-    (λ c. search needs)
+    (λ c κs. search needs)
+    (λ c. omega (arith, c .before .before .before .before .before .before .before .before .before .before .before .before .before .before .before .before .loop-test .taken))
+    (λ c. omega (arith, c .before .before .before .before .before .before .before .before .before .before .before .before .before .before .before .before .loop-test .taken))
     (λ c. search needs)
     (λ c κs. search needs)
     (λ c. search needs))
