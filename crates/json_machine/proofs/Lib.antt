@@ -1,0 +1,10 @@
+pub mod Bounds
+pub mod Each
+pub mod Escapes
+pub mod Lexed
+pub mod Long
+pub mod Modes
+pub mod Numbers
+pub mod Plain
+pub mod Slots
+pub mod Texts

@@ -1,0 +1,3 @@
+pub mod Modes
+pub mod Digest
+pub mod Lexing
