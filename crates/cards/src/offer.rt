@@ -10,6 +10,7 @@ use records::capacities::PARTITION_FIELDS;
 use records::capacities::SCHEMA_FIELDS;
 use records::counters::Buckets;
 use records::counters::FieldId;
+use records::partition::OfferedId;
 use records::partition::PartitionField;
 use records::partition::SpecOffer;
 use records::schema::SchemaField;
@@ -96,18 +97,19 @@ pub fn schema_offer(offer: SchemaOffer, offers: &[u8]) -> Card {
     Card::of_number(wide(offer.schema_id.0)).with_list(list)
 }
 
-// Its source's id, its transform, the number of its buckets, its name. An id of 0 is left out.
-fn partition_at(offers: &[u8], at: usize, id: FieldId) -> PartitionField {
+// Its source's id, its transform, the number of its buckets, its name; its own id stands in the update.
+fn partition_at(offers: &[u8], at: usize, own: OfferedId) -> PartitionField {
     let source_id = signed(number_at(offers, at));
     let transform = byte_at(offers, at, 4);
     let buckets = signed(number_at(offers, wrapping_add_usize(at, 5)));
+    let field_id = own.id;
     let name = name_at(offers, wrapping_add_usize(at, 9));
     PartitionField {
         source_id: FieldId(source_id),
-        field_id: id,
+        field_id,
         buckets: Buckets(buckets),
         transform,
-        has_id: id.0 != 0,
+        has_id: own.given,
         name,
     }
 }
@@ -118,8 +120,8 @@ fn partitions(offer: SpecOffer, offers: &[u8]) -> [PartitionField; PARTITION_FIE
     let mut i = 0;
     while i < PARTITION_FIELDS {
         let at = wrapping_add_usize(offer.at, i * PARTITION_BYTES);
-        let id = offer.ids[i];
-        fields[i] = partition_at(offers, at, id);
+        let own = offer.ids[i];
+        fields[i] = partition_at(offers, at, own);
         i += 1;
     }
     fields

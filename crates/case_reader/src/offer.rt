@@ -9,9 +9,9 @@ use records::capacities::PARTITION_BYTES;
 use records::capacities::PARTITION_FIELDS;
 use records::capacities::SCHEMA_FIELDS;
 use records::capacities::UPDATES;
-use records::counters::FieldId;
 use records::counters::SchemaId;
 use records::counters::SpecId;
+use records::partition::OfferedId;
 use records::partition::PartitionField;
 use records::partition::SpecOffer;
 use records::schema::SchemaField;
@@ -116,14 +116,11 @@ pub fn read_schema_offer(
     }
 }
 
-// The id of a field in its update, where 0 says that it leaves it out. What an update can not say, an id of 0 behind a flag or another one without a flag,
-// is read as -1: no field has that id, so the update is not well formed, as the field is not.
-fn id_of(field: PartitionField) -> FieldId {
+// The id of a field in its update, as its flag and its number stand.
+fn id_of(field: PartitionField) -> OfferedId {
+    let given = field.has_id;
     let id = field.field_id;
-    if field.has_id == (id.0 != 0) {
-        return id;
-    }
-    FieldId(-1)
+    OfferedId { given, id }
 }
 
 pub fn read_spec_offer(

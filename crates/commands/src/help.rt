@@ -29,6 +29,10 @@ fn say_help(output: &mut Output, end: &mut usize, command: usize) {
         For each it prints the metadata that is given, what is asked, and the answer: accepted, with what came of it, or refused, with the reason.\n\
         Each file is read by itself, in the order given, up to the first that can not be read; without files, standard input is.\n\
         Example: ./soritauba run crates/soritauba/data/first-session.case\n\
+        soritauba run --updates LIST [FILE]: the first run of the file, with a list of updates as JSON in the place of its own\n\
+        The list is that of the Iceberg REST catalogue (docs/JSON.md), in the file LIST or, for -, on standard input.\n\
+        Where the list is refused, nothing is run: each defect is told by its line, its column and the names that lead there, the first of them first.\n\
+        Example: ./soritauba run --updates crates/soritauba/data/updates.json crates/soritauba/data/first-session.case\n\
         |soritauba replay [FILE..]: whether a stored log leads from a starting metadata to an ending one\n\
         It reads questions in the case format (docs/CASES.md), any number of them: a run, whose updates are the log, then the ending metadata.\n\
         For each it prints a line: the log leads there; or what differs first; or the refusal, with the reason.\n\
@@ -54,7 +58,7 @@ fn say_help(output: &mut Output, end: &mut usize, command: usize) {
         |soritauba tour [all]: every command on example files, each with what is asked\n\
         It reads the files of crates/soritauba/data, in the folder in which it is started.\n\
         With the word all, every other example file follows.\n\
-        |soritauba cases [FILE..]: answers of the run, the expiry, the walks and the small functions, in numbers\n\
+        |soritauba cases [FILE..]: answers of the run, the expiry, the reader of JSON, the walks and the small functions, in numbers\n\
         It reads cases in the case format (docs/CASES.md), any number of them, and prints for each a line with its answer.\n\
         Each file is read by itself, in the order given, up to the first that can not be read; without files, standard input is.\n\
         Example: ./soritauba cases crates/soritauba/data/small.cases\n\

@@ -20,6 +20,7 @@ mod example;
 mod file;
 mod help;
 mod line;
+pub mod list;
 mod piece;
 pub mod tell;
 pub mod turn;

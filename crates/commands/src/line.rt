@@ -10,11 +10,13 @@ use crate::turn::HELPED;
 use crate::turn::NAMES;
 use crate::turn::NONE;
 use crate::turn::OPENED;
+use crate::turn::RUN;
 use crate::turn::TOUR;
 use crate::turn::Turn;
 use crate::turn::UNKNOWN;
 use crate::turn::start_of_lines;
 use crate::words::asks_for_help;
+use crate::words::asks_for_list;
 use crate::words::asks_for_run;
 use crate::words::command_at;
 use crate::words::first_moment;
@@ -28,9 +30,9 @@ use std::num::wrapping_add_usize;
 use tokens::output::Output;
 
 // How many lines the tour has, and how many with the other example files.
-const TOUR_LINES: usize = 26;
+const TOUR_LINES: usize = 30;
 
-const ALL_LINES: usize = 66;
+const ALL_LINES: usize = 76;
 
 // The program's own line, or the tour, with the word `all` whole.
 pub fn begin() -> Turn {
@@ -92,6 +94,18 @@ fn begin_expiries(mut turn: Turn, is_written: bool, words: usize) -> Turn {
     }
 }
 
+// One run, with the list that the word behind `--updates` names. Standard input is the list or the run, and not both: what the command wants is said
+// then, and where there is no list or more than one file.
+fn begin_listed(mut turn: Turn, line: &[u8], words: usize) -> Turn {
+    let is_input = which_word(line, 2, b"-\n") == 0;
+    turn.list = 2;
+    if words == 4 || words == 3 && !is_input {
+        begin_files(turn, 3, words)
+    } else {
+        turn
+    }
+}
+
 // What `help` says: of the command that its word names, or the list.
 fn begin_help(mut turn: Turn, command: usize, words: usize) -> Turn {
     turn.at = 1;
@@ -112,6 +126,7 @@ fn begin_command(mut turn: Turn, line: &[u8]) -> Turn {
     turn.command = command;
     turn.step = command;
     turn.at = 0;
+    turn.list = NONE;
     if command == HELP {
         begin_help(turn, command_at(line, 1), words)
     } else if command == COMMANDS {
@@ -123,6 +138,8 @@ fn begin_command(mut turn: Turn, line: &[u8]) -> Turn {
         begin_examples(turn, words)
     } else if command == EXPIRE {
         begin_expiries(turn, asks_for_run(line), words)
+    } else if command == RUN && asks_for_list(line) {
+        begin_listed(turn, line, words)
     } else if command != CURRENT {
         begin_files(turn, 1, words)
     } else if moment < words {

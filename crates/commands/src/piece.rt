@@ -9,6 +9,8 @@ use crate::turn::EXPIRE;
 use crate::turn::EXPIRED;
 use crate::turn::JUDGED;
 use crate::turn::LEFT;
+use crate::turn::LISTED;
+use crate::turn::NONE;
 use crate::turn::PIECES;
 use crate::turn::READ;
 use crate::turn::REPEAT;
@@ -40,14 +42,19 @@ const NO_PIECE: u64 = 0;
 // The kind that `repeat` has for the close by itself of a run's metadata, with what follows the kind of a run.
 const CLOSE: u64 = 0;
 
-// What was read last may have been bad. After what `repeat` was given nothing is read; a time and the metadata of `current` are answered as they are
+// Whether one piece of an input is read.
+fn is_alone(turn: Turn) -> bool {
+    turn.command == REPEAT || turn.list < NONE
+}
+
+// What was read last may have been bad. After what `repeat` was given, and after a run with a list, nothing is read; a time and the metadata of `current` are answered as they are
 // read.
 pub fn end_piece(mut turn: Turn, place: &Place, output: &Output, end: &mut usize) -> Turn {
     end_answer(place, output, end);
     turn.stage = READ;
     if !is_good(place) {
         turn.stage = LEFT;
-    } else if turn.command == REPEAT && turn.first > 0 {
+    } else if is_alone(turn) && turn.first > 0 {
         turn.stage = LEFT;
     } else if turn.command == CURRENT || turn.command == DATES {
         turn.stage = ANSWERED;
@@ -63,6 +70,8 @@ fn read_first(mut turn: Turn, input: &mut Input, place: &mut Place) -> Turn {
         turn.stage = LEFT;
     } else if turn.command == REPLAY {
         turn.wanted = JUDGED;
+    } else if turn.list < NONE {
+        turn.wanted = LISTED;
     } else {
         turn.wanted = ASKED;
     }

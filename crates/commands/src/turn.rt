@@ -11,6 +11,8 @@ pub struct Turn {
     pub last: usize,
     // The place of the word that names the input or the example; `NONE` for standard input, which has no name, and where all examples are asked for.
     pub name: usize,
+    // The place of the word that names the list of updates, as JSON, with which `run` is to run; `NONE` where it has its own.
+    pub list: usize,
     // The descriptor of the file that is read, 0 for standard input.
     pub file: i32,
     // The number with which a run or a case starts, and how often it is asked: by `expire --run`, which writes the run of its list, not at all.
@@ -52,7 +54,8 @@ pub const READ: usize = 10;
 
 pub const ANSWERED: usize = 11;
 
-// What is wanted after a step: nothing, the end, a run, a verdict, the run of an example, a close by itself, an expiry with the run of its list.
+// What is wanted after a step: nothing, the end, a run, a verdict, the run of an example, a close by itself, an expiry with the run of its list, a run
+// with a list of updates as JSON.
 pub const GO_ON: usize = 0;
 
 pub const END: usize = 1;
@@ -66,6 +69,8 @@ pub const SHOWN: usize = 4;
 pub const CLOSED: usize = 5;
 
 pub const EXPIRED: usize = 6;
+
+pub const LISTED: usize = 7;
 
 // The commands, in the order of their names.
 pub const HELP: usize = 0;
@@ -102,6 +107,7 @@ pub fn start_of_lines(line: usize, last_line: usize) -> Turn {
         at: 0,
         last: 0,
         name: NONE,
+        list: NONE,
         file: 0,
         first: 0,
         times: 0,

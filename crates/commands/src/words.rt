@@ -1,6 +1,7 @@
 // The words of the line that is gone through. The program's own line is the empty one.
 ghost use Rattle.slot_bounds.specs.Counted.{Counted};
 use crate::turn::Turn;
+use command::line_of;
 use command::read_part;
 use command::read_word;
 use command::which_word;
@@ -32,6 +33,16 @@ pub fn asks_for_run(line: &[u8]) -> bool {
     which_word(line, 1, b"--run\n") == 0
 }
 
+// The words of `run` are files, after `--updates` and the name of a list where there is one.
+pub fn asks_for_list(line: &[u8]) -> bool {
+    which_word(line, 1, b"--updates\n") == 0
+}
+
+// Whether a word stands for standard input.
+pub fn is_dash(word: &[u8]) -> bool {
+    line_of(b"-\n", word) == 0
+}
+
 // A line of the tour, between marks. Behind the first, which is empty, each step has two: what is asked, and the command line.
 pub fn read_tour(at: usize, line: &mut [u8]) -> usize
     ensures { λ r. ⌜ Counted r (now (line .exit)) ⌝ }
@@ -45,6 +56,10 @@ pub fn read_tour(at: usize, line: &mut [u8]) -> usize
         current --in register.metadata 2025-03-12 2025-02-01 2024-12-31|\
         \nAnd at these moments?|\
         current --in register.metadata 2025-03-12T10:00:00Z 2025-03-12T12:00+02:00 noon|\
+        \nWhat does a list as published JSON make of last session's metadata? The list has each of the fifteen actions once|\
+        run --updates updates.json first-session.case|\
+        \nWhat if such a list is not right? The first defect is the answer, and those behind it follow|\
+        run --updates many-defects.json first-session.case|\
         \nWhich refs and snapshots go by age and count, which stay, and why? Which updates does that make, and what does their run answer?|\
         expire expiring.case|\
         \nThe run of these updates, in numbers|\
@@ -97,13 +112,19 @@ pub fn read_tour(at: usize, line: &mut [u8]) -> usize
         cases further-expiries.case|\
         \nWhat if a file holds no expiry?|\
         expire small.cases|\
+        \nA list that is not JSON|\
+        run --updates not-json.json first-session.case|\
+        \nA list that adds a schema with a field that is required|\
+        run --updates required-field.json first-session.case|\
+        \nLists in numbers: one that comes in three parts, and one that lacks a member|\
+        cases lists.cases|\
         \nAll examples|\
         examples|\
         \nThe dates of some times|\
         dates some.times|\
         \nA run answered three times|\
         repeat repeated.case|\
-        \nCases of every kind but the expiry, the last of them cut short|\
+        \nCases of every kind but the expiry and the list, the last of them cut short|\
         cases picked.cases|";
     read_part(lines, b'|', NO_QUOTE, at, line)
 }

@@ -21,11 +21,11 @@ use Rattle.rules.specs.Register.{Update}
 use Rattle.rules.specs.Register.Update.{NotFormed}
 use Rattle.rules.specs.WellFormed.{statisticsFileFormed, updateFormed}
 use Rattle.rules.specs.Kinds.{setStatisticsKind, removeStatisticsKind, setPartitionStatisticsKind, removePartitionStatisticsKind, fitsKinds, readKind}
-use Rattle.rules.specs.Blanks.{isZero, isZeroZ, restBlank, noneUsed, isBlankSnapshotId, isBlankSchemaId, isBlankSortField, isTidySnapshot, isBlankSnapshot, isTidySnapshotIds, isBlankSnapshotIds, isTidyReference, isBlankReference, isTidySchemaIds, isBlankSchemaIds, isTidySortOrder, isBlankSortOrder, isTidyStatisticsFile, isBlankStatisticsFile, isBlankFieldId, isTidySpecOffer, isBlankSpecOffer, isBlankSpecId, isTidySpecIds, isBlankSpecIds}
+use Rattle.rules.specs.Blanks.{isZero, isZeroZ, restBlank, noneUsed, isBlankSnapshotId, isBlankSchemaId, isBlankSortField, isTidySnapshot, isBlankSnapshot, isTidySnapshotIds, isBlankSnapshotIds, isTidyReference, isBlankReference, isTidySchemaIds, isBlankSchemaIds, isTidySortOrder, isBlankSortOrder, isTidyStatisticsFile, isBlankStatisticsFile, isTidySpecOffer, isBlankSpecOffer, isBlankSpecId, isTidySpecIds, isBlankSpecIds}
 use Rattle.rules.specs.Layout.{readStatisticsFile}
-use Rattle.rules.specs.Capacities.{removalRoom, sortFieldRoom, partitionFieldRoom}
+use Rattle.rules.specs.Capacities.{removalRoom, sortFieldRoom}
 use Rattle.rules.proofs.Checks.{and-left, and-right}
-use Rattle.rules.proofs.Slots.Relaid.{blank-snapshot, blank-reference, blank-statistics-file}
+use Rattle.rules.proofs.Slots.Relaid.{blank-snapshot, blank-reference, blank-statistics-file, blank-spec-offer}
 
 -- ---- used or not
 
@@ -77,8 +77,8 @@ unfolding isTidyStatisticsFile
 blank-statistics-file-tidy f e = rw (blank-statistics-file f e)
 
 pub blank-spec-offer-tidy : (o : SpecOffer) → isBlankSpecOffer o ≡ true → isTidySpecOffer o ≡ true
-unfolding isBlankSpecOffer isTidySpecOffer
-blank-spec-offer-tidy o e = none-rest partitionFieldRoom isBlankFieldId (o .ids) (o .count) (and-right (isZeroZ (o .«spec_id» .0) && isZero (o .at)) _ e)
+unfolding isTidySpecOffer
+blank-spec-offer-tidy o e = rw (blank-spec-offer o e)
 
 pub blank-spec-ids-tidy : (t : SpecIds) → isBlankSpecIds t ≡ true → isTidySpecIds t ≡ true
 unfolding isBlankSpecIds isTidySpecIds

@@ -7,8 +7,8 @@ ghost use mathlib.Core.Path.{_≡_};
 ghost use mathlib.Core.Bool.{cond};
 ghost use lib.ListN.{drop};
 ghost use Rattle.rules.specs.Words.{all};
-ghost use Rattle.rules.specs.Capacities.{sortFieldRoom, partitionFieldRoom, removalRoom};
-ghost use Rattle.rules.specs.Blanks.{isZero, restBlank, isTidyName, isBlankName, isTidyText, isBlankText, isTidySnapshot, isBlankSnapshot, isBlankSnapshotId, isTidySnapshotIds, isBlankSnapshotIds, isTidyReference, isBlankReference, isTidySchemaField, isBlankSchemaField, isTidySchema, isBlankSchema, isBlankSchemaOffer, isBlankSchemaId, isTidySchemaIds, isBlankSchemaIds, isBlankSortField, isTidySortOrder, isBlankSortOrder, isTidyPartitionField, isBlankPartitionField, isTidyPartitionSpec, isBlankPartitionSpec, isBlankFieldId, isTidySpecOffer, isBlankSpecOffer, isBlankSpecId, isTidySpecIds, isBlankSpecIds, isTidyStatisticsFile, isBlankStatisticsFile};
+ghost use Rattle.rules.specs.Capacities.{sortFieldRoom, removalRoom};
+ghost use Rattle.rules.specs.Blanks.{isZero, restBlank, isTidyName, isBlankName, isTidyText, isBlankText, isTidySnapshot, isBlankSnapshot, isBlankSnapshotId, isTidySnapshotIds, isBlankSnapshotIds, isTidyReference, isBlankReference, isTidySchemaField, isBlankSchemaField, isTidySchema, isBlankSchema, isBlankSchemaOffer, isBlankSchemaId, isTidySchemaIds, isBlankSchemaIds, isBlankSortField, isTidySortOrder, isBlankSortOrder, isTidyPartitionField, isBlankPartitionField, isTidyPartitionSpec, isBlankPartitionSpec, isTidyOfferedId, isBlankOfferedId, isTidySpecOffer, isBlankSpecOffer, isBlankSpecId, isTidySpecIds, isBlankSpecIds, isTidyStatisticsFile, isBlankStatisticsFile};
 use equality::ids;
 use equality::number::same_age;
 use equality::number::same_buckets;
@@ -30,6 +30,7 @@ use records::counters::SchemaId;
 use records::counters::SnapshotId;
 use records::counters::SortOrderId;
 use records::counters::SpecId;
+use records::partition::OfferedId;
 use records::partition::PartitionField;
 use records::partition::PartitionSpec;
 use records::partition::SpecIds;
@@ -250,17 +251,16 @@ pub fn spec_fits(used: bool, s: PartitionSpec) -> bool
     ok
 }
 
-fn offered_ids_blank_from(o: SpecOffer, from: usize) -> bool
-    ensures { λ r. ⌜ r ≡ restBlank partitionFieldRoom isBlankFieldId (o .ids) from ⌝ }
+fn offered_id_fits(used: bool, x: OfferedId) -> bool
+    ensures { λ r. ⌜ r ≡ cond used (isTidyOfferedId x) (isBlankOfferedId x) ⌝ }
 {
-    let mut ok = true;
-    let mut i = from;
-    while i < PARTITION_FIELDS {
-        let x = o.ids[i];
-        ok = ok & ids::same_field(x, FieldId(0));
-        i += 1;
+    let given = x.given;
+    let id = x.id;
+    let zero = ids::same_field(id, FieldId(0));
+    if used {
+        return given | zero;
     }
-    ok
+    !given & zero
 }
 
 pub fn spec_offer_fits(used: bool, o: SpecOffer) -> bool
@@ -270,8 +270,14 @@ pub fn spec_offer_fits(used: bool, o: SpecOffer) -> bool
     let at = o.at;
     let n = o.count;
     let from = unused_from(used, n);
-    (used | (ids::same_spec(id, SpecId(0)) & (at == 0) & (n == 0)))
-        & offered_ids_blank_from(o, from)
+    let mut ok = used | (ids::same_spec(id, SpecId(0)) & (at == 0) & (n == 0));
+    let mut i = 0;
+    while i < PARTITION_FIELDS {
+        let x = o.ids[i];
+        ok = ok & offered_id_fits(i < from, x);
+        i += 1;
+    }
+    ok
 }
 
 fn spec_ids_blank_from(t: SpecIds, from: usize) -> bool

@@ -4,14 +4,14 @@ ghost use Prim.Native.Nat.{_≤_};
 ghost use mathlib.Core.Bool.{true, not, _&&_, _||_};
 ghost use lib.Dec.{eqb};
 ghost use lib.ListN.{drop, take};
-ghost use Rattle.rules.specs.Words.{eqZ, ifSome, all, eachPair};
+ghost use Rattle.rules.specs.Words.{eqZ, all, eachPair};
 ghost use Rattle.rules.specs.Capacities.{schemaFieldRoom, partitionFieldRoom};
 ghost use Rattle.rules.specs.Names.{isMain};
 ghost use Rattle.rules.specs.Offices.{firstOffice, secondOffice};
-ghost use Rattle.rules.specs.WellFormed.{atLeastOne, snapshotFormed, referenceFormed, schemaFieldFormed, schemaFormed, sortFieldFormed, offeredOrderFormed, orderFormed, transformFormed, partitionFieldFormed, offeredSpecFormed, specFormed, statisticsFileFormed, removalFormed, offeredIdsFormed};
+ghost use Rattle.rules.specs.WellFormed.{snapshotFormed, referenceFormed, schemaFieldFormed, schemaFormed, sortFieldFormed, offeredOrderFormed, orderFormed, transformFormed, partitionFieldFormed, offeredSpecFormed, specFormed, statisticsFileFormed, removalFormed, offeredIdsFormed};
 ghost use Rattle.rules.specs.Partitions.{isTime, isRedundant};
 ghost use Rattle.rules.specs.Blanks.{isTidySchema, isTidyPartitionSpec};
-ghost use Rattle.rules.specs.Layout.{readName, readSnapshot, readSnapshotIds, readReference, readSchemaField, readSchema, readSchemaIds, readSortField, readSortOrder, readPartitionField, readPartitionSpec, readFieldId, readSpecOffer, readSpecIds, readStatisticsFile};
+ghost use Rattle.rules.specs.Layout.{readName, readSnapshot, readSnapshotIds, readReference, readSchemaField, readSchema, readSchemaIds, readSortField, readSortOrder, readPartitionField, readPartitionSpec, readSpecOffer, readSpecIds, readStatisticsFile};
 ghost use Rattle.equality.specs.Same.{sameName};
 use crate::bounds::age_formed;
 use crate::bounds::buckets_formed;
@@ -36,7 +36,6 @@ use records::capacities::SCHEMA_FIELDS;
 use records::capacities::SORT_FIELDS;
 use records::capacities::TEXT;
 use records::counters::Buckets;
-use records::counters::FieldId;
 use records::counters::SortOrderId;
 use records::partition::BUCKET;
 use records::partition::DAY;
@@ -338,14 +337,6 @@ pub fn spec_formed(s: PartitionSpec) -> bool
     ok
 }
 
-// An id of 0 is one that is left out.
-fn offered_id_formed(x: FieldId) -> bool
-    ensures { λ r. ⌜ r ≡ ifSome atLeastOne (readFieldId x) ⌝ }
-{
-    let has = !same_field(x, FieldId(0));
-    partition_id_formed(has, x)
-}
-
 // What is asked of an offered spec before its fields are read.
 pub fn offered_ids_formed(o: SpecOffer) -> bool
     ensures { λ r. ⌜ r ≡ offeredIdsFormed (readSpecOffer o) ⌝ }
@@ -359,7 +350,7 @@ pub fn offered_ids_formed(o: SpecOffer) -> bool
     let mut i = 0;
     while i < n {
         let x = o.ids[i];
-        ok = ok & offered_id_formed(x);
+        ok = ok & partition_id_formed(x.given, x.id);
         i += 1;
     }
     ok

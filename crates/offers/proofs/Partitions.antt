@@ -7,8 +7,8 @@ use mathlib.Core.List.{List, [], _∷_, map}
 use mathlib.Core.Option.{Option}
 use lib.IntN.{ℤ}
 use lib.ListN.{length, getD, set, drop, length-map, List·getD-map}
-use Rattle.records.specs.Blanks.{noFieldId, noPartitionField, noPartitionSpec}
-use Rattle.records.specs.declared.counters.FieldId.{FieldId}
+use Rattle.records.specs.Blanks.{noOfferedId, noPartitionField, noPartitionSpec}
+use Rattle.records.specs.declared.partition.OfferedId.{OfferedId}
 use Rattle.records.specs.declared.partition.PartitionField.{PartitionField}
 use Rattle.records.specs.declared.partition.PartitionSpec.{PartitionSpec}
 use Rattle.records.specs.declared.partition.SpecOffer.{SpecOffer}
@@ -16,7 +16,7 @@ use Rattle.rules.specs.Words.{pairUp}
 use Rattle.rules.specs.Capacities.{largestFieldId, partitionFieldRoom, partitionBytes}
 use Rattle.rules.specs.Register as plain
 use Rattle.rules.specs.Offers.{numberAt, isNumberAt, fitsAt, restZeroAt, isTidyPartition, partitionsOf, offeredPartition, offeredSpec}
-use Rattle.rules.specs.Layout.{pad, laidPartitionField, laidPartitionSpec, readFieldId, readSpecOffer}
+use Rattle.rules.specs.Layout.{pad, laidPartitionField, laidPartitionSpec, readOfferedId, readSpecOffer}
 use Rattle.formed.proofs.Counted.{read-length, read-at}
 use Rattle.rules.proofs.Checks.{and-left, and-right}
 use Rattle.offers.proofs.Named.{number-small}
@@ -65,7 +65,7 @@ module _ (bs : List ℕ) (o : SpecOffer) where
 
   -- as many ids are read as are counted
   pub ids-counted : length ids ≡ o .count
-  ids-counted = read-length readFieldId noFieldId (o .ids) (o .count)
+  ids-counted = read-length readOfferedId noOfferedId (o .ids) (o .count)
 
   abbrev pieces : List (List ℕ)
   pieces = partitionsOf (o .count) (drop (o .at) bs)
@@ -96,14 +96,14 @@ module _ (bs : List ℕ) (o : SpecOffer) where
 
   module _ {items : List PartitionField} {i : ℕ} (f : FilledPartitions items i) where
     -- the next field, from its bytes and its id
-    pub partitions-on : (d : FieldId) {x : PartitionField} {part : List ℕ} → i < o .count → o .count ≤ partitionFieldRoom → length (o .ids) ≡ partitionFieldRoom
-        → part ≡ getD pieces i [] → x ≡ laidPartitionField (offeredPartition part (readFieldId (getD (o .ids) i d))) → FilledPartitions (set items i x) (i + 1)
+    pub partitions-on : (d : OfferedId) {x : PartitionField} {part : List ℕ} → i < o .count → o .count ≤ partitionFieldRoom → length (o .ids) ≡ partitionFieldRoom
+        → part ≡ getD pieces i [] → x ≡ laidPartitionField (offeredPartition part (readOfferedId (getD (o .ids) i d))) → FilledPartitions (set items i x) (i + 1)
     partitions-on d b h k w e =
-        let r : getD ids i (readFieldId d) ≡ readFieldId (getD (o .ids) i d) = read-at readFieldId noFieldId (o .ids) (o .count) i d b (omega arith) in
-        let p : getD (pairUp offeredPartition pieces ids) i (offeredPartition [] (readFieldId d)) ≡ offeredPartition (getD pieces i []) (getD ids i (readFieldId d)) =
-        paired-at offeredPartition pieces ids i [] (readFieldId d) (omega (arith, pieces-counted)) (omega (arith, ids-counted)) in
-        let g = List·getD-map laidPartitionField (pairUp offeredPartition pieces ids) i (offeredPartition [] (readFieldId d)) ∙ ap laidPartitionField (p ∙ ap (offeredPartition (getD pieces i [])) r) in
-        filled-on f (laidPartitionField (offeredPartition [] (readFieldId d))) (omega (arith, laid-length)) (omega (arith, laid-length)) (e ∙ ap (λ (p : List ℕ). laidPartitionField (offeredPartition p (readFieldId (getD (o .ids) i d)))) w ∙ sym g)
+        let r : getD ids i (readOfferedId d) ≡ readOfferedId (getD (o .ids) i d) = read-at readOfferedId noOfferedId (o .ids) (o .count) i d b (omega arith) in
+        let p : getD (pairUp offeredPartition pieces ids) i (offeredPartition [] (readOfferedId d)) ≡ offeredPartition (getD pieces i []) (getD ids i (readOfferedId d)) =
+        paired-at offeredPartition pieces ids i [] (readOfferedId d) (omega (arith, pieces-counted)) (omega (arith, ids-counted)) in
+        let g = List·getD-map laidPartitionField (pairUp offeredPartition pieces ids) i (offeredPartition [] (readOfferedId d)) ∙ ap laidPartitionField (p ∙ ap (offeredPartition (getD pieces i [])) r) in
+        filled-on f (laidPartitionField (offeredPartition [] (readOfferedId d))) (omega (arith, laid-length)) (omega (arith, laid-length)) (e ∙ ap (λ (p : List ℕ). laidPartitionField (offeredPartition p (readOfferedId (getD (o .ids) i d)))) w ∙ sym g)
 
     pub partitions-end : o .count ≤ i → record { «spec_id» = o .«spec_id»; items = items; count = o .count } ≡ laidPartitionSpec (offeredSpec bs (readSpecOffer o))
     unfolding laidPartitionSpec offeredSpec

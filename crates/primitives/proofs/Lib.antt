@@ -1,7 +1,7 @@
 -- What the proofs of several functions cite.
 mod Tests
 mod Digits
-mod Bytes
+pub mod Bytes
 mod Slashes
 mod Differences
 mod Spans

@@ -4,7 +4,6 @@ use lib.IntN.{pos}
 use lib.ListN.{replicate}
 use Rattle.records.specs.declared.counters.SnapshotId.{SnapshotId}
 use Rattle.records.specs.declared.counters.SchemaId.{SchemaId}
-use Rattle.records.specs.declared.counters.FieldId.{FieldId}
 use Rattle.records.specs.declared.counters.SpecId.{SpecId}
 use Rattle.records.specs.declared.text.Name.{Name}
 use Rattle.records.specs.declared.text.Text.{Text}
@@ -27,6 +26,7 @@ use Rattle.records.specs.declared.«sort_order».SortOrders.{SortOrders}
 use Rattle.records.specs.declared.partition.PartitionField.{PartitionField}
 use Rattle.records.specs.declared.partition.PartitionSpec.{PartitionSpec}
 use Rattle.records.specs.declared.partition.PartitionSpecs.{PartitionSpecs}
+use Rattle.records.specs.declared.partition.OfferedId.{OfferedId}
 use Rattle.records.specs.declared.partition.SpecOffer.{SpecOffer}
 use Rattle.records.specs.declared.partition.SpecIds.{SpecIds}
 use Rattle.records.specs.declared.statistics.StatisticsFile.{StatisticsFile}
@@ -144,14 +144,14 @@ noPartitionSpec = record { «spec_id» = record { 0 = pos 0 }; items = replicate
 unfoldable pub noPartitionSpecs : PartitionSpecs
 noPartitionSpecs = record { items = replicate 16 noPartitionSpec; count = 0 }
 
-abbrev pub noFieldId : FieldId
-noFieldId = record { 0 = pos 0 }
+abbrev pub noOfferedId : OfferedId
+noOfferedId = record { given = false; id = record { 0 = pos 0 } }
 
 abbrev pub noSpecId : SpecId
 noSpecId = record { 0 = pos 0 }
 
 abbrev pub noSpecOffer : SpecOffer
-noSpecOffer = record { «spec_id» = noSpecId; at = 0; count = 0; ids = replicate 8 noFieldId }
+noSpecOffer = record { «spec_id» = noSpecId; at = 0; count = 0; ids = replicate 8 noOfferedId }
 
 abbrev pub noSpecIds : SpecIds
 noSpecIds = record { items = replicate 16 noSpecId; count = 0 }

@@ -1,6 +1,6 @@
 // Partition specs: lists of fields, each a field of a schema and a transform of its values.
 ghost use mathlib.Core.Path.{_≡_};
-ghost use Rattle.records.specs.Blanks.{noPartitionField, noPartitionSpec, noPartitionSpecs, noSpecOffer, noSpecIds};
+ghost use Rattle.records.specs.Blanks.{noPartitionField, noPartitionSpec, noPartitionSpecs, noOfferedId, noSpecOffer, noSpecIds};
 use crate::capacities::PARTITION_FIELDS;
 use crate::capacities::PARTITION_SPECS;
 use crate::capacities::REMOVALS;
@@ -42,13 +42,18 @@ pub struct PartitionSpecs {
     pub count: usize,
 }
 
+// The id of an offered field. Where it is left out, 0 stands there; a 0 that is given is told from it by the flag.
+pub struct OfferedId {
+    pub given: bool,
+    pub id: FieldId,
+}
+
 // A spec as an update offers it: where its fields stand among the bytes that are lent to the run, how many they are, and the id of each.
-// An id of 0 says that the field leaves it out.
 pub struct SpecOffer {
     pub spec_id: SpecId,
     pub at: usize,
     pub count: usize,
-    pub ids: [FieldId; PARTITION_FIELDS],
+    pub ids: [OfferedId; PARTITION_FIELDS],
 }
 
 // The ids of a removal.
@@ -97,11 +102,22 @@ impl PartitionSpecs {
     }
 }
 
+impl OfferedId {
+    pub fn blank() -> OfferedId
+        ensures { λ r. ⌜ r ≡ noOfferedId ⌝ }
+    {
+        OfferedId {
+            given: false,
+            id: FieldId(0),
+        }
+    }
+}
+
 impl SpecOffer {
     pub fn blank() -> SpecOffer
         ensures { λ r. ⌜ r ≡ noSpecOffer ⌝ }
     {
-        let none = FieldId(0);
+        let none = OfferedId::blank();
         let ids = [none; PARTITION_FIELDS];
         SpecOffer {
             spec_id: SpecId(0),

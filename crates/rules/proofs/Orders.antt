@@ -7,8 +7,8 @@ use mathlib.Core.Bool.{Bool, true, false, _&&_, false≢true, true≢false, and-
 use mathlib.Core.List.{List, [], _∷_}
 use lib.Dec.{eqb, ltb, eqb·suc-zero}
 use lib.IntN.{ℤ, pos, negsuc, sucℤ}
-use lib.Signed.{ltZ, leZ, nonNeg}
-use borrow.Author.Tests.{ltb-true, ltb-false, leb-true, lt-ltb, le-ltb, eqb-true, eq-eqb, ne-eqb}
+use lib.Signed.{ltZ, nonNeg}
+use borrow.Author.Tests.{ltb-true, ltb-false, lt-ltb, le-ltb, eqb-true, eq-eqb}
 use Rattle.rules.specs.Words.{eqZ, highest, sameBytes}
 use Rattle.rules.specs.Names.{nameBelow}
 use Rattle.rules.proofs.Checks.{by-test, both, and-left, and-right, or-left, or-right, by-either, neither}
@@ -82,11 +82,6 @@ suc-nonNeg (negsuc n) h = absurd (false≢true h)
 pub suc-not-zero : (z : ℤ) → nonNeg z ≡ true → eqZ (sucℤ z) (pos 0) ≡ false
 suc-not-zero (pos n) h = eqb·suc-zero n
 suc-not-zero (negsuc n) h = absurd (false≢true h)
-
--- a number of at least 1 is not 0
-pub one-not-zero : (z : ℤ) → leZ (pos 1) z ≡ true → eqZ z (pos 0) ≡ false
-one-not-zero (pos n) h = let l : 1 ≤ n = leb-true 1 n h in ne-eqb n 0 (λ e. omega arith)
-one-not-zero (negsuc n) h = absurd (false≢true h)
 
 -- ---- names
 

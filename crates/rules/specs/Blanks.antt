@@ -8,7 +8,6 @@ use lib.IntN.{ℤ, pos}
 use lib.ListN.{length, take, drop}
 use Rattle.records.specs.declared.counters.SnapshotId.{SnapshotId}
 use Rattle.records.specs.declared.counters.SchemaId.{SchemaId}
-use Rattle.records.specs.declared.counters.FieldId.{FieldId}
 use Rattle.records.specs.declared.counters.SpecId.{SpecId}
 use Rattle.records.specs.declared.text.Name.{Name}
 use Rattle.records.specs.declared.text.Text.{Text}
@@ -31,6 +30,7 @@ use Rattle.records.specs.declared.«sort_order».SortOrders.{SortOrders}
 use Rattle.records.specs.declared.partition.PartitionField.{PartitionField}
 use Rattle.records.specs.declared.partition.PartitionSpec.{PartitionSpec}
 use Rattle.records.specs.declared.partition.PartitionSpecs.{PartitionSpecs}
+use Rattle.records.specs.declared.partition.OfferedId.{OfferedId}
 use Rattle.records.specs.declared.partition.SpecOffer.{SpecOffer}
 use Rattle.records.specs.declared.partition.SpecIds.{SpecIds}
 use Rattle.records.specs.declared.statistics.StatisticsFile.{StatisticsFile}
@@ -209,14 +209,17 @@ isBlankPartitionSpec s = isZeroZ (s .«spec_id» .0) && noneUsed partitionFieldR
 unfoldable pub isTidyPartitionSpecs : PartitionSpecs → Bool
 isTidyPartitionSpecs t = tidySlots specRoom isTidyPartitionSpec isBlankPartitionSpec (t .items) (t .count)
 
-abbrev pub isBlankFieldId : FieldId → Bool
-isBlankFieldId i = isZeroZ (i .0)
+abbrev pub isTidyOfferedId : OfferedId → Bool
+isTidyOfferedId i = i .given || isZeroZ (i .id .0)
+
+abbrev pub isBlankOfferedId : OfferedId → Bool
+isBlankOfferedId i = not (i .given) && isZeroZ (i .id .0)
 
 unfoldable pub isTidySpecOffer : SpecOffer → Bool
-isTidySpecOffer o = restBlank partitionFieldRoom isBlankFieldId (o .ids) (o .count)
+isTidySpecOffer o = tidySlots partitionFieldRoom isTidyOfferedId isBlankOfferedId (o .ids) (o .count)
 
 unfoldable pub isBlankSpecOffer : SpecOffer → Bool
-isBlankSpecOffer o = isZeroZ (o .«spec_id» .0) && isZero (o .at) && noneUsed partitionFieldRoom isBlankFieldId (o .ids) (o .count)
+isBlankSpecOffer o = isZeroZ (o .«spec_id» .0) && isZero (o .at) && noneUsed partitionFieldRoom isBlankOfferedId (o .ids) (o .count)
 
 abbrev pub isBlankSpecId : SpecId → Bool
 isBlankSpecId i = isZeroZ (i .0)

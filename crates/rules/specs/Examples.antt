@@ -1184,6 +1184,8 @@ examples =
     ∷ []))
     gives Tests (replicate 15 false))
     ∷ (OfRun AtLog terms (dated 2 [] 999) (addingSpec 24 1 0 ∷ []) gives Refusal 3 0)
+    -- given 0: an id of 0 is not one that is left out
+    ∷ (OfRun AtLog terms (dated 2 [] 999) (AddPartitionSpec (specFrom 0 (some (pos 0) ∷ []) 0) ∷ []) gives Refusal 3 0)
     -- specs in tables: 16 of 8 fields are well formed; one more of either, descending or equal ids, an id below 0, and fields that are not well formed or stand twice are not
     ∷ (OfTests (map metadataFormed
     (dated 2 (many 15 (λ (i : ℕ). specOf (suc i) (many 8 (λ (k : ℕ). partition (suc k) (suc k) identity 0 (k ∷ []))))) 0

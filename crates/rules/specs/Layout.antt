@@ -2,16 +2,15 @@
 -- count says: a slot that is not there reads as blank, so nothing is lost of a count above the capacity. Laying pads with blanks.
 -- For well-formed metadata going there and back changes nothing (`relaid`, in proofs/Relaid).
 use Prim.Native.Nat.{ℕ, _-_}
-use mathlib.Core.Bool.{Bool, true, false, not}
+use mathlib.Core.Bool.{Bool, true, false}
 use mathlib.Core.List.{List, _++_, map}
 use mathlib.Core.Option.{Option, none, some}
 use lib.IntN.{ℤ, pos}
 use lib.ListN.{length, take, replicate}
-use Rattle.records.specs.Blanks.{noSnapshotId, noSnapshot, noLogEntry, noRef, noSchemaField, noSchema, noSchemaId, noSortField, noSortOrder, noPartitionField, noPartitionSpec, noFieldId, noSpecId, noStatisticsFile, noMetadataLogEntry}
+use Rattle.records.specs.Blanks.{noSnapshotId, noSnapshot, noLogEntry, noRef, noSchemaField, noSchema, noSchemaId, noSortField, noSortOrder, noPartitionField, noPartitionSpec, noOfferedId, noSpecId, noStatisticsFile, noMetadataLogEntry}
 use Rattle.records.specs.declared.counters.RowId.{RowId}
 use Rattle.records.specs.declared.counters.SnapshotId.{SnapshotId}
 use Rattle.records.specs.declared.counters.SchemaId.{SchemaId}
-use Rattle.records.specs.declared.counters.FieldId.{FieldId}
 use Rattle.records.specs.declared.counters.SpecId.{SpecId}
 use Rattle.records.specs.declared.text.Name.{Name}
 use Rattle.records.specs.declared.text.Text.{Text}
@@ -34,6 +33,7 @@ use Rattle.records.specs.declared.«sort_order».SortOrders.{SortOrders}
 use Rattle.records.specs.declared.partition.PartitionField.{PartitionField}
 use Rattle.records.specs.declared.partition.PartitionSpec.{PartitionSpec}
 use Rattle.records.specs.declared.partition.PartitionSpecs.{PartitionSpecs}
+use Rattle.records.specs.declared.partition.OfferedId.{OfferedId}
 use Rattle.records.specs.declared.partition.SpecOffer.{SpecOffer}
 use Rattle.records.specs.declared.partition.SpecIds.{SpecIds}
 use Rattle.records.specs.declared.statistics.StatisticsFile.{StatisticsFile}
@@ -44,7 +44,6 @@ use Rattle.records.specs.declared.metadata.SingleFields.{SingleFields}
 use Rattle.records.specs.declared.metadata.TableMetadata.{TableMetadata}
 use Rattle.rules.specs.Words.{isSome, orElse}
 use Rattle.rules.specs.Capacities.{snapshotRoom, refRoom, snapshotLogRoom, metadataLogRoom, schemaRoom, schemaFieldRoom, sortOrderRoom, sortFieldRoom, specRoom, partitionFieldRoom, statisticsRoom, removalRoom, nameRoom, textRoom}
-use Rattle.rules.specs.Blanks.{isBlankFieldId}
 use Rattle.rules.specs.Register as plain
 
 -- ---- slots and flags
@@ -258,18 +257,17 @@ readPartitionSpecs t = map readPartitionSpec (counted noPartitionSpec (t .items)
 unfoldable pub laidPartitionSpecs : List plain.PartitionSpec → PartitionSpecs
 laidPartitionSpecs l = record { items = pad specRoom noPartitionSpec (map laidPartitionSpec l); count = length l }
 
--- an id of 0 stands for one that is left out
-abbrev pub readFieldId : FieldId → Option ℤ
-readFieldId i = given (not (isBlankFieldId i)) (i .0)
+abbrev pub readOfferedId : OfferedId → Option ℤ
+readOfferedId i = given (i .given) (i .id .0)
 
-abbrev pub laidFieldId : Option ℤ → FieldId
-laidFieldId id = record { 0 = orElse id (pos 0) }
+abbrev pub laidOfferedId : Option ℤ → OfferedId
+laidOfferedId id = record { given = isSome id; id = record { 0 = orElse id (pos 0) } }
 
 abbrev pub readSpecOffer : SpecOffer → plain.SpecOffer
-readSpecOffer o = record { id = o .«spec_id» .0; at = o .at; ids = map readFieldId (counted noFieldId (o .ids) (o .count)) }
+readSpecOffer o = record { id = o .«spec_id» .0; at = o .at; ids = map readOfferedId (counted noOfferedId (o .ids) (o .count)) }
 
 unfoldable pub laidSpecOffer : plain.SpecOffer → SpecOffer
-laidSpecOffer o = record { «spec_id» = record { 0 = o .id }; at = o .at; count = length (o .ids); ids = pad partitionFieldRoom noFieldId (map laidFieldId (o .ids)) }
+laidSpecOffer o = record { «spec_id» = record { 0 = o .id }; at = o .at; count = length (o .ids); ids = pad partitionFieldRoom noOfferedId (map laidOfferedId (o .ids)) }
 
 abbrev pub readSpecIds : SpecIds → List ℤ
 readSpecIds t = map (λ (i : SpecId). i .0) (counted noSpecId (t .items) (t .count))

@@ -1,16 +1,19 @@
 // soritauba COMMAND WORDS: the program. What a command has to say is in what it prints: it has no status of its own.
 // The crate `commands` goes through the words, the files and the pieces, and says what came of them; here stand the calls of the run.
 use case_reader::limit_text::LimitText;
+use case_reader::run::Run;
 use case_reader::run::read_ending;
 use case_reader::run::read_run;
 use commands::advance;
 use commands::begin;
+use commands::list::read_list;
 use commands::tell::put_answer_of;
 use commands::turn::ASKED;
 use commands::turn::CLOSED;
 use commands::turn::END;
 use commands::turn::EXPIRED;
 use commands::turn::JUDGED;
+use commands::turn::LISTED;
 use commands::turn::RUN;
 use commands::turn::SHOWN;
 use commands::turn::Turn;
@@ -111,35 +114,42 @@ fn ask_again(
     run_times(turn.times, m, us, terms, &slots[..len], offers)
 }
 
-// Nothing is said before the whole run is read, so that no part of its answer stands above `bad input`. One run is asked apart from many, so that
-// less stack is needed.
+// A run with its own list. What the list offers goes into a slice; a list as JSON wants the array.
+fn read_own(first: u64, input: &mut Input, place: &mut Place, offers: &mut [u8; OFFERS]) -> Run {
+    let slots: &mut [u8] = offers;
+    read_run(first, input, place, slots)
+}
+
+// Nothing is said before the whole run is read, so that no part of its answer stands above `bad input`. A list that is given as JSON stands in the place of
+// the run's own; where it is refused, nothing is run. One run is asked apart from many, so that less stack is needed.
 fn run(
     turn: Turn,
     input: &mut Input,
     place: &mut Place,
-    offers: &mut [u8],
+    offers: &mut [u8; OFFERS],
     output: &mut Output,
     end: &mut usize,
 ) {
-    let run = read_run(turn.first, input, place, offers);
-    if is_good(place) {
+    let mut run = read_own(turn.first, input, place, offers);
+    let mut is_asked = is_good(place);
+    if is_asked && turn.wanted == LISTED {
+        let read = read_list(turn, offers, output, end);
+        is_asked = read.number == 0;
+        let list = read.list;
+        run.updates = list;
+    }
+    let slots: &[u8] = offers;
+    if is_asked {
         if turn.command == RUN {
-            say_asked(output, end, piece_of(place), run, &offers[..]);
-            let answer = ask(run.limit, run.metadata, run.updates, run.terms, &offers[..]);
-            say_answer(output, end, run.terms, answer, &offers[..]);
+            say_asked(output, end, piece_of(place), run, slots);
+            let answer = ask(run.limit, run.metadata, run.updates, run.terms, slots);
+            say_answer(output, end, run.terms, answer, slots);
         } else if turn.times == 1 && turn.wanted == ASKED {
-            let answer = ask(run.limit, run.metadata, run.updates, run.terms, &offers[..]);
-            put_answer_of(output, end, run.given, answer, &offers[..]);
+            let answer = ask(run.limit, run.metadata, run.updates, run.terms, slots);
+            put_answer_of(output, end, run.given, answer, slots);
         } else {
-            let answer = ask_again(
-                turn,
-                run.limit,
-                run.metadata,
-                run.updates,
-                run.terms,
-                &offers[..],
-            );
-            put_answer_of(output, end, run.given, answer, &offers[..]);
+            let answer = ask_again(turn, run.limit, run.metadata, run.updates, run.terms, slots);
+            put_answer_of(output, end, run.given, answer, slots);
         }
     }
 }
@@ -260,13 +270,13 @@ fn answer(
     turn: Turn,
     input: &mut Input,
     place: &mut Place,
-    offers: &mut [u8],
+    offers: &mut [u8; OFFERS],
     output: &mut Output,
     end: &mut usize,
 ) {
     let wanted = turn.wanted;
     match wanted {
-        ASKED | CLOSED => run(turn, input, place, offers, output, end),
+        ASKED | LISTED | CLOSED => run(turn, input, place, offers, output, end),
         JUDGED => replay(turn, input, place, offers, output, end),
         SHOWN => show(wrapping_sub_usize(turn.step, 1), output, end),
         _ => {}

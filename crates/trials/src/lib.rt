@@ -1,5 +1,5 @@
-// The cases of the case format but the runs: walks, small functions, the snapshot at a time, rows apart, expiries; walks made again and again, to
-// time them; and the date of a time. Each is read, and its answer written in numbers.
+// The cases of the case format but the runs: walks, small functions, the snapshot at a time, rows apart, expiries, lists of updates as JSON; walks
+// made again and again, to time them; and the date of a time. Each is read, and its answer written in numbers.
 // Nothing is refused but what can not be read.
 // The page of the case format decides.
 use expiries::asked::EXPIRY;
@@ -8,6 +8,7 @@ use tokens::input::Place;
 use tokens::input::spoil;
 use tokens::output::Output;
 use tokens::wanted::CASE;
+use update_lists::case::LIST;
 
 pub mod dates;
 mod leaf;
@@ -16,7 +17,7 @@ mod rows;
 mod walks;
 
 // The highest kind of a case.
-pub const KINDS: u64 = 12;
+pub const KINDS: u64 = 20;
 
 // Those that are worth being timed: walks over ids, and over records.
 pub const WALK_OVER_IDS: u64 = 2;
@@ -43,6 +44,7 @@ pub fn answer(
         10 => leaf::window(true, input, place, output, end),
         11 => rows::rows_apart(input, place, output, end),
         EXPIRY => expiries::list::answer(input, place, output, end),
+        LIST => update_lists::case::answer(input, place, output, end),
         _ => spoil(place, CASE, KINDS),
     }
 }

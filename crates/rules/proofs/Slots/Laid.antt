@@ -11,7 +11,7 @@ use lib.Signed.{nonNeg}
 use lib.ListN.{length, take, replicate, length-append, length-replicate, length-map}
 use lib.Seq.{take-at, drop-at}
 use borrow.Author.Tests.{leb-true, eq-eqb}
-use Rattle.records.specs.Blanks.{noSnapshotId, noSnapshot, noLogEntry, noRef, noSchemaField, noSchema, noSchemaId, noSortField, noSortOrder, noPartitionField, noPartitionSpec, noFieldId, noSpecId, noStatisticsFile, noMetadataLogEntry, noFieldsPart, noSnapshotsPart, noSchemasPart, noSortOrdersPart, noStatisticsPart, noPartitionSpecsPart, noUpdate}
+use Rattle.records.specs.Blanks.{noSnapshotId, noSnapshot, noLogEntry, noRef, noSchemaField, noSchema, noSchemaId, noSortField, noSortOrder, noPartitionField, noPartitionSpec, noOfferedId, noSpecId, noStatisticsFile, noMetadataLogEntry, noFieldsPart, noSnapshotsPart, noSchemasPart, noSortOrdersPart, noStatisticsPart, noPartitionSpecsPart, noUpdate}
 use Rattle.rules.specs.Words.{isSome, orElse, ifSome, all, ascending}
 use Rattle.rules.specs.Capacities.{snapshotRoom, refRoom, snapshotLogRoom, metadataLogRoom, schemaRoom, schemaFieldRoom, sortOrderRoom, sortFieldRoom, specRoom, partitionFieldRoom, statisticsRoom, removalRoom, nameRoom, textRoom}
 use Rattle.rules.specs.Register as plain
@@ -19,8 +19,8 @@ use Rattle.rules.specs.Register.{Update}
 use Rattle.rules.specs.Register.Update.{AssignUuid, UpgradeFormatVersion, SetLocation, AddSnapshot, SetBranchSnapshot, RemoveSnapshots, SetRef, RemoveRef, AddSchema, SetCurrentSchema, RemoveSchemas, AddSortOrder, SetDefaultSortOrder, SetStatistics, RemoveStatistics, AddPartitionSpec, SetDefaultPartitionSpec, RemovePartitionSpecs, NotFormed}
 use Rattle.rules.specs.Register.StatisticsTable.{Statistics, PartitionStatistics}
 use Rattle.rules.specs.WellFormed.{snapshotFormed, referenceFormed, ownerFormed, refFormed, nameFormed, fileNameFormed, schemaFormed, orderFormed, offeredOrderFormed, sortFieldFormed, partitionFieldFormed, offeredSpecFormed, transformFormed, specFormed, statisticsFileFormed, removalFormed, atLeastOne, fieldTypeFormed, schemaFieldFormed, versionFormed, locationFormed, snapshotBelow, refBelow, schemaBelow, orderBelow, specBelow, statisticsBelow, snapshotsFormed, refsFormed, snapshotLogFormed, metadataLogFormed, schemasFormed, ordersFormed, specsFormed, statisticsFormed, fieldsFormed, refsHeld, mainAgrees, currentSchemaHeld, defaultOrderHeld, defaultSpecHeld, metadataFormed, offeredIdsFormed, updateFormed}
-use Rattle.rules.specs.Blanks.{isZero, isZeroZ, restBlank, tidySlots, isTidyName, isTidyText, isTidySnapshot, isBlankSnapshot, isTidySnapshots, isBlankSnapshotId, isTidySnapshotIds, isBlankSnapshotIds, isBlankLogEntry, isTidySnapshotLog, isTidyReference, isBlankReference, isTidyRef, isBlankRef, isTidyRefs, isTidySchemaField, isBlankSchemaField, isTidySchema, isBlankSchema, isTidySchemas, isBlankSchemaId, isTidySchemaIds, isBlankSchemaIds, isBlankSortField, isTidySortOrder, isBlankSortOrder, isTidySortOrders, isTidyPartitionField, isBlankPartitionField, isTidyPartitionSpec, isBlankPartitionSpec, isTidyPartitionSpecs, isBlankFieldId, isTidySpecOffer, isBlankSpecOffer, isBlankSpecId, isTidySpecIds, isBlankSpecIds, isTidyStatisticsFile, isBlankStatisticsFile, isTidyStatistics, isTidyMetadataLogEntry, isBlankMetadataLogEntry, isTidyMetadataLog, isTidyFields, isTidyMetadata}
-use Rattle.rules.specs.Layout.{pad, firstRow, addedRows, laidName, laidText, laidSnapshot, laidSnapshots, laidSnapshotIds, laidLogEntry, laidSnapshotLog, laidReference, laidRef, laidRefs, laidSchemaField, laidSchema, laidSchemas, laidSchemaIds, laidSortField, laidSortOrder, laidSortOrders, laidPartitionField, laidPartitionSpec, laidPartitionSpecs, laidFieldId, laidSpecOffer, laidSpecIds, laidStatisticsFile, laidStatistics, laidMetadataLogEntry, laidMetadataLog, laidFields, laidMetadata}
+use Rattle.rules.specs.Blanks.{isZero, isZeroZ, restBlank, tidySlots, isTidyName, isTidyText, isTidySnapshot, isBlankSnapshot, isTidySnapshots, isBlankSnapshotId, isTidySnapshotIds, isBlankSnapshotIds, isBlankLogEntry, isTidySnapshotLog, isTidyReference, isBlankReference, isTidyRef, isBlankRef, isTidyRefs, isTidySchemaField, isBlankSchemaField, isTidySchema, isBlankSchema, isTidySchemas, isBlankSchemaId, isTidySchemaIds, isBlankSchemaIds, isBlankSortField, isTidySortOrder, isBlankSortOrder, isTidySortOrders, isTidyPartitionField, isBlankPartitionField, isTidyPartitionSpec, isBlankPartitionSpec, isTidyPartitionSpecs, isTidyOfferedId, isBlankOfferedId, isTidySpecOffer, isBlankSpecOffer, isBlankSpecId, isTidySpecIds, isBlankSpecIds, isTidyStatisticsFile, isBlankStatisticsFile, isTidyStatistics, isTidyMetadataLogEntry, isBlankMetadataLogEntry, isTidyMetadataLog, isTidyFields, isTidyMetadata}
+use Rattle.rules.specs.Layout.{pad, firstRow, addedRows, laidName, laidText, laidSnapshot, laidSnapshots, laidSnapshotIds, laidLogEntry, laidSnapshotLog, laidReference, laidRef, laidRefs, laidSchemaField, laidSchema, laidSchemas, laidSchemaIds, laidSortField, laidSortOrder, laidSortOrders, laidPartitionField, laidPartitionSpec, laidPartitionSpecs, laidOfferedId, laidSpecOffer, laidSpecIds, laidStatisticsFile, laidStatistics, laidMetadataLogEntry, laidMetadataLog, laidFields, laidMetadata}
 use Rattle.rules.specs.Kinds.{isTidyFieldsPart, isTidySnapshotsPart, isTidyRefsPart, isTidySchemasPart, isTidySortOrdersPart, isTidyStatisticsPart, isTidyPartitionSpecsPart, isTidyUpdate, laidUpdate}
 use Rattle.rules.proofs.Checks.{both, and-left, and-right, parts, whole, schemaTests, offered-of}
 use Rattle.rules.proofs.Tables.{all-then}
@@ -215,7 +215,8 @@ tidy-partition-specs l f =
 pub tidy-spec-offer : (o : plain.SpecOffer) → offeredIdsFormed o ≡ true → isTidySpecOffer (laidSpecOffer o) ≡ true
 unfolding isTidySpecOffer laidSpecOffer
 tidy-spec-offer o f =
-    fields-tidy noFieldId isBlankFieldId refl laidFieldId partitionFieldRoom (o .ids) (parts (nonNeg (o .id)) (leb (length (o .ids)) partitionFieldRoom ∷ all (ifSome atLeastOne) (o .ids) ∷ []) f .1 .0)
+    let k = parts (nonNeg (o .id)) (leb (length (o .ids)) partitionFieldRoom ∷ all (ifSome atLeastOne) (o .ids) ∷ []) f in
+    table-tidy noOfferedId isBlankOfferedId refl laidOfferedId isTidyOfferedId (ifSome atLeastOne) (λ id e. absent-zero id) partitionFieldRoom (o .ids) (k .1 .0) (k .1 .1 .0)
 
 pub tidy-spec-ids : (l : List ℤ) → removalFormed l ≡ true → isTidySpecIds (laidSpecIds l) ≡ true
 unfolding isTidySpecIds laidSpecIds

@@ -11,11 +11,10 @@ use lib.Signed.{nonNeg}
 use lib.ListN.{length, set, take, drop, replicate, length-append, length-replicate, length-take, length-drop, length-map, take-append-drop}
 use lib.Seq.{set-at}
 use borrow.Author.Tests.{eqb-true, leb-true, not-true}
-use Rattle.records.specs.Blanks.{noName, noText, noSnapshotId, noSnapshot, noSnapshotIds, noLogEntry, noReference, noRef, noSchemaField, noSchema, noSchemaOffer, noSchemaId, noSchemaIds, noSortField, noSortOrder, noPartitionField, noPartitionSpec, noFieldId, noSpecId, noSpecOffer, noSpecIds, noStatisticsFile, noMetadataLogEntry}
+use Rattle.records.specs.Blanks.{noName, noText, noSnapshotId, noSnapshot, noSnapshotIds, noLogEntry, noReference, noRef, noSchemaField, noSchema, noSchemaOffer, noSchemaId, noSchemaIds, noSortField, noSortOrder, noPartitionField, noPartitionSpec, noOfferedId, noSpecId, noSpecOffer, noSpecIds, noStatisticsFile, noMetadataLogEntry}
 use Rattle.records.specs.declared.counters.RowId.{RowId}
 use Rattle.records.specs.declared.counters.SnapshotId.{SnapshotId}
 use Rattle.records.specs.declared.counters.SchemaId.{SchemaId}
-use Rattle.records.specs.declared.counters.FieldId.{FieldId}
 use Rattle.records.specs.declared.counters.SpecId.{SpecId}
 use Rattle.records.specs.declared.snapshot.SnapshotIds.{SnapshotIds}
 use Rattle.records.specs.declared.schema.SchemaOffer.{SchemaOffer}
@@ -36,6 +35,7 @@ use Rattle.records.specs.declared.«sort_order».SortOrders.{SortOrders}
 use Rattle.records.specs.declared.partition.PartitionField.{PartitionField}
 use Rattle.records.specs.declared.partition.PartitionSpec.{PartitionSpec}
 use Rattle.records.specs.declared.partition.PartitionSpecs.{PartitionSpecs}
+use Rattle.records.specs.declared.partition.OfferedId.{OfferedId}
 use Rattle.records.specs.declared.partition.SpecOffer.{SpecOffer}
 use Rattle.records.specs.declared.partition.SpecIds.{SpecIds}
 use Rattle.records.specs.declared.statistics.StatisticsFile.{StatisticsFile}
@@ -49,8 +49,8 @@ use Rattle.records.specs.declared.snapshot.Snapshots.{Snapshots}
 use Rattle.rules.specs.Words.{isSome, orElse, ifSome, all, ascending}
 use Rattle.rules.specs.Capacities.{snapshotRoom, refRoom, snapshotLogRoom, metadataLogRoom, schemaRoom, schemaFieldRoom, sortOrderRoom, sortFieldRoom, specRoom, partitionFieldRoom, statisticsRoom, removalRoom, nameRoom, textRoom}
 use Rattle.rules.specs.WellFormed.{snapshotFormed, referenceFormed, ownerFormed, refFormed, nameFormed, fileNameFormed, schemaFormed, orderFormed, offeredOrderFormed, sortFieldFormed, partitionFieldFormed, transformFormed, offeredSpecFormed, specFormed, statisticsFileFormed, removalFormed, offeredIdsFormed, atLeastOne, fieldTypeFormed, schemaFieldFormed, versionFormed, locationFormed, snapshotBelow, refBelow, schemaBelow, orderBelow, specBelow, statisticsBelow, snapshotsFormed, refsFormed, snapshotLogFormed, metadataLogFormed, schemasFormed, ordersFormed, specsFormed, statisticsFormed, fieldsFormed, refsHeld, mainAgrees, currentSchemaHeld, defaultOrderHeld, defaultSpecHeld, metadataFormed}
-use Rattle.rules.specs.Blanks.{isZero, isZeroZ, restBlank, tidySlots, noneUsed, isBlankUuid, isTidyName, isBlankName, isTidyText, isBlankText, isTidySnapshot, isBlankSnapshot, isTidySnapshots, isBlankSnapshotId, isTidySnapshotIds, isBlankSnapshotIds, isBlankLogEntry, isTidySnapshotLog, isTidyReference, isBlankReference, isTidyRef, isBlankRef, isTidyRefs, isTidySchemaField, isBlankSchemaField, isTidySchema, isBlankSchema, isTidySchemas, isBlankSchemaOffer, isBlankSchemaId, isTidySchemaIds, isBlankSchemaIds, isBlankSortField, isTidySortOrder, isBlankSortOrder, isTidySortOrders, isTidyPartitionField, isBlankPartitionField, isTidyPartitionSpec, isBlankPartitionSpec, isTidyPartitionSpecs, isBlankFieldId, isTidySpecOffer, isBlankSpecOffer, isBlankSpecId, isTidySpecIds, isBlankSpecIds, isTidyStatisticsFile, isBlankStatisticsFile, isTidyStatistics, isTidyMetadataLogEntry, isBlankMetadataLogEntry, isTidyMetadataLog, isTidyFields, isTidyMetadata}
-use Rattle.rules.specs.Layout.{counted, pad, given, firstRow, addedRows, readName, laidName, readText, laidText, readSnapshot, laidSnapshot, readSnapshots, laidSnapshots, readSnapshotIds, laidSnapshotIds, readLogEntry, laidLogEntry, readSnapshotLog, laidSnapshotLog, readReference, laidReference, readRef, laidRef, readRefs, laidRefs, readSchemaField, laidSchemaField, readSchema, laidSchema, readSchemas, laidSchemas, readSchemaIds, laidSchemaIds, readSortField, laidSortField, readSortOrder, laidSortOrder, readSortOrders, laidSortOrders, readPartitionField, laidPartitionField, readPartitionSpec, laidPartitionSpec, readPartitionSpecs, laidPartitionSpecs, readFieldId, laidFieldId, readSpecOffer, laidSpecOffer, readSpecIds, laidSpecIds, readStatisticsFile, laidStatisticsFile, readStatistics, laidStatistics, readMetadataLogEntry, laidMetadataLogEntry, readMetadataLog, laidMetadataLog, readFields, laidFields, readMetadata, laidMetadata}
+use Rattle.rules.specs.Blanks.{isZero, isZeroZ, restBlank, tidySlots, noneUsed, isBlankUuid, isTidyName, isBlankName, isTidyText, isBlankText, isTidySnapshot, isBlankSnapshot, isTidySnapshots, isBlankSnapshotId, isTidySnapshotIds, isBlankSnapshotIds, isBlankLogEntry, isTidySnapshotLog, isTidyReference, isBlankReference, isTidyRef, isBlankRef, isTidyRefs, isTidySchemaField, isBlankSchemaField, isTidySchema, isBlankSchema, isTidySchemas, isBlankSchemaOffer, isBlankSchemaId, isTidySchemaIds, isBlankSchemaIds, isBlankSortField, isTidySortOrder, isBlankSortOrder, isTidySortOrders, isTidyPartitionField, isBlankPartitionField, isTidyPartitionSpec, isBlankPartitionSpec, isTidyPartitionSpecs, isTidyOfferedId, isBlankOfferedId, isTidySpecOffer, isBlankSpecOffer, isBlankSpecId, isTidySpecIds, isBlankSpecIds, isTidyStatisticsFile, isBlankStatisticsFile, isTidyStatistics, isTidyMetadataLogEntry, isBlankMetadataLogEntry, isTidyMetadataLog, isTidyFields, isTidyMetadata}
+use Rattle.rules.specs.Layout.{counted, pad, given, firstRow, addedRows, readName, laidName, readText, laidText, readSnapshot, laidSnapshot, readSnapshots, laidSnapshots, readSnapshotIds, laidSnapshotIds, readLogEntry, laidLogEntry, readSnapshotLog, laidSnapshotLog, readReference, laidReference, readRef, laidRef, readRefs, laidRefs, readSchemaField, laidSchemaField, readSchema, laidSchema, readSchemas, laidSchemas, readSchemaIds, laidSchemaIds, readSortField, laidSortField, readSortOrder, laidSortOrder, readSortOrders, laidSortOrders, readPartitionField, laidPartitionField, readPartitionSpec, laidPartitionSpec, readPartitionSpecs, laidPartitionSpecs, readOfferedId, laidOfferedId, readSpecOffer, laidSpecOffer, readSpecIds, laidSpecIds, readStatisticsFile, laidStatisticsFile, readStatistics, laidStatistics, readMetadataLogEntry, laidMetadataLogEntry, readMetadataLog, laidMetadataLog, readFields, laidFields, readMetadata, laidMetadata}
 use Rattle.rules.specs.Register as plain
 use Rattle.rules.proofs.Orders.{eqZ-equal}
 use Rattle.rules.proofs.Checks.{and-left, and-right, parts, schemaTests, offered-of}
@@ -452,29 +452,28 @@ back-partition-specs t e f =
     let r = table-back noPartitionSpec isBlankPartitionSpec blank-partition-spec readPartitionSpec laidPartitionSpec isTidyPartitionSpec specFormed (λ s e f. back-partition-spec s e (offered-of (readPartitionSpec s) f)) specRoom (t .count) (t .items) e (k .0) (k .1 .0) in
     λ i. record { items = r .0 i; count = r .1 i }
 
-blank-field-id : (x : FieldId) → isBlankFieldId x ≡ true → x ≡ noFieldId
-blank-field-id x e = λ i. record { 0 = zeroZ (x .0) e i }
+blank-offered-id : (x : OfferedId) → isBlankOfferedId x ≡ true → x ≡ noOfferedId
+blank-offered-id x e =
+    λ i. record {
+      given = not-true (x .given) (and-left (not (x .given)) _ e) i;
+      id = record { 0 = zeroZ (x .id .0) (and-right (not (x .given)) _ e) i };
+    }
 
--- an id of 0 is read as left out, and laid as 0 again
-pub back-field-id : (x : FieldId) → laidFieldId (readFieldId x) ≡ x
-back-field-id x = λ i. record { 0 = number-given (not (isBlankFieldId x)) (x .0) (or-not (isBlankFieldId x)) i }
-  where
-    or-not : (b : Bool) → (not b || b) ≡ true
-    or-not true = refl
-    or-not false = refl
+back-offered-id : (x : OfferedId) → isTidyOfferedId x ≡ true → laidOfferedId (readOfferedId x) ≡ x
+back-offered-id x e = λ i. record { given = flag-given (x .given) (x .id .0) i; id = record { 0 = number-given (x .given) (x .id .0) e i } }
 
 pub blank-spec-offer : (o : SpecOffer) → isBlankSpecOffer o ≡ true → o ≡ noSpecOffer
 unfolding isBlankSpecOffer
 blank-spec-offer o e =
-    let h = parts (isZeroZ (o .«spec_id» .0)) (isZero (o .at) ∷ noneUsed partitionFieldRoom isBlankFieldId (o .ids) (o .count) ∷ []) e in
-    let k = unused noFieldId isBlankFieldId blank-field-id partitionFieldRoom (o .count) (o .ids) (h .1 .1 .0) in
+    let h = parts (isZeroZ (o .«spec_id» .0)) (isZero (o .at) ∷ noneUsed partitionFieldRoom isBlankOfferedId (o .ids) (o .count) ∷ []) e in
+    let k = unused noOfferedId isBlankOfferedId blank-offered-id partitionFieldRoom (o .count) (o .ids) (h .1 .1 .0) in
     λ i. record { «spec_id» = record { 0 = zeroZ (o .«spec_id» .0) (h .0) i }; at = zero (o .at) (h .1 .0) i; count = k .1 i; ids = k .0 i }
 
 pub back-spec-offer : (o : SpecOffer) → isTidySpecOffer o ≡ true → offeredIdsFormed (readSpecOffer o) ≡ true → laidSpecOffer (readSpecOffer o) ≡ o
 unfolding isTidySpecOffer laidSpecOffer
 back-spec-offer o e f =
     let k = parts (nonNeg (o .«spec_id» .0)) (leb (length (readSpecOffer o .ids)) partitionFieldRoom ∷ all (ifSome atLeastOne) (readSpecOffer o .ids) ∷ []) f in
-    let r = fields-back noFieldId isBlankFieldId blank-field-id readFieldId laidFieldId back-field-id partitionFieldRoom (o .count) (o .ids) e (k .1 .0) in
+    let r = table-back noOfferedId isBlankOfferedId blank-offered-id readOfferedId laidOfferedId isTidyOfferedId (ifSome atLeastOne) (λ x e f. back-offered-id x e) partitionFieldRoom (o .count) (o .ids) e (k .1 .0) (k .1 .1 .0) in
     λ i. record { «spec_id» = o .«spec_id»; at = o .at; count = r .1 i; ids = r .0 i }
 
 blank-spec-id : (x : SpecId) → isBlankSpecId x ≡ true → x ≡ noSpecId

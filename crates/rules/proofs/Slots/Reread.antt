@@ -5,26 +5,23 @@ use mathlib.Core.Path.{_≡_, refl, ap, ap₂}
 use mathlib.Core.Bool.{Bool, true, false≢true}
 use mathlib.Core.List.{List, [], _∷_, map, append-nil}
 use mathlib.Core.Option.{Option, none, some}
-use lib.Dec.{leb}
 use lib.IntN.{ℤ, pos}
-use lib.Signed.{nonNeg}
 use lib.ListN.{length, replicate, length-append, length-map}
 use lib.Seq.{take-append-seam}
-use Rattle.records.specs.Blanks.{noSnapshotId, noSnapshot, noLogEntry, noRef, noSchemaField, noSchema, noSchemaId, noSortField, noSortOrder, noPartitionField, noPartitionSpec, noFieldId, noSpecId, noStatisticsFile, noMetadataLogEntry, noUpdate}
+use Rattle.records.specs.Blanks.{noSnapshotId, noSnapshot, noLogEntry, noRef, noSchemaField, noSchema, noSchemaId, noSortField, noSortOrder, noPartitionField, noPartitionSpec, noOfferedId, noSpecId, noStatisticsFile, noMetadataLogEntry, noUpdate}
 use Rattle.records.specs.declared.counters.SnapshotId.{SnapshotId}
 use Rattle.records.specs.declared.counters.SchemaId.{SchemaId}
 use Rattle.records.specs.declared.counters.SpecId.{SpecId}
-use Rattle.rules.specs.Words.{isSome, ifSome, orElse, all}
+use Rattle.rules.specs.Words.{isSome, orElse, all}
 use Rattle.rules.specs.Capacities.{snapshotRoom, refRoom, snapshotLogRoom, metadataLogRoom, schemaRoom, schemaFieldRoom, sortOrderRoom, sortFieldRoom, specRoom, partitionFieldRoom, statisticsRoom, removalRoom, nameRoom, textRoom, listRoom}
 use Rattle.rules.specs.Register as plain
 use Rattle.rules.specs.Register.{Update}
 use Rattle.rules.specs.Register.Update.{AssignUuid, UpgradeFormatVersion, SetLocation, AddSnapshot, SetBranchSnapshot, RemoveSnapshots, SetRef, RemoveRef, AddSchema, SetCurrentSchema, RemoveSchemas, AddSortOrder, SetDefaultSortOrder, SetStatistics, RemoveStatistics, AddPartitionSpec, SetDefaultPartitionSpec, RemovePartitionSpecs, NotFormed}
 use Rattle.rules.specs.Register.StatisticsTable.{Statistics, PartitionStatistics}
-use Rattle.rules.specs.WellFormed.{atLeastOne, offeredIdsFormed, updateFormed}
-use Rattle.rules.specs.Layout.{counted, pad, given, firstRow, addedRows, readName, laidName, readText, laidText, readSnapshot, laidSnapshot, readSnapshots, laidSnapshots, readSnapshotIds, laidSnapshotIds, readLogEntry, laidLogEntry, readSnapshotLog, laidSnapshotLog, readReference, laidReference, readRef, laidRef, readRefs, laidRefs, readSchemaField, laidSchemaField, readSchema, laidSchema, readSchemas, laidSchemas, readSchemaIds, laidSchemaIds, readSortField, laidSortField, readSortOrder, laidSortOrder, readSortOrders, laidSortOrders, readPartitionField, laidPartitionField, readPartitionSpec, laidPartitionSpec, readPartitionSpecs, laidPartitionSpecs, readFieldId, laidFieldId, readSpecOffer, laidSpecOffer, readSpecIds, laidSpecIds, readStatisticsFile, laidStatisticsFile, readStatistics, laidStatistics, readMetadataLogEntry, laidMetadataLogEntry, readMetadataLog, laidMetadataLog, readFields, laidFields, readMetadata, laidMetadata}
+use Rattle.rules.specs.WellFormed.{updateFormed}
+use Rattle.rules.specs.Layout.{counted, pad, given, firstRow, addedRows, readName, laidName, readText, laidText, readSnapshot, laidSnapshot, readSnapshots, laidSnapshots, readSnapshotIds, laidSnapshotIds, readLogEntry, laidLogEntry, readSnapshotLog, laidSnapshotLog, readReference, laidReference, readRef, laidRef, readRefs, laidRefs, readSchemaField, laidSchemaField, readSchema, laidSchema, readSchemas, laidSchemas, readSchemaIds, laidSchemaIds, readSortField, laidSortField, readSortOrder, laidSortOrder, readSortOrders, laidSortOrders, readPartitionField, laidPartitionField, readPartitionSpec, laidPartitionSpec, readPartitionSpecs, laidPartitionSpecs, readOfferedId, laidOfferedId, readSpecOffer, laidSpecOffer, readSpecIds, laidSpecIds, readStatisticsFile, laidStatisticsFile, readStatistics, laidStatistics, readMetadataLogEntry, laidMetadataLogEntry, readMetadataLog, laidMetadataLog, readFields, laidFields, readMetadata, laidMetadata}
 use Rattle.rules.specs.Kinds.{readKind, readUpdate, laidUpdate, readUpdates, laidUpdates}
-use Rattle.rules.proofs.Checks.{and-left, and-right, parts}
-use Rattle.rules.proofs.Orders.{one-not-zero}
+use Rattle.rules.proofs.Checks.{and-left, and-right}
 use Rattle.rules.proofs.Slots.Laid.{tidy-update}
 
 -- ---- values behind a flag
@@ -151,17 +148,9 @@ pub reread-partition-specs : (l : List plain.PartitionSpec) → readPartitionSpe
 unfolding laidPartitionSpecs
 reread-partition-specs l = table-reread readPartitionSpec laidPartitionSpec reread-partition-spec specRoom noPartitionSpec l
 
--- an id that is there is not 0
-reread-field-id : (id : Option ℤ) → ifSome atLeastOne id ≡ true → readFieldId (laidFieldId id) ≡ id
-reread-field-id none f = refl
-reread-field-id (some z) f = rw (one-not-zero z f)
-
-pub reread-spec-offer : (o : plain.SpecOffer) → offeredIdsFormed o ≡ true → readSpecOffer (laidSpecOffer o) ≡ o
+pub reread-spec-offer : (o : plain.SpecOffer) → readSpecOffer (laidSpecOffer o) ≡ o
 unfolding laidSpecOffer
-reread-spec-offer o f =
-    let k = parts (nonNeg (o .id)) (leb (length (o .ids)) partitionFieldRoom ∷ all (ifSome atLeastOne) (o .ids) ∷ []) f in
-    let r = formed-reread readFieldId laidFieldId (ifSome atLeastOne) reread-field-id partitionFieldRoom noFieldId (o .ids) (k .1 .1 .0) in
-    λ i. record { id = o .id; at = o .at; ids = r i }
+reread-spec-offer o = let r = table-reread readOfferedId laidOfferedId reread-number partitionFieldRoom noOfferedId (o .ids) in λ i. record { id = o .id; at = o .at; ids = r i }
 
 pub reread-spec-ids : (l : List ℤ) → readSpecIds (laidSpecIds l) ≡ l
 unfolding laidSpecIds
@@ -244,7 +233,7 @@ reread-kind (SetStatistics Statistics x) f = ap (SetStatistics Statistics) (rere
 reread-kind (SetStatistics PartitionStatistics x) f = ap (SetStatistics PartitionStatistics) (reread-statistics-file x)
 reread-kind (RemoveStatistics Statistics id) f = refl
 reread-kind (RemoveStatistics PartitionStatistics id) f = refl
-reread-kind (AddPartitionSpec o) f = ap AddPartitionSpec (reread-spec-offer o f)
+reread-kind (AddPartitionSpec o) f = ap AddPartitionSpec (reread-spec-offer o)
 reread-kind (SetDefaultPartitionSpec id) f = refl
 reread-kind (RemovePartitionSpecs ids) f = ap RemovePartitionSpecs (reread-spec-ids ids)
 reread-kind (NotFormed counts) f = absurd (false≢true f)

@@ -1,15 +1,13 @@
--- Numbers that 32 bits with a sign can be are the source and the number of buckets; an id of 0 is left out; the transform and the name are as they stand.
+-- Numbers that 32 bits with a sign can be are the source and the number of buckets; the id, the transform and the name are as they stand.
 use native.Mathlib.Omega.{arith}
 use mathlib.Core.Path.{sym, ap, _∙_}
-use mathlib.Core.Bool.{not}
 use borrow.Author.Needs.{needs}
 use lib.IntN.{pos}
 use lib.ListN.{getD}
 use mir.Syntax.{w32}
 use mir.Facts.{toZ-pos}
-use Rattle.rules.specs.Blanks.{isBlankFieldId}
 use Rattle.rules.specs.Layout.{laidPartitionField}
-use Rattle.rules.proofs.Slots.Relaid.{flag-given, back-field-id}
+use Rattle.rules.proofs.Slots.Relaid.{flag-given}
 use Rattle.offers.proofs.Partitions.{source-small, buckets-small, name-tidy}
 use Rattle.offers.proofs.partition.partition_of.Statement.{statement}
 use Rattle.offers.proofs.partition.partition_of.Tie as tie
@@ -30,10 +28,10 @@ partition-of-spec =
     let bs = s .args .bytes .now in let id = s .args .id in
     let x = toZ-pos w32 (omega (arith, n .number-at .ensures, source-small bs (s .pre .1))) ∙ ap pos (n .number-at .ensures) in
     let y = toZ-pos w32 (omega (arith, b .number-at2 .ensures, buckets-small bs (s .pre .1))) ∙ ap pos (b .number-at2 .ensures) in
-    let h = ap not (f .same-field .ensures) ∙ sym (flag-given (not (isBlankFieldId id)) (id .0)) in
+    let h = sym (flag-given (id .given) (id .id .0)) in
     λ i. record {
       «source_id» = record { 0 = x i };
-      «field_id» = sym (back-field-id id) i;
+      «field_id» = record { 0 = f .number-of .ensures i };
       buckets = record { 0 = y i };
       transform = getD bs 4 0;
       «has_id» = h i;

@@ -1,0 +1,40 @@
+-- What the slots of a judge stand for: its numbers by name (Laid), the least refusal (Refused), the open brackets (Bits), the members that were seen (Marked,
+-- Members), the open lists and objects (Open), and all together (Stands). Then each thing that a lexeme does, one whole lexeme (Whole), one that breaks off and
+-- the end (StandsStops), and, where nothing is refused, what a lexeme did (Took, Takes).
+pub mod Marked
+pub mod Members
+pub mod Laid
+pub mod Refused
+pub mod Bits
+pub mod Open
+pub mod Stands
+pub mod Nested
+pub mod Reach
+pub mod Items
+pub mod StandsCommas
+pub mod StandsCounts
+pub mod Waiting
+pub mod Entered
+pub mod StandsBrackets
+pub mod Foreigns
+pub mod Acting
+pub mod StandsScalars
+pub mod StandsValues
+pub mod StandsStops
+pub mod Spans
+pub mod Lacks
+pub mod Goes
+pub mod StandsEnds
+pub mod Named
+pub mod Seeing
+pub mod StandsNames
+pub mod Same
+pub mod Holds
+pub mod Begun
+pub mod Begins
+pub mod Whole
+pub mod Took
+pub mod Quiet
+pub mod Tells
+pub mod TellsValues
+pub mod Takes

@@ -1,0 +1,14 @@
+pub mod Stores
+pub mod Kept
+pub mod Filled
+pub mod Uuids
+pub mod Each
+pub mod Places
+pub mod Signed
+pub mod Fields
+pub mod Ids
+pub mod Taken
+pub mod Done
+pub mod Records
+pub mod Made
+pub mod Appended
