@@ -1,0 +1,3 @@
+-- What is true of an export.
+mod Answers
+pub mod Unique

@@ -1,0 +1,3 @@
+-- What is asked of a record, and texts a byte at a time.
+pub mod Tests
+pub mod Characters

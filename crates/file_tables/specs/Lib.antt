@@ -1,0 +1,2 @@
+-- Metadata of which a part of the file speaks.
+pub mod Parts

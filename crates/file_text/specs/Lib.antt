@@ -1,0 +1,2 @@
+-- What writing into a buffer is.
+pub mod Puts

@@ -1,0 +1,2 @@
+-- What is answered to an export.
+pub mod Answer
