@@ -20,7 +20,7 @@ fn written_kind(kind: u8, is_named: bool) -> u8 {
 }
 
 // A line for each kind, in the order of their numbers; that of 0 and those past the last are empty.
-fn put_update(output: &mut Output, end: &mut usize, is_named: bool, card: Card) {
+pub fn put_update(output: &mut Output, end: &mut usize, is_named: bool, card: Card) {
     let layouts = b"\n\
         $\n\
         a\n\

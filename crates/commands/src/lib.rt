@@ -27,6 +27,7 @@ pub mod turn;
 mod words;
 
 pub use line::begin;
+pub use words::read_tour;
 
 // What needs no input.
 fn say_next(stage: usize, turn: Turn, output: &mut Output, end: &mut usize) -> Turn {

@@ -4,9 +4,11 @@ use crate::turn::CURRENT;
 use crate::turn::END;
 use crate::turn::EXAMPLES;
 use crate::turn::EXPIRE;
+use crate::turn::FILED;
 use crate::turn::FILES;
 use crate::turn::HELP;
 use crate::turn::HELPED;
+use crate::turn::LINES;
 use crate::turn::NAMES;
 use crate::turn::NONE;
 use crate::turn::OPENED;
@@ -20,6 +22,7 @@ use crate::words::asks_for_list;
 use crate::words::asks_for_run;
 use crate::words::command_at;
 use crate::words::first_moment;
+use crate::words::goes_by_files;
 use crate::words::read_tour;
 use command::which_word;
 use command::word_count;
@@ -30,9 +33,9 @@ use std::num::wrapping_add_usize;
 use tokens::output::Output;
 
 // How many lines the tour has, and how many with the other example files.
-const TOUR_LINES: usize = 30;
+const TOUR_LINES: usize = 46;
 
-const ALL_LINES: usize = 76;
+const ALL_LINES: usize = 92;
 
 // The program's own line, or the tour, with the word `all` whole.
 pub fn begin() -> Turn {
@@ -117,6 +120,15 @@ fn begin_help(mut turn: Turn, command: usize, words: usize) -> Turn {
     turn
 }
 
+// What goes by files is the caller's. Without words behind the command, what it wants is said.
+fn begin_filed(mut turn: Turn, words: usize) -> Turn {
+    if words > 1 {
+        turn.wanted = FILED;
+        turn.stage = LINES;
+    }
+    turn
+}
+
 // What the command wants is said where nothing else is begun: without moments, by `current` too.
 fn begin_command(mut turn: Turn, line: &[u8]) -> Turn {
     let command = command_at(line, 0);
@@ -134,6 +146,8 @@ fn begin_command(mut turn: Turn, line: &[u8]) -> Turn {
         turn
     } else if asks_for_help(line) {
         turn
+    } else if goes_by_files(command, line) {
+        begin_filed(turn, words)
     } else if command == EXAMPLES {
         begin_examples(turn, words)
     } else if command == EXPIRE {

@@ -72,6 +72,9 @@ pub const EXPIRED: usize = 6;
 
 pub const LISTED: usize = 7;
 
+// A command that goes by files.
+pub const FILED: usize = 8;
+
 // The commands, in the order of their names.
 pub const HELP: usize = 0;
 
@@ -93,8 +96,14 @@ pub const REPEAT: usize = 8;
 
 pub const DATES: usize = 9;
 
+pub const IMPORT: usize = 10;
+
+pub const EXPORT: usize = 11;
+
+pub const AUDIT: usize = 12;
+
 // One for every other word.
-pub const COMMANDS: usize = 10;
+pub const COMMANDS: usize = 13;
 
 // Before the first of some lines.
 pub fn start_of_lines(line: usize, last_line: usize) -> Turn {

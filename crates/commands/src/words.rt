@@ -1,17 +1,29 @@
 // The words of the line that is gone through. The program's own line is the empty one.
 ghost use Rattle.slot_bounds.specs.Counted.{Counted};
+use crate::turn::AUDIT;
+use crate::turn::CURRENT;
+use crate::turn::EXPIRE;
+use crate::turn::EXPORT;
+use crate::turn::IMPORT;
+use crate::turn::REPLAY;
+use crate::turn::RUN;
 use crate::turn::Turn;
 use command::line_of;
 use command::read_part;
 use command::read_word;
 use command::which_word;
+use file_words::file::is_json;
+use file_words::file::is_json_at;
+use file_words::option::CLOCK;
+use file_words::option::has;
 
 // No byte: lines have no quotes.
 const NO_QUOTE: u8 = 0;
 
 // The command that the word at a place of a line names.
 pub fn command_at(line: &[u8], at: usize) -> usize {
-    let names = b"help\nrun\nreplay\ncurrent\nexpire\nexamples\ntour\ncases\nrepeat\ndates\n";
+    let names =
+        b"help\nrun\nreplay\ncurrent\nexpire\nexamples\ntour\ncases\nrepeat\ndates\nimport\nexport\naudit\n";
     which_word(line, at, names)
 }
 
@@ -38,6 +50,23 @@ pub fn asks_for_list(line: &[u8]) -> bool {
     which_word(line, 1, b"--updates\n") == 0
 }
 
+// Whether the metadata of `current` stands in a file that is JSON.
+fn is_current_in_json(line: &[u8]) -> bool {
+    let mut name = io::buffer();
+    let len = read_word(line, 2, &mut name);
+    first_moment(line) == 3 && is_json(&name[..len])
+}
+
+// Whether a command goes by files: one that always does; one whose words have a clock, or whose first file is JSON; and `current` of a file that is JSON.
+pub fn goes_by_files(command: usize, line: &[u8]) -> bool {
+    match command {
+        IMPORT | EXPORT | AUDIT => true,
+        RUN | REPLAY | EXPIRE => has(line, CLOCK) || is_json_at(line, 0),
+        CURRENT => is_current_in_json(line),
+        _ => false,
+    }
+}
+
 // Whether a word stands for standard input.
 pub fn is_dash(word: &[u8]) -> bool {
     line_of(b"-\n", word) == 0
@@ -48,11 +77,27 @@ pub fn read_tour(at: usize, line: &mut [u8]) -> usize
     ensures { λ r. ⌜ Counted r (now (line .exit)) ⌝ }
 {
     let lines = b"|\
-        The files stand in crates/soritauba/data.\n\nWhat does this session's list make of last session's metadata?|\
+        The files stand in crates/soritauba/data.\n\nWhat does last session's metadata file hold?|\
+        import last-session.json|\
+        \nWhat does this session's list make of it? With --out, --log and --expired the new file, the change log and the expired files would be written|\
+        run last-session.json --updates session-list.json --clock 2025-04-09T10:01:00Z --file 00001-march.metadata.json|\
+        \nWhat does this session's file hold?|\
+        import this-session.json|\
+        \nDoes the stored log lead from last session's file to this session's?|\
+        replay last-session.json session-log.json this-session.json|\
+        \nWhich snapshots were current on these days?|\
+        current --in this-session.json 2025-03-12 2025-02-01 2025-04-09|\
+        \nWhat goes by age and count in June?|\
+        expire this-session.json --clock 2025-06-01T00:00:00Z|\
+        \nThe auditor's three questions on a page|\
+        audit last-session.json session-log.json this-session.json 2025-03-12 2025-02-01 2025-04-10|\
+        \nWhat if a file is not right?|\
+        import title-column.json|\
+        \nIn the case format: what does this session's list make of last session's metadata?|\
         run first-session.case|\
         \nDoes the stored log lead from last session's metadata to this session's? To one with another location? From a start whose main is not held?|\
         replay stored-log.case|\
-        \nWhich snapshots were current on these days?|\
+        \nAnd in this register, of which snapshots were removed?|\
         current --in register.metadata 2025-03-12 2025-02-01 2024-12-31|\
         \nAnd at these moments?|\
         current --in register.metadata 2025-03-12T10:00:00Z 2025-03-12T12:00+02:00 noon|\

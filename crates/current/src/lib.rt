@@ -94,6 +94,32 @@ fn say_words(
     }
 }
 
+// Of a snapshot log and the snapshots that are held, the answers to the words of a command line from this one on.
+pub fn say_moments(
+    output: &mut Output,
+    end: &mut usize,
+    log: SnapshotLog,
+    snapshots: Snapshots,
+    line: &[u8],
+    from: usize,
+) {
+    let kept = LogAndSnapshots { log, snapshots };
+    say_words(output, end, kept, line, from);
+}
+
+// The same to the word at one place.
+pub fn say_moment_at(
+    output: &mut Output,
+    end: &mut usize,
+    log: SnapshotLog,
+    snapshots: Snapshots,
+    line: &[u8],
+    at: usize,
+) {
+    let kept = LogAndSnapshots { log, snapshots };
+    say_word(output, end, kept, line, at);
+}
+
 // Of the metadata that is read, the answers to the words of a command line from this one on.
 pub fn say_answers(
     line: &[u8],

@@ -1,3 +1,4 @@
 -- What is true of an export.
 mod Answers
 pub mod Unique
+pub mod ReadBack

@@ -6,7 +6,7 @@ use Rattle.rules.specs.Promises.{OfTwo, AsksNothing}
 use Rattle.file_export.proofs.export as file
 
 pub export-unique : OfTwo file.Kinds.ps file.Kinds.r file.Reads.Post (λ κs x y s t. (x ≡ y) × (now (s .1 .0) ≡ now (t .1 .0)))
-export-unique κs a x y s t p q = (p .0 ∙ sym (q .0), p .1 ∙ sym (q .1))
+export-unique κs a x y s t p q = (p .0 ∙ sym (q .0), p .1 .0 ∙ sym (q .1 .0))
 
 pub export-asks-nothing : AsksNothing file.signature (λ M. file.spec)
 export-asks-nothing M 𝓤 H A mem run κs a = (tt, id⊢ 𝓤 (emp 𝓤))

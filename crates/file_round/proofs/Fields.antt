@@ -28,7 +28,7 @@ pub record Field : Type 0 where
   pub name : List ℕ
   pub value : Option Document
 
-abbrev withField : List ℕ → Option Document → Entries → Entries
+abbrev pub withField : List ℕ → Option Document → Entries → Entries
 withField name none es = es
 withField name (some d) es = entry name d es
 
@@ -137,7 +137,7 @@ mapped-good depth f (some x) g = g x refl
 
 -- ---- what is found under a name
 
-abbrev Looks : Option Json → Option Document → Type 0
+abbrev pub Looks : Option Json → Option Document → Type 0
 Looks x none = x ≡ none
 Looks x (some d) = (place : ℕ) × (x ≡ some (treeAt place d))
 
@@ -146,7 +146,7 @@ Choice true A B = A
 Choice false A B = B
 
 -- no field has the name
-abbrev unnamed : List ℕ → List Field → Bool
+abbrev pub unnamed : List ℕ → List Field → Bool
 unnamed n [] = true
 unnamed n (f ∷ fs) = not (sameBytes n (f .name)) && unnamed n fs
 
@@ -242,12 +242,12 @@ published rows seen [] = true
 published rows seen (f ∷ fs) = isSome (publishedAs (f .name) rows) && not (isOneOf seen (f .name)) && published rows (f .name ∷ seen) fs
 
 -- a field of that name is there
-abbrev isThere : List Field → List ℕ → Bool
+abbrev pub isThere : List Field → List ℕ → Bool
 isThere [] n = false
 isThere (f ∷ fs) n = (sameBytes n (f .name) && isSome (f .value)) || isThere fs n
 
 -- the names of those that are there
-abbrev nameIf : List ℕ → Option Document → List (List ℕ) → List (List ℕ)
+abbrev pub nameIf : List ℕ → Option Document → List (List ℕ) → List (List ℕ)
 nameIf name none l = l
 nameIf name (some d) l = name ∷ l
 
@@ -276,7 +276,7 @@ mapped-fine version ofSchema shape f none h = tt
 mapped-fine version ofSchema shape f (some x) h = h x refl
 
 -- those seen before are among these
-abbrev Among : List (List ℕ) → List (List ℕ) → Type 0
+abbrev pub Among : List (List ℕ) → List (List ℕ) → Type 0
 Among seen all = (w : List ℕ) → isOneOf all w ≡ false → isOneOf seen w ≡ false
 
 module _ (version : ℕ) (kind : FileKind) (rows : List Published) where
@@ -325,7 +325,7 @@ unfolding treeAt
 if-named name none es l place h = h place
 if-named name (some d) es l place h = ap (λ o. nameOr o (namesOf (membersAt (past (behind (past (past place (quoted name)) (58 ∷ [])) d) (44 ∷ [])) es))) (text-read place name) ∙ (ap (λ x. name ∷ x) (h (past (behind (past (past place (quoted name)) (58 ∷ [])) d) (44 ∷ []))))
 
-names-of : (fs : List Field) (place : ℕ) → namesOf (membersAt place (entriesOf fs)) ≡ names fs
+pub names-of : (fs : List Field) (place : ℕ) → namesOf (membersAt place (entriesOf fs)) ≡ names fs
 unfolding treeAt
 names-of [] place = refl
 names-of (f ∷ fs) place = if-named (f .name) (f .value) (entriesOf fs) (names fs) place (λ p. names-of fs p)
@@ -338,7 +338,7 @@ there : (fs : List Field) (n : List ℕ) → isOneOf (names fs) n ≡ isThere fs
 there [] n = refl
 there (f ∷ fs) n = there-named n (f .name) (f .value) (names fs) (isThere fs n) (there fs n)
 
-all-there : (fs : List Field) (ns : List (List ℕ)) → all (isThere fs) ns ≡ true → all (isOneOf (names fs)) ns ≡ true
+pub all-there : (fs : List Field) (ns : List (List ℕ)) → all (isThere fs) ns ≡ true → all (isOneOf (names fs)) ns ≡ true
 all-there fs [] h = refl
 all-there fs (n ∷ ns) h = both (there fs n ∙ and-left (isThere fs n) (all (isThere fs) ns) h) (all-there fs ns (and-right (isThere fs n) (all (isThere fs) ns) h))
 

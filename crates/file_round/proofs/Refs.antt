@@ -15,7 +15,7 @@ use Rattle.rules.specs.Capacities.{nameRoom, refRoom}
 use Rattle.rules.specs.Names.{nameBelow}
 use Rattle.rules.specs.Register.{Reference, NamedRef}
 use Rattle.rules.specs.WellFormed.{branch, tag, kindFormed, retentionFormed, referenceFormed, refFormed, ownerFormed, nameFormed, refBelow}
-use Rattle.rules.proofs.Checks.{parts, both, and-left, and-right, by-either, by-test}
+use Rattle.rules.proofs.Checks.{parts, both, and-left, and-right, by-either}
 use Rattle.json_rule.specs.Letters.{bytes}
 use Rattle.json_rule.specs.Lexemes.{Lexeme}
 use Rattle.json_rule.specs.Values.{textOf}
@@ -54,48 +54,48 @@ referenceFields r = field "snapshot-id" (number (r .snapshot)) ∷ flat (referen
 abbrev pub referenceShow : Reference → Document
 referenceShow r = object (referenceFields r)
 
-min-text : (o : Option ℤ) → alsoIf "min-snapshots-to-keep" numberText o ≡ groupText (fieldIf "min-snapshots-to-keep" number o ∷ [])
+pub min-text : (o : Option ℤ) → alsoIf "min-snapshots-to-keep" numberText o ≡ groupText (fieldIf "min-snapshots-to-keep" number o ∷ [])
 unfolding quoted escapedByte bytesOf
 min-text none = refl
 min-text (some z) = refl
 
-max-text : (o : Option ℤ) → alsoIf "max-snapshot-age-ms" numberText o ≡ groupText (fieldIf "max-snapshot-age-ms" number o ∷ [])
+pub max-text : (o : Option ℤ) → alsoIf "max-snapshot-age-ms" numberText o ≡ groupText (fieldIf "max-snapshot-age-ms" number o ∷ [])
 unfolding quoted escapedByte bytesOf
 max-text none = refl
 max-text (some z) = refl
 
-age-text : (o : Option ℤ) → alsoIf "max-ref-age-ms" numberText o ≡ groupText (fieldIf "max-ref-age-ms" number o ∷ [])
+pub age-text : (o : Option ℤ) → alsoIf "max-ref-age-ms" numberText o ≡ groupText (fieldIf "max-ref-age-ms" number o ∷ [])
 unfolding quoted escapedByte bytesOf
 age-text none = refl
 age-text (some z) = refl
 
-type-text : (b : Bool) → also "type" (cond b (wordText "branch") (wordText "tag")) ≡ groupText (field "type" (quotation (cond b (bytes "branch") (bytes "tag"))) ∷ [])
+pub type-text : (b : Bool) → also "type" (cond b (wordText "branch") (wordText "tag")) ≡ groupText (field "type" (quotation (cond b (bytes "branch") (bytes "tag"))) ∷ [])
 unfolding quoted escapedByte bytesOf
 type-text true = refl
 type-text false = refl
 
-record Bounds (r : Reference) : Type 0 where
-  snapshot : fits64 (r .snapshot) ≡ true
-  least : ifSome fits32 (r .minSnapshots) ≡ true
-  age : ifSome fits64 (r .maxSnapshotAge) ≡ true
-  refAge : ifSome fits64 (r .maxRefAge) ≡ true
+pub record Bounds (r : Reference) : Type 0 where
+  pub snapshot : fits64 (r .snapshot) ≡ true
+  pub least : ifSome fits32 (r .minSnapshots) ≡ true
+  pub age : ifSome fits64 (r .maxSnapshotAge) ≡ true
+  pub refAge : ifSome fits64 (r .maxRefAge) ≡ true
 
-bounds : (r : Reference) → referenceFits r ≡ true → Bounds r
+pub bounds : (r : Reference) → referenceFits r ≡ true → Bounds r
 unfolding referenceFits
 bounds r h =
     let k = parts (fits64 (r .snapshot)) (ifSome fits32 (r .minSnapshots) ∷ ifSome fits64 (r .maxSnapshotAge) ∷ ifSome fits64 (r .maxRefAge) ∷ []) h in
     record { snapshot = k .0; least = k .1 .0; age = k .1 .1 .0; refAge = k .1 .1 .1 .0 }
 
-kind-is : (b : Bool) → isOneOf (bytes "branch" ∷ bytes "tag" ∷ []) (cond b (bytes "branch") (bytes "tag")) ≡ true
+pub kind-is : (b : Bool) → isOneOf (bytes "branch" ∷ bytes "tag" ∷ []) (cond b (bytes "branch") (bytes "tag")) ≡ true
 kind-is true = refl
 kind-is false = refl
 
-kind-utf8 : (b : Bool) → isUtf8 (cond b (bytes "branch") (bytes "tag")) ≡ true
+pub kind-utf8 : (b : Bool) → isUtf8 (cond b (bytes "branch") (bytes "tag")) ≡ true
 unfolding isUtf8
 kind-utf8 true = refl
 kind-utf8 false = refl
 
-kind-made : (r : Reference) → kindFormed r ≡ true → cond (sameBytes (kindWord (r .kind)) (bytes "branch")) branch tag ≡ r .kind
+pub kind-made : (r : Reference) → kindFormed r ≡ true → cond (sameBytes (kindWord (r .kind)) (bytes "branch")) branch tag ≡ r .kind
 kind-made r h =
     by-either (eqb (r .kind) branch) (eqb (r .kind) tag && not (isSome (r .minSnapshots)) && not (isSome (r .maxSnapshotAge)))
     (λ p. ap (λ b. cond (sameBytes (cond b (bytes "branch") (bytes "tag")) (bytes "branch")) branch tag) p ∙ sym (eqb-true (r .kind) branch p))
@@ -242,8 +242,8 @@ module _ {version : ℕ} (v : Version version) where
   unfolding defects treeAt
   refs-fine-from schema seen [] place h a u = refl
   refs-fine-from schema seen (r ∷ l) place h a u =
-      ap (λ d. d ++ cond (isRepeated seen (textOf t)) [] (defects version schema false (OfKind HeldRef) (treeAt inner (referenceShow (r .reference)))) ++ rest (textOf t)) (own-name seen (r .name) place (b .name) fresh)
-      ∙ ap (λ d. d ++ rest (textOf t)) (by-test (λ d. d ≡ []) (isRepeated seen (textOf t)) (λ _. refl) (λ _. object-fine version HeldRef (referenceFields (r .reference)) (reference-names (r .reference) (b .reference) v) (reference-values (r .reference) (b .reference) v) schema inner))
+      ap (λ d. d ++ defects version schema false (OfKind HeldRef) (treeAt inner (referenceShow (r .reference))) ++ rest (textOf t)) (own-name seen (r .name) place (b .name) fresh)
+      ∙ ap (λ d. d ++ rest (textOf t)) (object-fine version HeldRef (referenceFields (r .reference)) (reference-names (r .reference) (b .reference) v) (reference-values (r .reference) (b .reference) v) schema inner)
       ∙ ap rest (text-read place (r .name))
       ∙ refs-fine-from schema (r .name ∷ seen) l next (and-right (refOk r) (all refOk l) h) (and-right (all (refBelow r) l) (ascending refBelow l) a) (unseen-more seen r l (and-left (all (refBelow r) l) (ascending refBelow l) a) (and-right (not (isOneOf seen (r .name))) (unseen seen l) u))
     where

@@ -53,7 +53,7 @@ false-good : Good 0 falseToken
 unfolding isSpace isDigit partOf letters isScalar
 false-good = (record { begins = refl; noSpace = refl; ends = λ rest e. refl }, refl, refl, refl)
 
-false-fine : (version : ℕ) → FineIn version true (Single No) (some falseToken)
+pub false-fine : (version : ℕ) → FineIn version true (Single No) (some falseToken)
 unfolding defects treeAt
 false-fine version schema place = refl
 
@@ -62,7 +62,7 @@ unfolding quoted escapedByte bytesOf
 type-text true = refl
 type-text false = refl
 
-type-is : (b : Bool) → isOneOf (bytes "long" ∷ bytes "timestamp" ∷ []) (typeWord b) ≡ true
+pub type-is : (b : Bool) → isOneOf (bytes "long" ∷ bytes "timestamp" ∷ []) (typeWord b) ≡ true
 type-is true = refl
 type-is false = refl
 
@@ -79,13 +79,13 @@ type-made t h =
 abbrev pub columnOk : SchemaField → Bool
 columnOk f = schemaFieldFormed f && fieldFits f && isUtf8 (f .name)
 
-record ColumnBounds (f : SchemaField) : Type 0 where
-  id : fits32 (f .id) ≡ true
-  kind : fieldTypeFormed (f .fieldType) ≡ true
-  name : leb (length (f .name)) nameRoom ≡ true
-  isText : isUtf8 (f .name) ≡ true
+pub record ColumnBounds (f : SchemaField) : Type 0 where
+  pub id : fits32 (f .id) ≡ true
+  pub kind : fieldTypeFormed (f .fieldType) ≡ true
+  pub name : leb (length (f .name)) nameRoom ≡ true
+  pub isText : isUtf8 (f .name) ≡ true
 
-column-bounds : (f : SchemaField) → columnOk f ≡ true → ColumnBounds f
+pub column-bounds : (f : SchemaField) → columnOk f ≡ true → ColumnBounds f
 column-bounds f h =
     let k = parts (schemaFieldFormed f) (fieldFits f ∷ isUtf8 (f .name) ∷ []) h in
     let l = parts (atLeastOne (f .id)) (fieldTypeFormed (f .fieldType) ∷ nameFormed (f .name) ∷ []) (k .0) in
@@ -130,7 +130,7 @@ module _ (f : SchemaField) (b : ColumnBounds f) where
         name = text-by "name" (columnFields f) place (f .name) (refl, refl) i;
       }
 
-column-shown : (depth : ℕ) → depth ≤ 8 → {version : ℕ} → Version version → (f : SchemaField) → columnOk f ≡ true → Shown version depth (OfKind HeldField) fieldOf fieldText columnShow f
+pub column-shown : (depth : ℕ) → depth ≤ 8 → {version : ℕ} → Version version → (f : SchemaField) → columnOk f ≡ true → Shown version depth (OfKind HeldField) fieldOf fieldText columnShow f
 unfolding treeAt
 column-shown depth d {version} v f h =
     let b = column-bounds f h in
@@ -229,11 +229,11 @@ unfolding quoted escapedByte bytesOf
 nulls-text true = refl
 nulls-text false = refl
 
-direction-is : (b : Bool) → isOneOf (bytes "asc" ∷ bytes "desc" ∷ []) (directionWord b) ≡ true
+pub direction-is : (b : Bool) → isOneOf (bytes "asc" ∷ bytes "desc" ∷ []) (directionWord b) ≡ true
 direction-is true = refl
 direction-is false = refl
 
-nulls-is : (b : Bool) → isOneOf (bytes "nulls-first" ∷ bytes "nulls-last" ∷ []) (nullsWord b) ≡ true
+pub nulls-is : (b : Bool) → isOneOf (bytes "nulls-first" ∷ bytes "nulls-last" ∷ []) (nullsWord b) ≡ true
 nulls-is true = refl
 nulls-is false = refl
 
@@ -260,12 +260,12 @@ nulls-made (suc (suc n)) h = absurd (let k : suc (suc n) ≤ 1 = leb-true (suc (
 abbrev pub sortFieldOk : SortField → Bool
 sortFieldOk f = sortFieldFormed f && sortFieldFits f
 
-record SortBounds (f : SortField) : Type 0 where
-  source : fits32 (f .source) ≡ true
-  direction : leb (f .direction) 1 ≡ true
-  nulls : leb (f .nulls) 1 ≡ true
+pub record SortBounds (f : SortField) : Type 0 where
+  pub source : fits32 (f .source) ≡ true
+  pub direction : leb (f .direction) 1 ≡ true
+  pub nulls : leb (f .nulls) 1 ≡ true
 
-sort-bounds : (f : SortField) → sortFieldOk f ≡ true → SortBounds f
+pub sort-bounds : (f : SortField) → sortFieldOk f ≡ true → SortBounds f
 sort-bounds f h =
     let k = parts (atLeastOne (f .source)) (leb (f .direction) 1 ∷ leb (f .nulls) 1 ∷ []) (and-left (sortFieldFormed f) (sortFieldFits f) h) in
     record { source = and-right (sortFieldFormed f) (sortFieldFits f) h; direction = k .1 .0; nulls = k .1 .1 .0 }
@@ -310,7 +310,7 @@ module _ (f : SortField) (b : SortBounds f) where
         nulls = (ap (λ w. cond (sameBytes w (bytes "nulls-first")) 0 1) (text-by "null-order" (sortFields f) place (nullsWord (eqb (f .nulls) 0)) (refl, refl)) ∙ nulls-made (f .nulls) (b .nulls)) i;
       }
 
-sort-shown : {version : ℕ} → Version version → (f : SortField) → sortFieldOk f ≡ true → Shown version 4 (OfKind HeldSortField) sortFieldOf sortFieldText sortShow f
+pub sort-shown : {version : ℕ} → Version version → (f : SortField) → sortFieldOk f ≡ true → Shown version 4 (OfKind HeldSortField) sortFieldOf sortFieldText sortShow f
 unfolding treeAt
 sort-shown {version} v f h =
     let b = sort-bounds f h in

@@ -81,7 +81,7 @@ snapshot-length v s h = snapshot-size s (snapshot-facts s h) v
 
 -- ---- references
 
-kind-length : (b : Bool) → length (quoted (cond b (bytes "branch") (bytes "tag"))) ≤ 8
+pub kind-length : (b : Bool) → length (quoted (cond b (bytes "branch") (bytes "tag"))) ≤ 8
 unfolding quoted escapedByte
 kind-length true = omega arith
 kind-length false = omega arith
@@ -169,7 +169,7 @@ unfolding quoted escapedByte
 nulls-length true = omega arith
 nulls-length false = omega arith
 
-sort-length : (f : SortField) → (sortFieldFormed f && sortFieldFits f) ≡ true → length (bytesOf (sortShow f)) ≤ 93
+pub sort-length : (f : SortField) → (sortFieldFormed f && sortFieldFits f) ≡ true → length (bytesOf (sortShow f)) ≤ 93
 unfolding quoted escapedByte bytesOf
 sort-length f h =
     let p = parts (atLeastOne (f .source)) (leb (f .direction) 1 ∷ leb (f .nulls) 1 ∷ []) (and-left (sortFieldFormed f) (sortFieldFits f) h) in
@@ -195,7 +195,7 @@ held-length aMonth h = omega arith
 held-length aDay h = omega arith
 held-length (aBucket n p) h = let k : n ≤ 2147483647 = leb-true n 2147483647 h in omega (arith, length-append (digitsIn 20 n) (93 ∷ 34 ∷ []), digits-length 20 9 n (omega arith))
 
-transform-length : (t : ℕ) (n : ℤ) → transformFormed t n ≡ true → leZ n (pos 2147483647) ≡ true → length (quoted (transformWord t n)) ≤ 20
+pub transform-length : (t : ℕ) (n : ℤ) → transformFormed t n ≡ true → leZ n (pos 2147483647) ≡ true → length (quoted (transformWord t n)) ≤ 20
 transform-length t n h k = omega (arith, ap length (transform-written t n h k .written), held-length (held t n h) k)
 
 -- one that is held has an id

@@ -83,23 +83,23 @@ module _ (version : ℕ) (s : Snapshot) where
       (parent-text (s .parent), (since-text 2 version (also "sequence-number" (numberText (s .sequence .0))) (field "sequence-number" (number (s .sequence .0)) ∷ []) refl, (refl, (since-text 3 version (rowsText (s .rows)) (fieldIf "first-row-id" firstRow (s .rows) ∷ fieldIf "added-rows" addedRows (s .rows) ∷ []) (rows-text (s .rows)), tt))))
 
 -- the bounds, one by one
-record Bounds (s : Snapshot) : Type 0 where
-  id : fits64 (s .id) ≡ true
-  parent : ifSome fits64 (s .parent) ≡ true
-  sequence : fits64 (s .sequence .0) ≡ true
-  time : fits64 (s .time) ≡ true
-  rows : ifSome rangeFits (s .rows) ≡ true
+pub record Bounds (s : Snapshot) : Type 0 where
+  pub id : fits64 (s .id) ≡ true
+  pub parent : ifSome fits64 (s .parent) ≡ true
+  pub sequence : fits64 (s .sequence .0) ≡ true
+  pub time : fits64 (s .time) ≡ true
+  pub rows : ifSome rangeFits (s .rows) ≡ true
 
-bounds : (s : Snapshot) → snapshotFits s ≡ true → Bounds s
+pub bounds : (s : Snapshot) → snapshotFits s ≡ true → Bounds s
 unfolding snapshotFits
 bounds s h =
     let k = parts (fits64 (s .id)) (ifSome fits64 (s .parent) ∷ fits64 (s .sequence .0) ∷ fits64 (s .time) ∷ ifSome rangeFits (s .rows) ∷ []) h in
     record { id = k .0; parent = k .1 .0; sequence = k .1 .1 .0; time = k .1 .1 .1 .0; rows = k .1 .1 .1 .1 .0 }
 
-first-fits : (r : RowRange) → rangeFits r ≡ true → fitsUnsigned (r .first .0) ≡ true
+pub first-fits : (r : RowRange) → rangeFits r ≡ true → fitsUnsigned (r .first .0) ≡ true
 first-fits r h = and-left (fitsUnsigned (r .first .0)) (fitsUnsigned (r .added)) h
 
-added-fits : (r : RowRange) → rangeFits r ≡ true → fitsUnsigned (r .added) ≡ true
+pub added-fits : (r : RowRange) → rangeFits r ≡ true → fitsUnsigned (r .added) ≡ true
 added-fits r h = and-right (fitsUnsigned (r .first .0)) (fitsUnsigned (r .added)) h
 
 module _ (s : Snapshot) where
@@ -122,7 +122,7 @@ module _ (s : Snapshot) where
   snapshot-utf8 two = refl
   snapshot-utf8 three = refl
 
-  range-fine : (version : ℕ) (f : RowRange → ℕ) → ((r : RowRange) → rangeFits r ≡ true → fitsUnsigned (f r) ≡ true) → ifSome rangeFits (s .rows) ≡ true → FineIn version false unsigned64 (mapped (λ (r : RowRange). number (pos (f r))) (s .rows))
+  pub range-fine : (version : ℕ) (f : RowRange → ℕ) → ((r : RowRange) → rangeFits r ≡ true → fitsUnsigned (f r) ≡ true) → ifSome rangeFits (s .rows) ≡ true → FineIn version false unsigned64 (mapped (λ (r : RowRange). number (pos (f r))) (s .rows))
   range-fine version f g h = mapped-fine version false unsigned64 (λ (r : RowRange). number (pos (f r))) (s .rows) (λ r e. fine-unsigned version false (f r) (g r (if-there rangeFits (s .rows) h r e)))
 
   range-good : (depth : ℕ) (f : RowRange → ℕ) → ((r : RowRange) → rangeFits r ≡ true → fitsUnsigned (f r) ≡ true) → ifSome rangeFits (s .rows) ≡ true → OptionGood depth (mapped (λ (r : RowRange). number (pos (f r))) (s .rows))

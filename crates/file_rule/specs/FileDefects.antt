@@ -165,11 +165,12 @@ module _ (version : ℕ) where
         ++ elim (rowFor rows seen t) [ none ↦ [] | some r ↦ defects schema (r .ofSchema) (r .shape) x ]
         ++ memberDefects schema kind rows (withName seen (textOf t)) ms
 
+    -- Every value is judged, also that of a name that stands twice: what is wrong with it stands behind the name, which is refused, so the answer is the same.
     pub namedDefects : ℕ → FileShape → List (List ℕ) → Members → List Defect
     namedDefects schema each seen noMember = []
     namedDefects schema each seen (bareName t) = ownNameDefects seen t
     namedDefects schema each seen (member t x ms) =
-        ownNameDefects seen t ++ cond (isRepeated seen (textOf t)) [] (defects schema false each x) ++ namedDefects schema each (withName seen (textOf t)) ms
+        ownNameDefects seen t ++ defects schema false each x ++ namedDefects schema each (withName seen (textOf t)) ms
 
 abbrev pub treeDefects : Option Json → List Defect
 treeDefects none = []

@@ -1,7 +1,7 @@
 // Whether a metadata file can show what metadata holds: sequence numbers, row ids, owners, and texts that are UTF-8.
 // Document 02 decides, requests (vii) and (xi), as the crate `file_rule` writes it in Export.
-mod character;
-mod table;
+pub mod character;
+pub mod table;
 
 ghost use mathlib.Core.Path.{_≡_};
 ghost use mathlib.Core.Bool.{_&&_, _||_};

@@ -85,7 +85,7 @@ pub fn log_named(t: MetadataLog) -> bool
     ok
 }
 
-fn schema_named(t: Schema) -> bool
+pub fn schema_named(t: Schema) -> bool
     ensures { λ r. ⌜ r ≡ all fieldNamed (readSchema t .fields) ⌝ }
 {
     let n = t.count;
@@ -121,7 +121,7 @@ pub fn schemas_named(t: Schemas) -> bool
     ok
 }
 
-fn spec_named(t: PartitionSpec) -> bool
+pub fn spec_named(t: PartitionSpec) -> bool
     ensures { λ r. ⌜ r ≡ all partitionNamed (readPartitionSpec t .fields) ⌝ }
 {
     let n = t.count;

@@ -33,7 +33,7 @@ use Rattle.file_tables.specs.Parts.{ofFields, ofSchemas, ofSpecs, ofSnap
 
 -- ---- members that may be absent, and words
 
-also-if : (w : Bool) (name : String) (x : ℤ) → onlyIf w (also name (numberText x)) ≡ alsoIf name numberText (given w x)
+pub also-if : (w : Bool) (name : String) (x : ℤ) → onlyIf w (also name (numberText x)) ≡ alsoIf name numberText (given w x)
 also-if true name x = refl
 also-if false name x = refl
 
@@ -43,7 +43,7 @@ rows-if true false r = refl
 rows-if false true r = refl
 rows-if false false r = refl
 
-either : (w : Bool) (front a b : List ℕ) → cond w (front ++ a) (front ++ b) ≡ front ++ cond w a b
+pub either : (w : Bool) (front a b : List ℕ) → cond w (front ++ a) (front ++ b) ≡ front ++ cond w a b
 either true front a b = refl
 either false front a b = refl
 

@@ -190,7 +190,7 @@ pub fn put_field(buffer: &mut [u8], at: usize, f: SchemaField) -> usize
     )
 }
 
-fn put_transform(buffer: &mut [u8], at: usize, transform: u8, buckets: Buckets) -> usize
+pub fn put_transform(buffer: &mut [u8], at: usize, transform: u8, buckets: Buckets) -> usize
     ensures { λ r. ⌜ Puts (now (buffer .entry)) at (transformText transform (buckets .0)) r (now (buffer .exit)) ⌝ }
 {
     let other = !((transform == IDENTITY)

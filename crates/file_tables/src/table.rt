@@ -262,7 +262,7 @@ fn put_sort_fields(buffer: &mut [u8], at: usize, t: SortOrder) -> usize
     to
 }
 
-fn put_order(buffer: &mut [u8], at: usize, o: SortOrder) -> usize
+pub fn put_order(buffer: &mut [u8], at: usize, o: SortOrder) -> usize
     ensures { λ r. ⌜ Puts (now (buffer .entry)) at (orderText (readSortOrder o)) r (now (buffer .exit)) ⌝ }
 {
     let at = put_number(buffer, at, true, b"{\"order-id\":", of_order(o.order_id));

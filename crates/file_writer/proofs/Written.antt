@@ -20,20 +20,20 @@ use Rattle.file_writer.specs.declared.Exported.{Exported}
 use Rattle.file_writer.specs.Answer.{fits, writtenOf, bytesOf, writeAnswer, writeBytes}
 
 module _ (text buffer : List ℕ) {r : ℕ} (e : r ≡ past 0 (length text)) where
-  too-long : length buffer < r → fits text buffer ≡ false
+  pub too-long : length buffer < r → fits text buffer ≡ false
   too-long h =
       lt-leb (length text) (length buffer)
       (cases (ltb (length text) 18446744073709551616)
       (λ t. let k = ltb-true (length text) 18446744073709551616 t in omega (arith, e ∙ sym (past-exact 0 (length text) (omega arith))))
       (λ t. let k = ltb-false (length text) 18446744073709551616 t in omega (arith, e ∙ sym (past-last 0 (length text) (omega arith)))))
 
-  short-enough : r ≤ length buffer → length buffer < 2 ^ 63 → length text ≤ length buffer
+  pub short-enough : r ≤ length buffer → length buffer < 2 ^ 63 → length text ≤ length buffer
   short-enough h m =
       cases (ltb (length text) 18446744073709551616)
       (λ t. let k = ltb-true (length text) 18446744073709551616 t in omega (arith, e ∙ sym (past-exact 0 (length text) (omega arith))))
       (λ t. let k = ltb-false (length text) 18446744073709551616 t in absurd (omega (arith, e ∙ sym (past-last 0 (length text) (omega arith)))))
 
-put-whole : (text : List ℕ) {buffer after : List ℕ} {r : ℕ} → Puts buffer 0 text r after → length text ≤ length buffer → length buffer < 2 ^ 63 → (r ≡ length text) × (after ≡ text ++ drop (length text) buffer)
+pub put-whole : (text : List ℕ) {buffer after : List ℕ} {r : ℕ} → Puts buffer 0 text r after → length text ≤ length buffer → length buffer < 2 ^ 63 → (r ≡ length text) × (after ≡ text ++ drop (length text) buffer)
 put-whole text {buffer} x h m =
     let z : 0 + length text ≡ length text = omega arith in
     (x .ends ∙ sym (past-exact 0 (length text) (omega arith)) ∙ z, x .bytes (omega arith) (omega arith) ∙ sets-eq text buffer 0 (omega arith) ∙ ap (λ (n : ℕ). text ++ drop n buffer) z)

@@ -1,7 +1,10 @@
-// A list of updates as published JSON, read by C linkage, at once or in parts of a length, to time it beside other readers.
+// A list of updates as published JSON, read by C linkage, at once or in parts of a length, and a metadata file, to time them beside other readers.
 // The bytes that the updates offer are left where the caller lends room for them. The list stays here: a record of that length has no place in a signature.
 // What is told of it is how many updates it has, and the kind of the last.
 ghost use Prim.Native.Nat.{_≤_, _<_};
+use file_export::export;
+use file_import::Imported;
+use file_import::import;
 use json_list::Answer;
 use json_list::end;
 use json_list::feed;
@@ -65,4 +68,46 @@ pub extern "C" fn json_updates(text: &[u8], part: usize, offers: &mut [u8; OFFER
         at = next;
     }
     told(end(reader, offers))
+}
+
+// What a metadata file comes to: the number of the answer, how many snapshots its metadata has, and the place of a refusal, or else how many members were
+// skipped.
+#[repr(C)]
+pub struct FileRead {
+    pub number: u8,
+    pub snapshots: u8,
+    pub place: usize,
+}
+
+fn told_of(read: Imported) -> FileRead {
+    let metadata = read.metadata;
+    let count = metadata.snapshots.count;
+    let mut place = read.place;
+    if read.number == 0 {
+        place = read.skipped;
+    }
+    FileRead {
+        number: read.number,
+        snapshots: (count % 256) as u8,
+        place,
+    }
+}
+
+#[no_mangle]
+pub extern "C" fn json_file(text: &[u8]) -> FileRead {
+    told_of(import(text))
+}
+
+// A file that is read, and written into a buffer: the place is how many bytes were written.
+#[no_mangle]
+pub extern "C" fn json_copy(text: &[u8], buffer: &mut [u8]) -> FileRead {
+    let read = import(text);
+    let metadata = read.metadata;
+    let count = metadata.snapshots.count;
+    let written = export(metadata, buffer);
+    FileRead {
+        number: written.number,
+        snapshots: (count % 256) as u8,
+        place: written.length,
+    }
 }

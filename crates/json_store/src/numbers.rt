@@ -1,6 +1,6 @@
 // Numbers in slots: a magnitude, and so far behind it 1 where the number is below 0.
 ghost use mathlib.Core.Path.{_≡_};
-ghost use Rattle.json_store.specs.Numbers.{putNumber, magnitudeAt, negativeAt, signedOf, numberAt, narrowAt, lowAt, byteAt, countAt, copied};
+ghost use Rattle.json_store.specs.Numbers.{putNumber, magnitudeAt, negativeAt, signedOf, numberAt, narrowed as narrowedOf, narrowAt, lowAt, byteAt, countAt, copied};
 
 // There is one for each spot; behind those stand the number of a bucket and the elements of lists.
 pub const BUCKETS: usize = 63;
@@ -58,7 +58,7 @@ pub fn is_negative_at(numbers: &Numbers, at: usize) -> bool
 }
 
 // A magnitude with its sign; 0 where it does not fit. What lies below 0 is counted from -1, as there is no magnitude of the lowest number.
-fn signed(negative: bool, magnitude: u64) -> Whole
+pub fn signed(negative: bool, magnitude: u64) -> Whole
     ensures { λ r. ⌜ r .0 ≡ signedOf negative magnitude ⌝ }
 {
     if negative {
@@ -84,11 +84,10 @@ pub fn number_at(numbers: &Numbers, at: usize) -> Whole
 }
 
 // Of 32 bits; 0 where it does not fit.
-pub fn narrow_at(numbers: &Numbers, at: usize) -> Narrow
-    ensures { λ r. ⌜ r .0 ≡ narrowAt (now (numbers .entry)) at ⌝ }
+pub fn narrowed(whole: Whole) -> Narrow
+    ensures { λ r. ⌜ r .0 ≡ narrowedOf (whole .0) ⌝ }
 {
-    let z = number_at(numbers, at);
-    let n = z.0;
+    let n = whole.0;
     if n < -2147483648 {
         return Narrow(0);
     }
@@ -96,6 +95,12 @@ pub fn narrow_at(numbers: &Numbers, at: usize) -> Narrow
         return Narrow(0);
     }
     Narrow(n as i32)
+}
+
+pub fn narrow_at(numbers: &Numbers, at: usize) -> Narrow
+    ensures { λ r. ⌜ r .0 ≡ narrowAt (now (numbers .entry)) at ⌝ }
+{
+    narrowed(number_at(numbers, at))
 }
 
 // The lowest 32 bits; one below 0 is told by what it lacks to 2^32.

@@ -51,7 +51,7 @@ fn quoted(rest: &[u8]) -> usize
 }
 
 // A text as it stands behind the quote at a place.
-fn say_quoted(output: &mut Output, end: &mut usize, text: &[u8], quote: usize) {
+pub fn say_quoted(output: &mut Output, end: &mut usize, text: &[u8], quote: usize) {
     let from = lent(text, wrapping_add_usize(quote, 1));
     let rest = &text[from..];
     let len = quoted(rest);
@@ -59,7 +59,7 @@ fn say_quoted(output: &mut Output, end: &mut usize, text: &[u8], quote: usize) {
 }
 
 // A position in a list, or a name in an object.
-fn say_step(output: &mut Output, end: &mut usize, text: &[u8], path: &Path, depth: usize) {
+pub fn say_step(output: &mut Output, end: &mut usize, text: &[u8], path: &Path, depth: usize) {
     let key = key_of(path, depth);
     if is_list(path, depth) {
         let card = Card::of_numbers([0; 8], [key as u64, 0]);
@@ -80,7 +80,7 @@ fn say_path(output: &mut Output, end: &mut usize, text: &[u8], path: &Path) {
     }
 }
 
-fn say_spot(output: &mut Output, end: &mut usize, text: &[u8], path: &Path, place: usize) {
+pub fn say_spot(output: &mut Output, end: &mut usize, text: &[u8], path: &Path, place: usize) {
     let template = b"?0{line %0, column %1|byte %0}";
     let card = spot_card(path, place, place <= text.len());
     say_part(output, end, template, 0, 0, card);

@@ -7,13 +7,22 @@ use case_reader::run::read_run;
 use commands::advance;
 use commands::begin;
 use commands::list::read_list;
+use commands::read_tour;
 use commands::tell::put_answer_of;
 use commands::turn::ASKED;
+use commands::turn::AUDIT;
 use commands::turn::CLOSED;
+use commands::turn::CURRENT;
 use commands::turn::END;
+use commands::turn::EXPIRE;
 use commands::turn::EXPIRED;
+use commands::turn::EXPORT;
+use commands::turn::FILED;
+use commands::turn::IMPORT;
 use commands::turn::JUDGED;
 use commands::turn::LISTED;
+use commands::turn::NONE;
+use commands::turn::REPLAY;
 use commands::turn::RUN;
 use commands::turn::SHOWN;
 use commands::turn::Turn;
@@ -46,10 +55,11 @@ use tokens::input::empty_input;
 use tokens::input::is_good;
 use tokens::input::piece_of;
 use tokens::input::start;
+use tokens::output::OUTPUT;
 use tokens::output::Output;
 use tokens::output::empty_output;
 use tokens::output::flush;
-use verdict::Verdict;
+use verdict::judge_answer;
 
 // The metadata as it is, with no changes: what is answered before the first call.
 fn unasked(metadata: TableMetadata) -> Answer {
@@ -154,32 +164,12 @@ fn run(
     }
 }
 
-fn judge(
-    text: LimitText,
-    m: TableMetadata,
-    us: UpdateList,
-    terms: RunTerms,
-    offers: &[u8],
-    ending: TableMetadata,
-) -> Verdict {
-    let bytes = text.bytes;
-    let slots: &[u8] = &bytes;
-    let len = lent(slots, text.len);
-    verdict::judge(m, us, terms, &slots[..len], offers, ending)
-}
-
-// What was read of a bad question is judged too, and its verdict is not said.
+// What was read of a bad question is judged too, and its verdict is not said. The ending is read behind the run, so that less stack is needed.
 fn read_judged(first: u64, input: &mut Input, place: &mut Place, offers: &mut [u8]) -> Judged {
     let run = read_run(first, input, place, offers);
+    let answer = ask(run.limit, run.metadata, run.updates, run.terms, &offers[..]);
     let ending = read_ending(run.given, input, place);
-    let verdict = judge(
-        run.limit,
-        run.metadata,
-        run.updates,
-        run.terms,
-        &offers[..],
-        ending,
-    );
+    let verdict = judge_answer(answer, ending);
     let fault = fault_of(verdict.number, run.metadata, run.terms);
     let difference = verdict.difference;
     let tolerance_ms = run.terms.tolerance_ms;
@@ -283,8 +273,92 @@ fn answer(
     }
 }
 
+// What asks one metadata file alone.
+fn go_by_one(
+    command: usize,
+    line: &[u8],
+    offers: &mut [u8; OFFERS],
+    input: &mut Input,
+    place: &mut Place,
+    output: &mut Output,
+    end: &mut usize,
+) {
+    match command {
+        RUN => file_runs::session::run(line, offers, input, place, output, end),
+        EXPIRE => file_runs::expire::expire(line, input, place, output, end),
+        CURRENT => file_commands::moments::current(line, input, place, output, end),
+        IMPORT => file_commands::import::import(line, input, place, output, end),
+        EXPORT => file_commands::export::export(line, input, place, output, end),
+        AUDIT => file_runs::audit::end_page(line, input, place, output, end),
+        _ => {}
+    }
+}
+
+// A command that goes by files, by the words of its line.
+fn go_by_files(
+    command: usize,
+    line: &[u8],
+    offers: &mut [u8; OFFERS],
+    input: &mut Input,
+    place: &mut Place,
+    output: &mut Output,
+    end: &mut usize,
+) {
+    if command == REPLAY {
+        file_runs::replay::replay(line, offers, input, place, output, end);
+    } else if command == AUDIT {
+        if file_runs::audit::begin(line, offers, input, place, output, end) {
+            go_by_one(command, line, offers, input, place, output, end);
+            write_out(output, end);
+        }
+    } else {
+        go_by_one(command, line, offers, input, place, output, end);
+    }
+}
+
+// What waits is written out.
+fn write_out(output: &Output, end: &mut usize) {
+    flush(output, *end);
+    *end = 0;
+}
+
+// What waits is written out where it is much.
+fn write_half(output: &Output, end: &mut usize) {
+    if *end > OUTPUT / 2 {
+        write_out(output, end);
+    }
+}
+
+// The program's own line is the empty one.
+fn answer_files(
+    turn: Turn,
+    offers: &mut [u8; OFFERS],
+    input: &mut Input,
+    place: &mut Place,
+    output: &mut Output,
+    end: &mut usize,
+) {
+    let mut line = io::buffer();
+    if turn.line < NONE {
+        let len = read_tour(turn.line, &mut line);
+        go_by_files(
+            turn.command,
+            &line[..len],
+            offers,
+            input,
+            place,
+            output,
+            end,
+        );
+    } else {
+        go_by_files(turn.command, b"", offers, input, place, output, end);
+        write_out(output, end);
+    }
+}
+
 // The steps are counted since nothing says that an input ends; no run uses them up. What a step reads and what is answered to it
-// stand beside each other, and not one below the other, so that less stack is needed.
+// stand beside each other, and not one below the other, so that less stack is needed. For the same reason some are called from two places: what is called
+// from one alone is compiled as a part of its caller, and its stack lies below all that the caller calls.
 fn main() {
     let mut turn = begin();
     let mut input = empty_input();
@@ -294,16 +368,43 @@ fn main() {
     let mut end: usize = 0;
     let mut left = u64::MAX;
     while left > 0 && turn.wanted != END {
-        answer(
-            turn,
-            &mut input,
-            &mut place,
-            &mut offers,
-            &mut output,
-            &mut end,
-        );
-        if turn.wanted == EXPIRED {
+        if turn.line < NONE {
+            write_out(&output, &mut end);
+            answer(
+                turn,
+                &mut input,
+                &mut place,
+                &mut offers,
+                &mut output,
+                &mut end,
+            );
+        } else {
+            answer(
+                turn,
+                &mut input,
+                &mut place,
+                &mut offers,
+                &mut output,
+                &mut end,
+            );
+            write_half(&output, &mut end);
+        }
+        if turn.wanted == EXPIRED && turn.line < NONE {
+            write_out(&output, &mut end);
             expire(turn, &mut input, &mut place, &mut output, &mut end);
+        } else if turn.wanted == EXPIRED {
+            expire(turn, &mut input, &mut place, &mut output, &mut end);
+            write_half(&output, &mut end);
+        }
+        if turn.wanted == FILED {
+            answer_files(
+                turn,
+                &mut offers,
+                &mut input,
+                &mut place,
+                &mut output,
+                &mut end,
+            );
         }
         turn = advance(turn, &mut input, &mut place, &mut output, &mut end);
         left -= 1;

@@ -1,8 +1,10 @@
-// The cases of the case format but the runs: walks, small functions, the snapshot at a time, rows apart, expiries, lists of updates as JSON; walks
-// made again and again, to time them; and the date of a time. Each is read, and its answer written in numbers.
+// The cases of the case format but the runs: walks, small functions, the snapshot at a time, rows apart, expiries, lists of updates as JSON, metadata files;
+// walks made again and again, to time them; and the date of a time. Each is read, and its answer written in numbers.
 // Nothing is refused but what can not be read.
 // The page of the case format decides.
 use expiries::asked::EXPIRY;
+use file_cases::export::EXPORT;
+use file_cases::import::IMPORT;
 use tokens::input::Input;
 use tokens::input::Place;
 use tokens::input::spoil;
@@ -17,7 +19,7 @@ mod rows;
 mod walks;
 
 // The highest kind of a case.
-pub const KINDS: u64 = 20;
+pub const KINDS: u64 = 22;
 
 // Those that are worth being timed: walks over ids, and over records.
 pub const WALK_OVER_IDS: u64 = 2;
@@ -45,6 +47,8 @@ pub fn answer(
         11 => rows::rows_apart(input, place, output, end),
         EXPIRY => expiries::list::answer(input, place, output, end),
         LIST => update_lists::case::answer(input, place, output, end),
+        IMPORT => file_cases::import::answer(input, place, output, end),
+        EXPORT => file_cases::export::answer(input, place, output, end),
         _ => spoil(place, CASE, KINDS),
     }
 }

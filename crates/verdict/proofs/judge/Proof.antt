@@ -1,22 +1,11 @@
 -- The two ways that the run can go; what the run answers is put in place of the rules' answer.
-use mathlib.Core.Path.{_≡_, ap, _∙_}
+use mathlib.Core.Path.{ap, _∙_}
 use borrow.Author.Needs.{needs}
-use borrow.Author.Tests.{eq-eqb, ne-eqb}
-use Rattle.records.specs.declared.metadata.TableMetadata.{TableMetadata}
 use Rattle.records.specs.declared.run.Answer.{Answer}
-use Rattle.compare.specs.Parts.{firstDifference, noDifference}
 use Rattle.verdict.specs.Judged.{judged, verdict}
+use Rattle.verdict.proofs.Answered.{refused, compared}
 use Rattle.verdict.proofs.judge.Statement.{statement}
 use Rattle.verdict.proofs.judge.Tie as tie
-
-module _ (a : Answer) (ending : TableMetadata) where
-  refused : (a .number ≡ 0 → ⊥) → record { number = a .number; place = a .place; difference = noDifference } ≡ judged a ending
-  unfolding judged
-  refused n = rw (ne-eqb (a .number) 0 n)
-
-  compared : a .number ≡ 0 → record { number = a .number; place = a .place; difference = firstDifference (a .metadata) ending } ≡ judged a ending
-  unfolding judged
-  compared z = rw (eq-eqb (a .number) 0 z)
 
 pub judge-spec : {M : Type 1} → statement M
 unfolding verdict

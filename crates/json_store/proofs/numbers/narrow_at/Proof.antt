@@ -1,25 +1,12 @@
--- Where it fits.
-use borrow.Author.Needs.{needs, sfits-of}
-use mir.Facts.{toZ-ofZ}
-use mir.Syntax.{w64}
-use mir.Val.{SFits}
-use Rattle.json_store.proofs.Signed.{narrow-low, narrow-high, narrow-fits, narrow-same}
+-- What is read, in 32 bits.
+use borrow.Author.Needs.{needs}
 use Rattle.json_store.proofs.numbers.narrow_at.Statement.{statement}
 use Rattle.json_store.proofs.numbers.narrow_at.Tie as tie
-
-fits : (c : tie.After-struct-told) → SFits w64 (c .before .number-at .result .0)
-fits c = sfits-of (c .struct-told .given .0 .1)
 
 pub narrow-at-spec : {M : Type 1} → statement M
 narrow-at-spec =
     tie.close
     (tie.spec
     (λ c κs. search needs)
-    (λ c. rw (← c .before .before .number-at .ensures) (narrow-low _ (rw (toZ-ofZ (fits (c .before))) at (c .if1 .taken))))
-    (λ c. rw (← c .before .before .before .number-at .ensures) (narrow-high _ (rw (toZ-ofZ (fits (c .before .before))) at (c .if2 .taken))))
-    (λ c. rw (toZ-ofZ (fits (c .before .before))) (narrow-fits _ (rw (toZ-ofZ (fits (c .before .before))) at (c .before .if1 .left)) (rw (toZ-ofZ (fits (c .before .before))) at (c .if2 .left))))
-    (λ c.
-    let f = toZ-ofZ (fits (c .before .before)) in
-    let low = rw f at (c .before .if1 .left) in
-    let high = rw f at (c .if2 .left) in
-    rw (f, toZ-ofZ (narrow-fits (c .before .before .before .number-at .result .0) low high), ← c .before .before .before .number-at .ensures) (narrow-same _ low high)))
+    (λ c κs. search needs)
+    (λ c. rw (c .narrowed .ensures, c .before .number-at .ensures)))

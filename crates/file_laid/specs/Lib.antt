@@ -1,0 +1,2 @@
+-- What it is that metadata fits into its slots (Fits).
+pub mod Fits

@@ -1,0 +1,10 @@
+pub mod Numbers
+pub mod Standings
+pub mod Cells
+pub mod Faults
+pub mod Shapes
+pub mod Lacking
+pub mod Names
+pub mod Flags
+pub mod Lacks
+pub mod Judging

@@ -1,0 +1,2 @@
+-- Trees that differ in the order of neighbours (Order).
+pub mod Order

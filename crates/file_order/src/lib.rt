@@ -1,0 +1,2 @@
+// The order of members and of table records in a metadata file does not matter.
+// This crate has no code.

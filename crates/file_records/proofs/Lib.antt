@@ -1,0 +1,15 @@
+pub mod Said
+pub mod Texts
+pub mod Records
+pub mod Buckets
+pub mod Parts
+pub mod Sorting
+pub mod Places
+pub mod Named
+pub mod Keys
+pub mod Arranged
+pub mod Ordered
+pub mod Chosen
+pub mod Pointed
+pub mod Largest
+pub mod Singles

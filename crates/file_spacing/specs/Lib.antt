@@ -1,0 +1,2 @@
+-- Lexemes and trees but for their places (Places).
+pub mod Places

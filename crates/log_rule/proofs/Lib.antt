@@ -1,0 +1,2 @@
+-- What is true of the rule by computation.
+pub mod Examples

@@ -1,0 +1,2 @@
+-- What is answered to a log that is to be written.
+pub mod Answer
