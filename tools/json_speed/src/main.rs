@@ -1,4 +1,5 @@
 //! Times the proved reader of update lists as JSON against serde_json on the same texts, in one process.
+mod files;
 mod memory;
 mod texts;
 
@@ -168,7 +169,7 @@ fn measure(asked: Option<usize>) -> Result<(), String> {
     for text in &texts {
         println!("{}", memory_row(text));
     }
-    Ok(())
+    files::measure(asked)
 }
 
 /// One reader on one text again and again, for a profiler.

@@ -15,19 +15,22 @@ const SET_REF: u8 = 7;
 const REMOVE_PARTITION_SPECS: u8 = 20;
 
 /// Numbers that look like a catalogue's ids: the same in every process.
-struct Ids(u64);
+pub struct Ids(u64);
 
 impl Ids {
-    fn next(&mut self, below: u64) -> u64 {
+    pub fn new() -> Self {
+        Ids(0x9e3779b97f4a7c15)
+    }
+    pub fn next(&mut self, below: u64) -> u64 {
         self.0 ^= self.0 << 13;
         self.0 ^= self.0 >> 7;
         self.0 ^= self.0 << 17;
         self.0 % below
     }
-    fn id(&mut self) -> u64 {
+    pub fn id(&mut self) -> u64 {
         1_000_000_000_000_000_000 + self.next(8_000_000_000_000_000_000)
     }
-    fn uuid(&mut self) -> String {
+    pub fn uuid(&mut self) -> String {
         let (a, b) = (self.next(u64::MAX), self.next(u64::MAX));
         format!(
             "{:08x}-{:04x}-{:04x}-{:04x}-{:012x}",
@@ -58,7 +61,7 @@ fn listed(name: &str, updates: &[String], last: u8) -> Text {
 }
 
 /// What an append says of itself: texts all, as published.
-fn summary(ids: &mut Ids) -> String {
+pub fn summary(ids: &mut Ids) -> String {
     let (records, files) = (ids.next(90_000) + 10_000, ids.next(90) + 10);
     let (bytes, total) = (
         ids.next(900_000_000) + 100_000_000,
