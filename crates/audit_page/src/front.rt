@@ -4,14 +4,22 @@ use file_words::file::read_file_name;
 use plaintext::name::say_escaped;
 use plaintext::template::say_part;
 use plaintext::text::{say, say_line};
+use std::rt::HostRuntime;
 use tokens::output::Output;
 
 // One of the three files. Of metadata as JSON it is said how much of it is not held.
-pub fn say_file(output: &mut Output, end: &mut usize, line: &[u8], file: usize, skipped: usize) {
+pub fn say_file(
+    rt: HostRuntime,
+    output: &mut Output,
+    end: &mut usize,
+    line: &[u8],
+    file: usize,
+    skipped: usize,
+) {
     let mut name = io::buffer();
     let names =
         b"  last session's metadata:  \n  the stored change log:    \n  this session's metadata:  \n";
-    let len = read_file_name(line, file, &mut name);
+    let len = read_file_name(rt, line, file, &mut name);
     say_line(output, end, names, file);
     say_escaped(output, end, &name[..len], len);
     let card = counted(skipped, 0);

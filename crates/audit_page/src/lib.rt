@@ -2,6 +2,8 @@
 // plain words, made to be printed and signed.
 // Nothing is decided here: the verdict is that of the crate `verdict`, the moments are those of `moment`, whether a history is whole is asked of `histories`,
 // and whether row ranges are apart of `row_ranges`.
+#![tactic(auto)]
+
 pub mod first;
 pub mod front;
 pub mod second;

@@ -5,6 +5,7 @@ use histories::is_whole;
 use plaintext::text::{say, say_between};
 use records::metadata::TableMetadata;
 use records::snapshot::{SnapshotLog, Snapshots};
+use std::rt::HostRuntime;
 use tokens::output::Output;
 
 // The files before the days.
@@ -14,17 +15,18 @@ const FILES: usize = 3;
 const MOST: usize = 4096;
 
 fn say_days(
+    rt: HostRuntime,
     output: &mut Output,
     end: &mut usize,
     log: SnapshotLog,
     snapshots: Snapshots,
     line: &[u8],
 ) {
-    let n = count_files(line, MOST);
+    let n = count_files(rt, line, MOST);
     let mut i = FILES;
     while i < n {
         say(output, end, b"   ");
-        say_moment_at(output, end, log, snapshots, line, file_at(line, i));
+        say_moment_at(rt, output, end, log, snapshots, line, file_at(rt, line, i));
         i += 1;
     }
     if n <= FILES {
@@ -39,14 +41,27 @@ fn say_history(output: &mut Output, end: &mut usize, is_whole: bool) {
     say_between(output, end, words, b'|', is_whole as usize);
 }
 
-pub fn say_second(output: &mut Output, end: &mut usize, metadata: TableMetadata, line: &[u8]) {
+pub fn say_second(
+    rt: HostRuntime,
+    output: &mut Output,
+    end: &mut usize,
+    metadata: TableMetadata,
+    line: &[u8],
+) {
     let whole = is_whole(metadata);
     say(
         output,
         end,
         b"\n2. Which snapshot was current on each of these days, by this session's metadata?\n",
     );
-    say_days(output, end, metadata.snapshot_log, metadata.snapshots, line);
+    say_days(
+        rt,
+        output,
+        end,
+        metadata.snapshot_log,
+        metadata.snapshots,
+        line,
+    );
     say_history(output, end, whole);
     say(
         output,

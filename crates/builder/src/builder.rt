@@ -18,7 +18,7 @@ use records::metadata::SingleFields;
 use records::replies::{ACCEPTED, VERSION_LOWERED};
 use records::text::Text;
 
-#[derive(Drop)]
+#[derive(Clone, Copy)]
 pub struct TableMetadataBuilder {
     pub fields: SingleFields,
     pub has_own: bool,
@@ -32,7 +32,7 @@ pub struct TableMetadataBuilder {
 }
 
 // The number of the first failed check, whether the update took effect, and the state after it.
-#[derive(Drop)]
+#[derive(Clone, Copy)]
 pub struct Changed {
     pub number: u8,
     pub logs: bool,
@@ -40,7 +40,7 @@ pub struct Changed {
 }
 
 // The location is the trimmed one, as it is logged.
-#[derive(Drop)]
+#[derive(Clone, Copy)]
 pub struct LocationSet {
     pub logs: bool,
     pub location: Text,

@@ -39,7 +39,7 @@ fn is_last_added(id: Key, has_last: bool, last: Key) -> bool
 }
 
 // The number of the first check that fails; whether the chosen id is the current one; the id, and the one to log.
-#[derive(Drop)]
+#[derive(Clone, Copy)]
 pub struct Choice {
     pub number: u8,
     pub unchanged: bool,
@@ -68,7 +68,7 @@ pub fn choose_id(id: Key, has_last: bool, last: Key, current: Key, ids: &[i64]) 
 }
 
 // The id that an added one gets: that of a held equal one, if one is found, which may be the last added, else the next, unless ids are exhausted.
-#[derive(Drop)]
+#[derive(Clone, Copy)]
 pub struct AddedId {
     pub found: bool,
     pub exhausted: bool,

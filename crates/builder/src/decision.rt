@@ -14,7 +14,7 @@ use records::update::TableUpdate;
 
 // The number is that of the first check that fails, and the rest counts only where it is 0. Then `logs` says that the update took effect: the
 // builder and the entry are to be stored. `grows` says that the record of the entry is to be put into its table.
-#[derive(Drop)]
+#[derive(Clone, Copy)]
 pub struct Decision {
     pub number: u8,
     pub logs: bool,

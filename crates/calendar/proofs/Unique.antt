@@ -10,8 +10,11 @@ use Rattle.calendar.specs.declared.date.Dated.{Dated}
 use Rattle.calendar.specs.Answers.{DateOf}
 use Rattle.calendar.proofs.OneDate.{one_date}
 use Rattle.calendar.proofs.date.date_of as date-of
+use Rattle.calendar.specs.contracts.date.date_of as date_of_contract
 use Rattle.calendar.proofs.date.day_of as day-of
+use Rattle.calendar.specs.contracts.date.day_of as day_of_contract
 use Rattle.calendar.proofs.date.time_of as time-of
+use Rattle.calendar.specs.contracts.date.time_of as time_of_contract
 
 joined : (r s : Dated) → r.is_dated ≡ s.is_dated → r.date ≡ s.date → r ≡ s
 joined r s = whole r.is_dated r.date
@@ -30,17 +33,17 @@ one_answer time r s p q =
 pub date_of_unique : Unique date-of.Kinds.ps date-of.Kinds.r date-of.Reads.Post
 date_of_unique κs a x y s t p q = one_answer _ x y p q
 
-pub date_of_asks_nothing : AsksNothing date-of.signature (λ M. date-of.spec)
+pub date_of_asks_nothing : AsksNothing date_of_contract.signature (λ M 𝓤. date_of_contract.spec)
 date_of_asks_nothing M 𝓤 𝓛 mem run κs a = (tt, id⊢ 𝓤 (emp 𝓤))
 
 pub time_of_unique : Unique time-of.Kinds.ps time-of.Kinds.r time-of.Reads.Post
 time_of_unique κs a x y s t p q = p ∙ sym q
 
-pub time_of_asks_nothing : AsksNothing time-of.signature (λ M. time-of.spec)
+pub time_of_asks_nothing : AsksNothing time_of_contract.signature (λ M 𝓤. time_of_contract.spec)
 time_of_asks_nothing M 𝓤 𝓛 mem run κs a = (tt, id⊢ 𝓤 (emp 𝓤))
 
 pub day_of_unique : Unique day-of.Kinds.ps day-of.Kinds.r day-of.Reads.Post
 day_of_unique κs a x y s t p q = p ∙ sym q
 
-pub day_of_asks_nothing : AsksNothing day-of.signature (λ M. day-of.spec)
+pub day_of_asks_nothing : AsksNothing day_of_contract.signature (λ M 𝓤. day_of_contract.spec)
 day_of_asks_nothing M 𝓤 𝓛 mem run κs a = (tt, id⊢ 𝓤 (emp 𝓤))

@@ -35,7 +35,7 @@ pub record SinceYearOne (time : ℤ) (r : Since) : Type 0 where
 -- a date of the calendar whose time it is, of which there is one (proofs/OneDate); zeros where there is none
 pub record DateOf (time : ℤ) (r : Dated) : Type 0 where
   pub flag : r.is_dated ≡ is_within time
-  pub is_date_lem : r.is_dated ≡ true → is_date r.date ≡ true
+  pub is_date : r.is_dated ≡ true → is_date r.date ≡ true
   pub same : r.is_dated ≡ true → time_of r.date ≡ time
   pub none : r.is_dated ≡ false → r.date ≡ midnight 0 0 0
 

@@ -8,7 +8,7 @@ use crate::day::{days_before_month, days_before_year, is_leap, month_at, month_l
 use crate::shift::{since_epoch, since_year_one};
 use records::counters::Time;
 
-#[derive(Drop)]
+#[derive(Clone, Copy)]
 pub struct Date {
     pub year: u64,
     pub month: u64,
@@ -20,21 +20,21 @@ pub struct Date {
 }
 
 // The date of a time; zeros if the time is not within the years 1 to 9999.
-#[derive(Drop)]
+#[derive(Clone, Copy)]
 pub struct Dated {
     pub is_dated: bool,
     pub date: Date,
 }
 
 // The time of a date; 0 if the calendar does not have the date.
-#[derive(Drop)]
+#[derive(Clone, Copy)]
 pub struct Timed {
     pub is_timed: bool,
     pub time: Time,
 }
 
 // A day, from its first millisecond to its last; zeros if the calendar does not have it.
-#[derive(Drop)]
+#[derive(Clone, Copy)]
 pub struct Day {
     pub is_day: bool,
     pub first: Time,

@@ -17,7 +17,7 @@ const LAST: i64 = 253402300799999;
 pub const ALL: u64 = 315537897600000;
 
 // The milliseconds since 0001-01-01; 0 if the time is not within the years 1 to 9999.
-#[derive(Drop)]
+#[derive(Clone, Copy)]
 pub struct Since {
     pub is_within: bool,
     pub milliseconds: u64,

@@ -21,7 +21,7 @@ fn shape() -> Shape {
 }
 
 // A date to the second, and to the millisecond if that is not 0.
-#[derive(Drop)]
+#[derive(Clone, Copy)]
 pub struct DateText {
     pub bytes: Shape,
     pub len: usize,
@@ -50,14 +50,14 @@ pub fn text_of(date: Date) -> DateText {
     DateText { bytes, len }
 }
 
-fn is_digit_lem(byte: u8) -> bool {
+fn is_digit(byte: u8) -> bool {
     b'0' <= byte && byte <= b'9'
 }
 
 // Between the day and the hour a `T` may stand too.
 fn may_stand(place: u8, byte: u8) -> bool {
     if place == b'0' {
-        return is_digit_lem(byte);
+        return is_digit(byte);
     }
     if place == b' ' {
         if byte == b'T' {
@@ -138,7 +138,7 @@ fn no_time() -> Timed {
 }
 
 // How far the clock of a date is from UTC's, and where the text of the date ends.
-#[derive(Drop)]
+#[derive(Clone, Copy)]
 struct Offset {
     is_within: bool,
     is_ahead: bool,
@@ -164,11 +164,11 @@ fn has_offset_shape(zone: &[u8]) -> bool {
     }
     let is_signed = (zone[0] == b'+') | (zone[0] == b'-');
     is_signed
-        & is_digit_lem(zone[1])
-        & is_digit_lem(zone[2])
+        & is_digit(zone[1])
+        & is_digit(zone[2])
         & (zone[3] == b':')
-        & is_digit_lem(zone[4])
-        & is_digit_lem(zone[5])
+        & is_digit(zone[4])
+        & is_digit(zone[5])
 }
 
 // At most 23:59, ahead of UTC or behind it.

@@ -9,7 +9,7 @@ pub const SIGNED: usize = 8;
 pub const UNSIGNED: usize = 2;
 
 // A name, a location, a path or a uuid: its slots are the first so many of the bytes.
-#[derive(Drop)]
+#[derive(Clone, Copy)]
 pub struct Text {
     pub bytes: [u8; TEXT],
     pub slots: usize,
@@ -29,7 +29,7 @@ pub const SORTED_FIELDS: u8 = 3;
 pub const PARTITIONS: u8 = 4;
 
 // The fields of a schema or of a partition spec, or the numbers of other elements, one after the other.
-#[derive(Drop)]
+#[derive(Clone, Copy)]
 pub struct List {
     pub kind: u8,
     pub numbers: [i64; SCHEMA_FIELDS],
@@ -40,7 +40,7 @@ pub struct List {
 }
 
 // The kind is that of an update; of a record it is 0.
-#[derive(Drop)]
+#[derive(Clone, Copy)]
 pub struct Card {
     pub kind: u8,
     pub signed: [i64; SIGNED],

@@ -83,7 +83,7 @@ fn statistics_at(table: StatisticsFiles, i: usize) -> Card {
     statistics_file(f)
 }
 
-fn spec_at_lem(table: PartitionSpecs, i: usize) -> Card {
+fn spec_at(table: PartitionSpecs, i: usize) -> Card {
     let at = with_slots(i, PARTITION_SPECS - 1);
     let spec = table.items[at];
     partition_spec(spec)
@@ -99,7 +99,7 @@ pub fn card_at(metadata: TableMetadata, table: usize, i: usize) -> Card {
         OF_SORT_ORDERS => sort_order_at(metadata.sort_orders, i),
         OF_STATISTICS => statistics_at(metadata.statistics, i),
         OF_PARTITION_STATISTICS => statistics_at(metadata.partition_statistics, i),
-        _ => spec_at_lem(metadata.partition_specs, i),
+        _ => spec_at(metadata.partition_specs, i),
     }
 }
 

@@ -2,6 +2,8 @@
 // Nothing is refused but what is no number of its field, and a tag that may not stand where it stands: a count above a table's capacity is
 // kept, and what has no slot is skipped.
 // The page of the case format decides.
+#![tactic(auto)]
+
 pub mod case;
 pub mod ids;
 pub mod limit_text;

@@ -8,7 +8,7 @@ use tokens::input::{Input, Place, is_good};
 pub const LIMIT_TEXT: usize = 40;
 
 // The bytes that are kept, and how many.
-#[derive(Drop)]
+#[derive(Clone, Copy)]
 pub struct LimitText {
     pub bytes: [u8; LIMIT_TEXT],
     pub len: usize,

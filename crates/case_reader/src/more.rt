@@ -21,7 +21,7 @@ pub const OFFICE: u64 = 6;
 pub const OWNERS: u64 = 7;
 
 // Which tables have a tag, and whether the owners of refs have: an answer has these too.
-#[derive(Drop)]
+#[derive(Clone, Copy)]
 pub struct Given {
     pub statistics: bool,
     pub partition_statistics: bool,

@@ -1,5 +1,5 @@
 // Partition specs, what metadata has beside their table, which is the id of the default one and the last partition id, and the ids of a removal.
-use crate::text::read_name_lem;
+use crate::text::read_name;
 use records::capacities::{PARTITION_FIELDS, PARTITION_SPECS, REMOVALS};
 use records::counters::{Buckets, FieldId, SpecId};
 use records::metadata::SingleFields;
@@ -18,7 +18,7 @@ pub fn read_partition_field(input: &mut Input, place: &mut Place) -> PartitionFi
     let source_id = read_i32(input, place);
     let has_id = read_flag(input, place);
     let field_id = read_i32(input, place);
-    let name = read_name_lem(input, place);
+    let name = read_name(input, place);
     let transform = read_u8(input, place);
     let buckets = read_i32(input, place);
     PartitionField {

@@ -1,5 +1,5 @@
 // Refs: a name, and what it refers to.
-use crate::text::{read_name_lem, read_slots};
+use crate::text::{read_name, read_slots};
 use records::capacities::REFS;
 use records::counters::{Age, MinSnapshots, SnapshotId};
 use records::reference::{NamedRef, Refs, SnapshotReference};
@@ -32,7 +32,7 @@ pub fn read_reference(input: &mut Input, place: &mut Place) -> SnapshotReference
 
 // Owners stand elsewhere: here every ref is the first office's.
 fn read_ref(input: &mut Input, place: &mut Place) -> NamedRef {
-    let name = read_name_lem(input, place);
+    let name = read_name(input, place);
     let reference = read_reference(input, place);
     NamedRef {
         name,

@@ -19,7 +19,7 @@ use tokens::input::{Input, Place, is_first, is_good, spoil};
 use tokens::wanted;
 
 // The text comes first: the checker looks for its length there, and not behind all of the metadata.
-#[derive(Drop)]
+#[derive(Clone, Copy)]
 pub struct Run {
     pub limit: LimitText,
     pub metadata: TableMetadata,

@@ -1,5 +1,5 @@
 // Schemas, and the ids of a removal.
-use crate::text::read_name_lem;
+use crate::text::read_name;
 use cards::field::plain_name;
 use records::capacities::{REMOVALS, SCHEMA_FIELDS, SCHEMAS};
 use records::counters::{FieldId, SchemaId};
@@ -13,7 +13,7 @@ pub fn read_field(is_named: bool, input: &mut Input, place: &mut Place) -> Schem
     let mut name = plain_name(id);
     let mut field_type = LONG;
     if is_named {
-        name = read_name_lem(input, place);
+        name = read_name(input, place);
         field_type = read_u8(input, place);
     }
     SchemaField {

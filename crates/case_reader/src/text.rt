@@ -26,7 +26,7 @@ pub fn read_uuid(input: &mut Input, place: &mut Place) -> [u8; 16] {
     uuid
 }
 
-pub fn read_name_lem(input: &mut Input, place: &mut Place) -> Name {
+pub fn read_name(input: &mut Input, place: &mut Place) -> Name {
     let mut bytes = [0u8; NAME];
     let len = read_bytes(input, place, &mut bytes);
     Name { bytes, len }

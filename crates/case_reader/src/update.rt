@@ -6,7 +6,7 @@ use crate::schema::read_schema_ids;
 use crate::snapshot::{read_snapshot, read_snapshot_ids};
 use crate::sort_order::read_sort_order;
 use crate::statistics::read_statistics_file;
-use crate::text::{read_name_lem, read_text, read_uuid};
+use crate::text::{read_name, read_text, read_uuid};
 use cards::update::ADD_NAMED_SCHEMA;
 use records::capacities::UPDATES;
 use records::counters::{SchemaId, SnapshotId, SortOrderId, SpecId};
@@ -41,9 +41,9 @@ fn read_fields_part(kind: u8, input: &mut Input, place: &mut Place) -> FieldsPar
 fn read_refs_part(kind: u8, input: &mut Input, place: &mut Place) -> RefsPart {
     let mut part = RefsPart::blank();
     match kind {
-        SET_BRANCH_SNAPSHOT | REMOVE_REF => part.name = read_name_lem(input, place),
+        SET_BRANCH_SNAPSHOT | REMOVE_REF => part.name = read_name(input, place),
         SET_REF => {
-            part.name = read_name_lem(input, place);
+            part.name = read_name(input, place);
             part.reference = read_reference(input, place);
         }
         _ => {}

@@ -5,7 +5,7 @@ use crate::ids::read_buffer_length;
 use tokens::field::{read_flag, read_i64};
 use tokens::input::{Input, Place};
 
-#[derive(Drop)]
+#[derive(Clone, Copy)]
 pub struct WalkTerms {
     pub start: i64,
     pub has_excluded: bool,

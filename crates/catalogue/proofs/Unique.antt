@@ -17,6 +17,7 @@ use Rattle.rules.specs.Walk.{Walk, record_ancestors, walk_buffer}
 use Rattle.walk.specs.Answers.{walked}
 use Rattle.catalogue.specs.contracts.record_ancestors as entry
 use Rattle.catalogue.proofs.table_ancestors as table
+use Rattle.catalogue.specs.contracts.table_ancestors as table_contract
 
 -- ---- the entry over a lent slice: its contract is an assertion, which a caller holds once the call has returned
 
@@ -46,7 +47,7 @@ module _ {M : Type 1} {𝓤 : Ura M} (𝓛 : Logic 𝓤) (mem : Memory → SProp
       said both x s (fst∗ 𝓤 (Ensures x s) (Ensures y t)) (λ e f. said both y t (snd∗ 𝓤 (Ensures x s) (Ensures y t)) (λ e' f'.
       fact_i 𝓤 ((x ≡ y) × (s.1.1.1.1.0.now ≡ t.1.1.1.1.0.now)) both (e ∙ sym e', f ∙ sym f')))
 
-pub record_asks_nothing : AsksNothing entry.signature (λ M. entry.spec)
+pub record_asks_nothing : AsksNothing entry.signature (λ M 𝓤. entry.spec)
 record_asks_nothing M 𝓤 𝓛 mem run κs a = (tt, id⊢ 𝓤 (emp 𝓤))
 
 -- ---- the entry over a table
@@ -54,5 +55,5 @@ record_asks_nothing M 𝓤 𝓛 mem run κs a = (tt, id⊢ 𝓤 (emp 𝓤))
 pub table_unique : OfTwo table.Kinds.ps table.Kinds.r table.Reads.Post (λ κs x y s t. (x ≡ y) × (s.1.1.1.1.0.now ≡ t.1.1.1.1.0.now))
 table_unique κs a x y s t p q = (p.0 ∙ sym q.0, p.1 ∙ sym q.1)
 
-pub table_asks_nothing : AsksNothing table.signature (λ M. table.spec)
+pub table_asks_nothing : AsksNothing table_contract.signature (λ M 𝓤. table_contract.spec)
 table_asks_nothing M 𝓤 𝓛 mem run κs a = (tt, id⊢ 𝓤 (emp 𝓤))

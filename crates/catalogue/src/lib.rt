@@ -1,6 +1,8 @@
 // The second entry of the ancestor walks: the catalogue's snapshot records, as one lent run or as their table.
 // Refuses what the walk over their ids and parents refuses: over 64 records, equal ids or an id below 0 with 1; a snapshot met twice; a short buffer.
 // Document 01 decides, as the crate `rules` writes it in Walk (record_ancestors).
+#![tactic(auto)]
+
 ghost use Rattle.std.specs.Prelude.{◌≡◌, map, ◌≤◌, length};
 ghost use Rattle.rules.specs.Layout.{given, read_snapshot, read_snapshots};
 ghost use Rattle.rules.specs.Walk.{record_ancestors, walk_buffer};

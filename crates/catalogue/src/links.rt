@@ -13,13 +13,14 @@ use walk::Walked;
 const NO_PARENT: i64 = -1;
 
 // A count above 64 says that there were more records than that.
-#[derive(Drop)]
+#[derive(Clone, Copy)]
 pub struct Links {
     pub ids: [i64; SNAPSHOTS],
     pub parents: [i64; SNAPSHOTS],
     pub count: usize,
 }
 
+#[tactic(auto, unfolding(crate::specs::Links::no_links))]
 pub fn none() -> Links
     ensures { result ≡ no_links }
 {
@@ -73,6 +74,7 @@ pub fn gather(snapshots: &[Snapshot]) -> Links
     links
 }
 
+#[tactic(auto, unfolding(walk::specs::Answers::walked))]
 pub fn link_ancestors(
     links: Links,
     start: i64,

@@ -17,7 +17,7 @@ use search::position;
 use tables::ids::is_held;
 
 // The history, and whether it was rebuilt.
-#[derive(Drop)]
+#[derive(Clone, Copy)]
 pub struct History {
     pub rebuilt: bool,
     pub log: SnapshotLog,

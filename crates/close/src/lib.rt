@@ -1,5 +1,7 @@
 // The close of a run: what becomes of the snapshot log and of the metadata log, and the checks 31, 32 and 20 to 23.
 // Document 01 decides, and of the default spec document 02, request (ix), as the crate `rules` writes it in Close.
+#![tactic(auto)]
+
 ghost use Rattle.std.specs.Prelude.{◌≡◌, true, List, ltb, length};
 ghost use Rattle.rules.specs.Capacities.{metadata_log_room};
 ghost use Rattle.rules.specs.Words.{any, first_of};

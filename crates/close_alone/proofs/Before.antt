@@ -78,7 +78,7 @@ module _ (m : TableMetadata) (terms : RunTerms) (text : List ℕ) where
         record {
           sound = E.sound;
           since = record { files = E.since.files; old = E.since.old; back = E.since.back; short = E.since.short; shared = E.since.shared };
-          tables = record { builder = T.builder; snapshots = T.snapshots; ids = T.ids; refs = T.refs; log = T.log; last = T.last; own_tables = T.ownTables };
+          tables = record { builder = T.builder; snapshots = T.snapshots; ids = T.ids; refs = T.refs; log = T.log; last = T.last; own_tables = T.own_tables };
           logs = record { entries = refl; count = refl; added = refl; adds = refl; main_targets = refl; mains = refl; removal = refl };
           room = omega arith;
         }

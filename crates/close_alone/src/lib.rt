@@ -1,5 +1,7 @@
 // The close of a run by itself, made again and again, to time it: of metadata as it is before the close, with nothing added and a removal logged.
 // A refusal gives the number that a run with an empty list would give.
+#![tactic(auto)]
+
 ghost use Rattle.std.specs.Prelude.{◌≡◌, []};
 ghost use Rattle.records.specs.Blanks.{no_updates};
 ghost use Rattle.rules.specs.Layout.{read_snapshots};
@@ -21,7 +23,7 @@ use records::update::UpdateList;
 use start::start_number;
 
 // What the close of a run answers, but for the change log.
-#[derive(Drop)]
+#[derive(Clone, Copy)]
 struct Closed {
     number: u8,
     metadata: TableMetadata,

@@ -1,14 +1,21 @@
 // The words of a command line: how many there are, each by its place, and which of some a word is. A line is a text whose words are parted by
 // spaces outside of quotation marks or, where it is empty, what the program was started with, behind its own name.
 // Nothing is refused: a word that is not there, or of more bytes than there are slots, is an empty one.
+#![tactic(auto)]
+
 ghost use Rattle.slot_bounds.specs.Counted.{Counted};
 
 use slot_bounds::{store_byte, with_slots};
+use std::env::{Env, FillError};
 use std::num::wrapping_add_usize;
+use std::rt::HostRuntime;
 
 const SPACE: u8 = b' ';
 
 const QUOTE: u8 = b'"';
+
+// No program is started with more words.
+const MOST_ARGS: usize = 1 << 62;
 
 // One of the parts of a text between marks, counted from 0, without the quotes in it: how many of its bytes have a slot. Between quotes a mark is
 // a byte like another.
@@ -50,21 +57,41 @@ fn count_words(line: &[u8]) -> usize {
     count
 }
 
-pub fn word_count(line: &[u8]) -> usize {
+// Whether the program was started with a word at this place, its own name at 0.
+fn has_arg(rt: HostRuntime, at: usize) -> bool {
+    let mut word = [0u8; 1];
+    !matches!(rt.arg(at, &mut word), Err(FillError::NotPresent))
+}
+
+// How many words stand behind the program's own name.
+fn count_args(rt: HostRuntime) -> usize {
+    let mut count: usize = 0;
+    while count < MOST_ARGS {
+        if !has_arg(rt, count + 1) {
+            return count;
+        }
+        count += 1;
+    }
+    count
+}
+
+pub fn word_count(rt: HostRuntime, line: &[u8]) -> usize {
     if line.len() > 0 {
         return count_words(line);
     }
-    let n = os::arg_count();
-    if n > 0 { n - 1 } else { 0 }
+    count_args(rt)
 }
 
-pub fn read_word(line: &[u8], at: usize, word: &mut [u8]) -> usize
+pub fn read_word(rt: HostRuntime, line: &[u8], at: usize, word: &mut [u8]) -> usize
     ensures { Counted result word.new }
 {
     if line.len() > 0 {
         return read_part(line, SPACE, QUOTE, at, word);
     }
-    os::arg(wrapping_add_usize(at, 1), word)
+    match rt.arg(wrapping_add_usize(at, 1), word) {
+        Ok(len) => len,
+        Err(_) => 0,
+    }
 }
 
 // Whether this byte stands at a place of a word.
@@ -99,8 +126,8 @@ pub fn line_of(lines: &[u8], word: &[u8]) -> usize {
 }
 
 // The same of the word at a place of a command line.
-pub fn which_word(line: &[u8], at: usize, lines: &[u8]) -> usize {
+pub fn which_word(rt: HostRuntime, line: &[u8], at: usize, lines: &[u8]) -> usize {
     let mut word = io::buffer();
-    let len = read_word(line, at, &mut word);
+    let len = read_word(rt, line, at, &mut word);
     line_of(lines, &word[..len])
 }

@@ -1,6 +1,6 @@
 // The examples of document 01 that are named, a line each, in the order given; or all, each line with its name in front.
 use crate::turn::{LINES, NAMES, NONE, SHOWN, STEPS, Turn};
-use crate::words::read_name_lem;
+use crate::words::read_name;
 use command::line_of;
 use plaintext::name::say_escaped;
 use plaintext::text::{say, say_line};
@@ -8,6 +8,7 @@ use report::example::{EXAMPLES, LIMITS, first_step, form_of};
 use report::leaf::say_leaf;
 use report::shown::say_label;
 use std::num::wrapping_add_usize;
+use std::rt::HostRuntime;
 use tokens::output::Output;
 
 fn begin_example(mut turn: Turn, example: usize) -> Turn {
@@ -18,10 +19,10 @@ fn begin_example(mut turn: Turn, example: usize) -> Turn {
 }
 
 // The example that the word at a place names.
-fn next_named(mut turn: Turn, output: &mut Output, end: &mut usize) -> Turn {
+fn next_named(rt: HostRuntime, mut turn: Turn, output: &mut Output, end: &mut usize) -> Turn {
     let mut name = io::buffer();
     let names = b"P1\nP2\nP3\nP4\nP5\nP6\nP7\nP8\nP9\nP10\nP11\nP12\n";
-    let len = read_name_lem(turn, &mut name);
+    let len = read_name(rt, turn, &mut name);
     let example = line_of(names, &name[..len]);
     if example < EXAMPLES {
         begin_example(turn, example)
@@ -35,7 +36,7 @@ fn next_named(mut turn: Turn, output: &mut Output, end: &mut usize) -> Turn {
 }
 
 // Where all are asked for, each has its name in front.
-pub fn next_example(mut turn: Turn, output: &mut Output, end: &mut usize) -> Turn {
+pub fn next_example(rt: HostRuntime, mut turn: Turn, output: &mut Output, end: &mut usize) -> Turn {
     let prefixes = b"P1 \nP2 \nP3 \nP4 \nP5 \nP6 \nP7 \nP8 \nP9 \nP10 \nP11 \nP12 \n";
     let at = turn.at;
     turn.at = wrapping_add_usize(at, 1);
@@ -47,7 +48,7 @@ pub fn next_example(mut turn: Turn, output: &mut Output, end: &mut usize) -> Tur
         begin_example(turn, at)
     } else {
         turn.name = at;
-        next_named(turn, output, end)
+        next_named(rt, turn, output, end)
     }
 }
 

@@ -4,6 +4,7 @@ use crate::words::read_tour;
 use command::{read_word, word_count};
 use plaintext::name::say_name;
 use plaintext::text::{say, say_between, say_line};
+use std::rt::HostRuntime;
 use tokens::output::Output;
 
 // A part for each command, in the order of their numbers.
@@ -106,10 +107,10 @@ pub fn next_help(mut turn: Turn, output: &mut Output, end: &mut usize) -> Turn {
 }
 
 // As the last line, what the word at a place of the command line is.
-fn say_word(line: &[u8], at: usize, output: &mut Output, end: &mut usize) {
+fn say_word(rt: HostRuntime, line: &[u8], at: usize, output: &mut Output, end: &mut usize) {
     let mut word = io::buffer();
-    let len = read_word(line, at, &mut word);
-    let is_given = at < word_count(line);
+    let len = read_word(rt, line, at, &mut word);
+    let is_given = at < word_count(rt, line);
     let words = b"no command is given\nunknown command: \n";
     say_line(output, end, words, is_given as usize);
     if is_given {
@@ -119,11 +120,11 @@ fn say_word(line: &[u8], at: usize, output: &mut Output, end: &mut usize) {
 }
 
 // The list, and below it the word that is no command.
-pub fn say_unknown(mut turn: Turn, output: &mut Output, end: &mut usize) -> Turn {
+pub fn say_unknown(rt: HostRuntime, mut turn: Turn, output: &mut Output, end: &mut usize) -> Turn {
     let mut line = io::buffer();
     let len = read_tour(turn.line, &mut line);
     turn.stage = LINES;
     say_help(output, end, HELP);
-    say_word(&line[..len], turn.at, output, end);
+    say_word(rt, &line[..len], turn.at, output, end);
     turn
 }

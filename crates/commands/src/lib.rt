@@ -1,7 +1,10 @@
 // The commands of the program, up to the run: which command a line asks for, its files, its pieces, and what is said of an answer. It goes on step by
 // step, and stops where a run is to be asked, which is the caller's: so nothing here rests on the run.
 // Nothing is refused: what is no command, no file or no number gets a line that says so.
+#![tactic(auto)]
+
 use crate::turn::{FILES, GO_ON, HELPED, LEFT, LINES, NAMES, OPENED, PIECES, READ, Turn, UNKNOWN};
+use std::rt::HostRuntime;
 use tokens::input::{Input, Place};
 use tokens::output::Output;
 
@@ -19,18 +22,25 @@ pub use line::begin;
 pub use words::read_tour;
 
 // What needs no input.
-fn say_next(stage: usize, turn: Turn, output: &mut Output, end: &mut usize) -> Turn {
+fn say_next(
+    rt: HostRuntime,
+    stage: usize,
+    turn: Turn,
+    output: &mut Output,
+    end: &mut usize,
+) -> Turn {
     match stage {
-        LINES => line::next_line(turn, output, end),
+        LINES => line::next_line(rt, turn, output, end),
         HELPED => help::next_help(turn, output, end),
-        UNKNOWN => help::say_unknown(turn, output, end),
-        NAMES => example::next_example(turn, output, end),
+        UNKNOWN => help::say_unknown(rt, turn, output, end),
+        NAMES => example::next_example(rt, turn, output, end),
         _ => example::next_step(turn, output, end),
     }
 }
 
 // From file to file, and from piece to piece.
 fn go_on(
+    rt: HostRuntime,
     stage: usize,
     turn: Turn,
     place: &mut Place,
@@ -38,16 +48,17 @@ fn go_on(
     end: &mut usize,
 ) -> Turn {
     match stage {
-        FILES => file::next_file(turn, output, end),
-        OPENED => file::begin_file(turn, place),
+        FILES => file::next_file(rt, turn, place, output, end),
+        OPENED => file::begin_file(rt, turn, place),
         PIECES => piece::end_piece(turn, place, output, end),
         LEFT => file::leave(turn, place),
-        _ => file::say_bad(turn, place, output, end),
+        _ => file::say_bad(rt, turn, place, output, end),
     }
 }
 
 // One step, and what is wanted then.
 pub fn advance(
+    rt: HostRuntime,
     mut turn: Turn,
     input: &mut Input,
     place: &mut Place,
@@ -57,12 +68,12 @@ pub fn advance(
     let stage = turn.stage;
     turn.wanted = GO_ON;
     if stage < FILES {
-        say_next(stage, turn, output, end)
+        say_next(rt, stage, turn, output, end)
     } else if stage < READ {
-        go_on(stage, turn, place, output, end)
+        go_on(rt, stage, turn, place, output, end)
     } else if stage == READ {
         piece::read_piece(turn, input, place)
     } else {
-        piece::answer_piece(turn, input, place, output, end)
+        piece::answer_piece(rt, turn, input, place, output, end)
     }
 }

@@ -7,10 +7,10 @@ use crate::words::{
     asks_for_help, asks_for_list, asks_for_run, command_at, first_moment, goes_by_files, read_tour,
 };
 use command::{which_word, word_count};
-use libc::STDIN_FILENO;
 use plaintext::text::say;
 use report::example::EXAMPLES as ALL_EXAMPLES;
 use std::num::wrapping_add_usize;
+use std::rt::HostRuntime;
 use tokens::output::Output;
 
 // How many lines the tour has, and how many with the other example files.
@@ -19,12 +19,12 @@ const TOUR_LINES: usize = 46;
 const ALL_LINES: usize = 92;
 
 // The program's own line, or the tour, with the word `all` whole.
-pub fn begin() -> Turn {
+pub fn begin(rt: HostRuntime) -> Turn {
     let own = b"";
-    if command_at(own, 0) != TOUR || asks_for_help(own) {
+    if command_at(rt, own, 0) != TOUR || asks_for_help(rt, own) {
         return start_of_lines(NONE, NONE + 2);
     }
-    if which_word(own, 1, b"all\n") == 0 {
+    if which_word(rt, own, 1, b"all\n") == 0 {
         return start_of_lines(0, ALL_LINES);
     }
     start_of_lines(0, TOUR_LINES)
@@ -62,7 +62,7 @@ fn begin_files(mut turn: Turn, first: usize, last: usize) -> Turn {
     if first >= last {
         turn.stage = OPENED;
         turn.name = NONE;
-        turn.file = STDIN_FILENO;
+        turn.is_input = true;
     }
     turn
 }
@@ -80,8 +80,8 @@ fn begin_expiries(mut turn: Turn, is_written: bool, words: usize) -> Turn {
 
 // One run, with the list that the word behind `--updates` names. Standard input is the list or the run, and not both: what the command wants is said
 // then, and where there is no list or more than one file.
-fn begin_listed(mut turn: Turn, line: &[u8], words: usize) -> Turn {
-    let is_input = which_word(line, 2, b"-\n") == 0;
+fn begin_listed(rt: HostRuntime, mut turn: Turn, line: &[u8], words: usize) -> Turn {
+    let is_input = which_word(rt, line, 2, b"-\n") == 0;
     turn.list = 2;
     if words == 4 || words == 3 && !is_input {
         begin_files(turn, 3, words)
@@ -111,30 +111,30 @@ fn begin_filed(mut turn: Turn, words: usize) -> Turn {
 }
 
 // What the command wants is said where nothing else is begun: without moments, by `current` too.
-fn begin_command(mut turn: Turn, line: &[u8]) -> Turn {
-    let command = command_at(line, 0);
-    let words = word_count(line);
-    let moment = first_moment(line);
+fn begin_command(rt: HostRuntime, mut turn: Turn, line: &[u8]) -> Turn {
+    let command = command_at(rt, line, 0);
+    let words = word_count(rt, line);
+    let moment = first_moment(rt, line);
     turn.stage = HELPED;
     turn.command = command;
     turn.step = command;
     turn.at = 0;
     turn.list = NONE;
     if command == HELP {
-        begin_help(turn, command_at(line, 1), words)
+        begin_help(turn, command_at(rt, line, 1), words)
     } else if command == COMMANDS {
         turn.stage = UNKNOWN;
         turn
-    } else if asks_for_help(line) {
+    } else if asks_for_help(rt, line) {
         turn
-    } else if goes_by_files(command, line) {
+    } else if goes_by_files(rt, command, line) {
         begin_filed(turn, words)
     } else if command == EXAMPLES {
         begin_examples(turn, words)
     } else if command == EXPIRE {
-        begin_expiries(turn, asks_for_run(line), words)
-    } else if command == RUN && asks_for_list(line) {
-        begin_listed(turn, line, words)
+        begin_expiries(turn, asks_for_run(rt, line), words)
+    } else if command == RUN && asks_for_list(rt, line) {
+        begin_listed(rt, turn, line, words)
     } else if command != CURRENT {
         begin_files(turn, 1, words)
     } else if moment < words {
@@ -144,7 +144,7 @@ fn begin_command(mut turn: Turn, line: &[u8]) -> Turn {
     }
 }
 
-pub fn next_line(mut turn: Turn, output: &mut Output, end: &mut usize) -> Turn {
+pub fn next_line(rt: HostRuntime, mut turn: Turn, output: &mut Output, end: &mut usize) -> Turn {
     let mut line = io::buffer();
     let asked = wrapping_add_usize(turn.line, 1);
     turn.line = wrapping_add_usize(asked, 1);
@@ -156,5 +156,5 @@ pub fn next_line(mut turn: Turn, output: &mut Output, end: &mut usize) -> Turn {
     if asked < NONE {
         say_heading(asked, &line[..len], output, end);
     }
-    begin_command(turn, &line[..len])
+    begin_command(rt, turn, &line[..len])
 }

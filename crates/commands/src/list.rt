@@ -2,13 +2,14 @@
 ghost use Rattle.slot_bounds.specs.Counted.{Counted};
 
 use crate::turn::Turn;
-use crate::words::{is_dash, read_name_lem};
+use crate::words::{is_dash, read_name};
 use command::read_part;
 use json_list::Answer;
-use libc::STDIN_FILENO;
 use records::capacities::OFFERS;
 use slot_bounds::lent;
+use std::rt::HostRuntime;
 use tokens::output::Output;
+use tokens::source::{Source, is_standard, open as open_file, standard};
 
 // No byte of a name.
 const NO_MARK: u8 = 0;
@@ -19,19 +20,19 @@ fn of_list(mut turn: Turn) -> Turn {
     turn
 }
 
-// Standard input, or a file; below 0 where there is none.
-fn open(name: &[u8]) -> i32 {
+// Standard input, or a file; nothing where there is none.
+fn open(rt: HostRuntime, name: &[u8]) -> Source {
     if is_dash(name) {
-        return STDIN_FILENO;
+        return standard(rt);
     }
-    os::open_read(name)
+    open_file(rt, name)
 }
 
 // The name by which the list is told: that of the file, of so many bytes, or what stands for no file.
-fn told_as(descriptor: i32, name: &mut [u8], len: usize) -> usize
+fn told_as(is_input: bool, name: &mut [u8], len: usize) -> usize
     ensures { Counted result name.new }
 {
-    if descriptor == STDIN_FILENO {
+    if is_input {
         return read_part(b"standard input", NO_MARK, NO_MARK, 0, name);
     }
     lent(name, len)
@@ -39,18 +40,15 @@ fn told_as(descriptor: i32, name: &mut [u8], len: usize) -> usize
 
 // The list, or what is wrong with it: that is said, and nothing is to be run then.
 pub fn read_list(
+    rt: HostRuntime,
     turn: Turn,
     offers: &mut [u8; OFFERS],
     output: &mut Output,
     end: &mut usize,
 ) -> Answer {
     let mut name = io::buffer();
-    let len = read_name_lem(of_list(turn), &mut name);
-    let descriptor = open(&name[..len]);
-    let said = told_as(descriptor, &mut name, len);
-    let answer = update_lists::file::read(descriptor, &name[..said], offers, output, end);
-    if descriptor > STDIN_FILENO {
-        libc::close(descriptor);
-    }
-    answer
+    let len = read_name(rt, of_list(turn), &mut name);
+    let mut source = open(rt, &name[..len]);
+    let said = told_as(is_standard(&source), &mut name, len);
+    update_lists::file::read(&mut source, &name[..said], offers, output, end)
 }

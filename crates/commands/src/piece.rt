@@ -7,6 +7,7 @@ use crate::words::{first_moment, read_tour};
 use case_reader::case::{end_answer, read_case};
 use case_reader::run::{RUN, RUN_GIVEN_MORE, read_first_of_run};
 use expiries::asked::read_first_of_expiry;
+use std::rt::HostRuntime;
 use tokens::field::read_u64;
 use tokens::input::{Input, Place, is_good, spoil};
 use tokens::output::{Output, put_line_end};
@@ -111,6 +112,7 @@ pub fn read_piece(turn: Turn, input: &mut Input, place: &mut Place) -> Turn {
 }
 
 fn say_moments(
+    rt: HostRuntime,
     turn: Turn,
     input: &mut Input,
     place: &mut Place,
@@ -119,8 +121,8 @@ fn say_moments(
 ) {
     let mut line = io::buffer();
     let len = read_tour(turn.line, &mut line);
-    let from = first_moment(&line[..len]);
-    current::say_answers(&line[..len], from, input, place, output, end);
+    let from = first_moment(rt, &line[..len]);
+    current::say_answers(rt, &line[..len], from, input, place, output, end);
 }
 
 fn answer_case(
@@ -138,6 +140,7 @@ fn answer_case(
 
 // Of `current` and `dates`, and cases that are no runs.
 pub fn answer_piece(
+    rt: HostRuntime,
     mut turn: Turn,
     input: &mut Input,
     place: &mut Place,
@@ -146,7 +149,7 @@ pub fn answer_piece(
 ) -> Turn {
     turn.stage = PIECES;
     if turn.command == CURRENT {
-        say_moments(turn, input, place, output, end);
+        say_moments(rt, turn, input, place, output, end);
         turn.stage = LEFT;
     } else if turn.command == DATES {
         if !trials::dates::next(input, place, output, end) {

@@ -1,5 +1,5 @@
 // Where the program is: which line, which command, which stage of it, and what is wanted.
-#[derive(Drop)]
+#[derive(Clone, Copy)]
 pub struct Turn {
     pub wanted: usize,
     pub stage: usize,
@@ -14,8 +14,8 @@ pub struct Turn {
     pub name: usize,
     // The place of the word that names the list of updates, as JSON, with which `run` is to run; `NONE` where it has its own.
     pub list: usize,
-    // The descriptor of the file that is read, 0 for standard input.
-    pub file: i32,
+    // Whether standard input is read, and no file.
+    pub is_input: bool,
     // The number with which a run or a case starts, and how often it is asked: by `expire --run`, which writes the run of its list, not at all.
     pub first: u64,
     pub times: u64,
@@ -118,7 +118,7 @@ pub fn start_of_lines(line: usize, last_line: usize) -> Turn {
         last: 0,
         name: NONE,
         list: NONE,
-        file: 0,
+        is_input: true,
         first: 0,
         times: 0,
         step: 0,

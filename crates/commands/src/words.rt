@@ -5,53 +5,54 @@ use crate::turn::{AUDIT, CURRENT, EXPIRE, EXPORT, IMPORT, REPLAY, RUN, Turn};
 use command::{line_of, read_part, read_word, which_word};
 use file_words::file::{is_json, is_json_at};
 use file_words::option::{CLOCK, has};
+use std::rt::HostRuntime;
 
 // No byte: lines have no quotes.
 const NO_QUOTE: u8 = 0;
 
 // The command that the word at a place of a line names.
-pub fn command_at(line: &[u8], at: usize) -> usize {
+pub fn command_at(rt: HostRuntime, line: &[u8], at: usize) -> usize {
     let names =
         b"help\nrun\nreplay\ncurrent\nexpire\nexamples\ntour\ncases\nrepeat\ndates\nimport\nexport\naudit\n";
-    which_word(line, at, names)
+    which_word(rt, line, at, names)
 }
 
 // Whether the word after the command is `--help`.
-pub fn asks_for_help(line: &[u8]) -> bool {
-    which_word(line, 1, b"--help\n") == 0
+pub fn asks_for_help(rt: HostRuntime, line: &[u8]) -> bool {
+    which_word(rt, line, 1, b"--help\n") == 0
 }
 
 // The words of `current` are moments, after `--in` and the name of a file where there is one.
-pub fn first_moment(line: &[u8]) -> usize {
-    if which_word(line, 1, b"--in\n") == 0 {
+pub fn first_moment(rt: HostRuntime, line: &[u8]) -> usize {
+    if which_word(rt, line, 1, b"--in\n") == 0 {
         return 3;
     }
     1
 }
 
 // The words of `expire` are files, after `--run` where the run of the list is to be written and not asked.
-pub fn asks_for_run(line: &[u8]) -> bool {
-    which_word(line, 1, b"--run\n") == 0
+pub fn asks_for_run(rt: HostRuntime, line: &[u8]) -> bool {
+    which_word(rt, line, 1, b"--run\n") == 0
 }
 
 // The words of `run` are files, after `--updates` and the name of a list where there is one.
-pub fn asks_for_list(line: &[u8]) -> bool {
-    which_word(line, 1, b"--updates\n") == 0
+pub fn asks_for_list(rt: HostRuntime, line: &[u8]) -> bool {
+    which_word(rt, line, 1, b"--updates\n") == 0
 }
 
 // Whether the metadata of `current` stands in a file that is JSON.
-fn is_current_in_json(line: &[u8]) -> bool {
+fn is_current_in_json(rt: HostRuntime, line: &[u8]) -> bool {
     let mut name = io::buffer();
-    let len = read_word(line, 2, &mut name);
-    first_moment(line) == 3 && is_json(&name[..len])
+    let len = read_word(rt, line, 2, &mut name);
+    first_moment(rt, line) == 3 && is_json(rt, &name[..len])
 }
 
 // Whether a command goes by files: one that always does; one whose words have a clock, or whose first file is JSON; and `current` of a file that is JSON.
-pub fn goes_by_files(command: usize, line: &[u8]) -> bool {
+pub fn goes_by_files(rt: HostRuntime, command: usize, line: &[u8]) -> bool {
     match command {
         IMPORT | EXPORT | AUDIT => true,
-        RUN | REPLAY | EXPIRE => has(line, CLOCK) || is_json_at(line, 0),
-        CURRENT => is_current_in_json(line),
+        RUN | REPLAY | EXPIRE => has(rt, line, CLOCK) || is_json_at(rt, line, 0),
+        CURRENT => is_current_in_json(rt, line),
         _ => false,
     }
 }
@@ -164,10 +165,10 @@ pub fn read_tour(at: usize, line: &mut [u8]) -> usize
 }
 
 // The name of the input or the example.
-pub fn read_name_lem(turn: Turn, name: &mut [u8]) -> usize
+pub fn read_name(rt: HostRuntime, turn: Turn, name: &mut [u8]) -> usize
     ensures { Counted result name.new }
 {
     let mut line = io::buffer();
     let len = read_tour(turn.line, &mut line);
-    read_word(&line[..len], turn.name, name)
+    read_word(rt, &line[..len], turn.name, name)
 }

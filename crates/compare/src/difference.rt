@@ -5,7 +5,7 @@ ghost use Rattle.compare.specs.First.{in_part};
 
 // The part is 0 where nothing differs. The place is that of a table's first record that differs; a table whose records are the same
 // and whose counts differ has its number of slots there, and a single field has 0.
-#[derive(Drop)]
+#[derive(Clone, Copy)]
 pub struct Difference {
     pub part: u8,
     pub place: usize,

@@ -1,6 +1,8 @@
 // The comparison of two metadata: whether they are equal, slot for slot, and if not where they differ first.
 // Nothing is refused: any two metadata are compared, also those that are not well formed.
 // The parts are compared in the order of the case format's metadata; a table differs at its first record that does, and else by its count.
+#![tactic(auto)]
+
 ghost use Rattle.std.specs.Prelude.{◌≡◌};
 ghost use Rattle.compare.specs.Parts.{first_difference};
 

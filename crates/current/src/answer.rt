@@ -18,7 +18,7 @@ const NO_ENTRIES: u8 = 4;
 const TOO_MANY: u8 = 5;
 
 // The snapshot, since when, and when the held one of its id was made, if there is one; 0 and the earliest time that has an answer if not.
-#[derive(Drop)]
+#[derive(Clone, Copy)]
 pub struct Answer {
     pub kind: u8,
     pub id: SnapshotId,

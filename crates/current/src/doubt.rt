@@ -14,7 +14,7 @@ const DAY: usize = 2;
 
 const SECONDS: usize = 3;
 
-#[derive(Drop)]
+#[derive(Clone, Copy)]
 pub struct Doubt {
     pub kind: usize,
     pub date: Date,

@@ -3,6 +3,8 @@
 // Nothing is refused but metadata that can not be read: what is no moment gets a line too. A moment is a date with a time of day, in UTC or
 // with an offset from it, or milliseconds since 1970; a UTC date alone is a day.
 // The crate `moment` decides which snapshot it is.
+#![tactic(auto)]
+
 use crate::log_and_snapshots::LogAndSnapshots;
 use calendar::date::Day;
 use calendar::text::{day_of_text, fault_of_text, time_of_text};
@@ -14,6 +16,7 @@ use records::capacities::SNAPSHOT_LOG;
 use records::counters::Time;
 use records::snapshot::{SnapshotLog, Snapshots};
 use slot_bounds::with_slots;
+use std::rt::HostRuntime;
 use tokens::input::{Input, Place, is_good};
 use tokens::output::Output;
 
@@ -66,29 +69,38 @@ fn say_text(output: &mut Output, end: &mut usize, kept: LogAndSnapshots, text: &
     }
 }
 
-fn say_word(output: &mut Output, end: &mut usize, kept: LogAndSnapshots, line: &[u8], at: usize) {
+fn say_word(
+    rt: HostRuntime,
+    output: &mut Output,
+    end: &mut usize,
+    kept: LogAndSnapshots,
+    line: &[u8],
+    at: usize,
+) {
     let mut text = io::buffer();
-    let len = read_word(line, at, &mut text);
+    let len = read_word(rt, line, at, &mut text);
     say_text(output, end, kept, &text[..len]);
 }
 
 fn say_words(
+    rt: HostRuntime,
     output: &mut Output,
     end: &mut usize,
     kept: LogAndSnapshots,
     line: &[u8],
     from: usize,
 ) {
-    let n = word_count(line);
+    let n = word_count(rt, line);
     let mut at = from;
     while at < n {
-        say_word(output, end, kept, line, at);
+        say_word(rt, output, end, kept, line, at);
         at += 1;
     }
 }
 
 // Of a snapshot log and the snapshots that are held, the answers to the words of a command line from this one on.
 pub fn say_moments(
+    rt: HostRuntime,
     output: &mut Output,
     end: &mut usize,
     log: SnapshotLog,
@@ -97,11 +109,12 @@ pub fn say_moments(
     from: usize,
 ) {
     let kept = LogAndSnapshots { log, snapshots };
-    say_words(output, end, kept, line, from);
+    say_words(rt, output, end, kept, line, from);
 }
 
 // The same to the word at one place.
 pub fn say_moment_at(
+    rt: HostRuntime,
     output: &mut Output,
     end: &mut usize,
     log: SnapshotLog,
@@ -110,11 +123,12 @@ pub fn say_moment_at(
     at: usize,
 ) {
     let kept = LogAndSnapshots { log, snapshots };
-    say_word(output, end, kept, line, at);
+    say_word(rt, output, end, kept, line, at);
 }
 
 // Of the metadata that is read, the answers to the words of a command line from this one on.
 pub fn say_answers(
+    rt: HostRuntime,
     line: &[u8],
     from: usize,
     input: &mut Input,
@@ -124,6 +138,6 @@ pub fn say_answers(
 ) {
     let kept = log_and_snapshots::read_log_and_snapshots(input, place);
     if is_good(place) {
-        say_words(output, end, kept, line, from);
+        say_words(rt, output, end, kept, line, from);
     }
 }

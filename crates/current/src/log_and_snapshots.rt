@@ -8,7 +8,7 @@ use tokens::input::{Input, Place, spoil};
 use tokens::token::read_token;
 use tokens::wanted::END;
 
-#[derive(Drop)]
+#[derive(Clone, Copy)]
 pub struct LogAndSnapshots {
     pub log: SnapshotLog,
     pub snapshots: Snapshots,
@@ -30,7 +30,7 @@ pub fn read_log_and_snapshots(input: &mut Input, place: &mut Place) -> LogAndSna
 }
 
 // Whether a snapshot of this id is held, and its own time.
-#[derive(Drop)]
+#[derive(Clone, Copy)]
 pub struct Held {
     pub is_held: bool,
     pub made: Time,

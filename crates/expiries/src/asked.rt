@@ -12,7 +12,7 @@ use tokens::field::{read_count, read_i32, read_i64, read_u8};
 use tokens::input::{Input, Place, is_first, is_good, spoil};
 use tokens::wanted;
 
-#[derive(Drop)]
+#[derive(Clone, Copy)]
 pub struct Asked {
     pub metadata: TableMetadata,
     pub policy: Policy,

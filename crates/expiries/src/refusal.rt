@@ -71,7 +71,7 @@ fn cyclic_name(metadata: TableMetadata, policy: Policy) -> Name {
     Name::blank()
 }
 
-#[derive(Drop)]
+#[derive(Clone, Copy)]
 pub struct Refusal {
     pub number: u8,
     pub fault: u8,

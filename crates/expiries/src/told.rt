@@ -107,7 +107,7 @@ fn say_list(output: &mut Output, end: &mut usize, list: UpdateList) {
 
 // What is found beside the list: why each ref and snapshot stays or goes, or why there is none. It is asked before anything is said, so that less stack
 // is needed.
-#[derive(Drop)]
+#[derive(Clone, Copy)]
 pub struct Found {
     pub reasons: Reasons,
     pub refusal: Refusal,

@@ -28,7 +28,7 @@ use tables::snapshots::{ids_of, parents_of};
 const BRANCH: u8 = 1;
 
 // What is found of a ref: whether it goes, whether its walk meets a snapshot twice, and why each held snapshot stays for it.
-#[derive(Drop)]
+#[derive(Clone, Copy)]
 pub struct Kept {
     pub goes: bool,
     pub twice: bool,
@@ -36,7 +36,7 @@ pub struct Kept {
 }
 
 // What is found of all, and whether a walk meets a snapshot twice.
-#[derive(Drop)]
+#[derive(Clone, Copy)]
 pub struct Found {
     pub cyclic: bool,
     pub reasons: Reasons,

@@ -1,6 +1,8 @@
 // Expiry by retention: the list of updates by which what a policy does not keep goes, and why each snapshot that it keeps stays.
 // Refused with 1, then 39, then 3, then 24; then the list is empty, and there are no reasons.
 // Document 02 decides, request (viii), as the crate `retention` writes it in Retention, Expiry and Reasons.
+#![tactic(auto)]
+
 mod kept;
 mod list;
 pub mod policy;
@@ -18,7 +20,7 @@ use records::replies::{ACCEPTED, MET_TWICE};
 use records::update::UpdateList;
 
 // The number is 0, or that of the refusal.
-#[derive(Drop)]
+#[derive(Clone, Copy)]
 pub struct Expiry {
     pub number: u8,
     pub updates: UpdateList,

@@ -14,7 +14,7 @@ use records::replies::{ACCEPTED, OFFICE_UNKNOWN, START_NOT_FORMED, UPDATE_NOT_FO
 use records::run::{FIRST_OFFICE, SECOND_OFFICE};
 
 // A clock reading, the three numbers of a ref that has none of its own, and the office whose list is made.
-#[derive(Drop)]
+#[derive(Clone, Copy)]
 pub struct Policy {
     pub clock_ms: Time,
     pub min_snapshots: MinSnapshots,
@@ -38,14 +38,14 @@ pub const OTHERS_NEED: u8 = 4;
 pub const LOG_NAMES: u8 = 5;
 
 // Why, and of 1 to 4 the place of the first ref that keeps it; else the place is 0.
-#[derive(Drop)]
+#[derive(Clone, Copy)]
 pub struct Reason {
     pub why: u8,
     pub by: usize,
 }
 
 // In the order of the tables, and blank after them.
-#[derive(Drop)]
+#[derive(Clone, Copy)]
 pub struct Reasons {
     pub goes: [bool; REFS],
     pub stays: [Reason; SNAPSHOTS],

@@ -19,7 +19,7 @@ use records::snapshot::Snapshots;
 use search::position_ascending;
 
 // How far a branch keeps its ancestors.
-#[derive(Drop)]
+#[derive(Clone, Copy)]
 pub struct Limits {
     pub clock: Time,
     pub count: MinSnapshots,
@@ -27,7 +27,7 @@ pub struct Limits {
 }
 
 // Why each held snapshot stays for a branch, and whether its walk met one twice; then nothing is marked.
-#[derive(Drop)]
+#[derive(Clone, Copy)]
 pub struct Marks {
     pub slots: [u8; SNAPSHOTS],
     pub twice: bool,

@@ -1,6 +1,8 @@
 // What the catalogue service calls by C linkage: the limit of the metadata log, the time window and the row-id check.
 // A row range is refused with 9 or 11; the other two answer any input.
 // Document 01 decides, as the crate `rules` writes it in Limit, Window and RowIds; the work is done in `leaves`.
+#![tactic(auto)]
+
 ghost use Rattle.std.specs.Prelude.{◌≡◌};
 ghost use Rattle.rules.specs.Limit.{limit_of};
 ghost use Rattle.rules.specs.Window.{is_before};
@@ -13,7 +15,7 @@ use records::counters::{Age, RowId, Time};
 
 // The number is 0, 9 or 11; on a refusal the next row id is the one that came in.
 #[repr(C)]
-#[derive(Drop)]
+#[derive(Clone, Copy)]
 pub struct RowCheck {
     pub number: u8,
     pub next: u64,

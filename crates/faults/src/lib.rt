@@ -1,6 +1,8 @@
 // Which part of a run's start is at fault, where the run is refused with 1: the first in the order of the record's fields, by a number of `fault`.
 // Nothing is refused: any metadata and any terms are answered, with 0 where nothing is at fault.
 // Document 01 decides, as the crate `rules` writes it in Blanks and WellFormed; the order of the parts is this crate's, in Faults.
+#![tactic(auto)]
+
 ghost use Rattle.std.specs.Prelude.{◌≡◌};
 ghost use Rattle.rules.specs.Words.{first_of};
 ghost use Rattle.rules.specs.Layout.{read_metadata};

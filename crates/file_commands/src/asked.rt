@@ -3,6 +3,7 @@ use file_words::file::count_files;
 use file_words::option::{NONE, OPTIONS, has, say_no_value, say_unsound, unsound_at};
 use file_words::terms::{Asked, terms_of};
 use plaintext::text::{say, say_line};
+use std::rt::HostRuntime;
 use tokens::output::Output;
 
 // The commands, in the order of the words for what is wanted.
@@ -35,19 +36,20 @@ fn say_wanted(output: &mut Output, end: &mut usize, command: usize) {
 }
 
 // Which options a command has: a byte for each of them, in their order.
-fn is_sound(line: &[u8], command: usize) -> usize {
+fn is_sound(rt: HostRuntime, line: &[u8], command: usize) -> usize {
     match command {
-        RUN => unsound_at(line, b"yyyyyyyyynnnn"),
-        REPLAY => unsound_at(line, b"yyyyynnnnnnnn"),
-        AUDIT => unsound_at(line, b"yyyyynnnnnnnn"),
-        EXPIRE => unsound_at(line, b"ynnnynynnyyyn"),
-        CURRENT => unsound_at(line, b"nnnnnnnnnnnny"),
-        _ => unsound_at(line, b"nnnnnnnnnnnnn"),
+        RUN => unsound_at(rt, line, b"yyyyyyyyynnnn"),
+        REPLAY => unsound_at(rt, line, b"yyyyynnnnnnnn"),
+        AUDIT => unsound_at(rt, line, b"yyyyynnnnnnnn"),
+        EXPIRE => unsound_at(rt, line, b"ynnnynynnyyyn"),
+        CURRENT => unsound_at(rt, line, b"nnnnnnnnnnnny"),
+        _ => unsound_at(rt, line, b"nnnnnnnnnnnnn"),
     }
 }
 
 // Whether the words are those of the command: `least` to `most` files among them. Where they are not, that is said.
 pub fn are_words(
+    rt: HostRuntime,
     line: &[u8],
     command: usize,
     least: usize,
@@ -55,10 +57,10 @@ pub fn are_words(
     output: &mut Output,
     end: &mut usize,
 ) -> bool {
-    let unsound = is_sound(line, command);
-    let files = count_files(line, 4096);
+    let unsound = is_sound(rt, line, command);
+    let files = count_files(rt, line, 4096);
     if unsound < NONE {
-        say_unsound(output, end, line, unsound);
+        say_unsound(rt, output, end, line, unsound);
         return false;
     }
     if files < least || files > most {
@@ -69,11 +71,17 @@ pub fn are_words(
 }
 
 // Whether an option that the command can not do without is there. Where it is not, that is said, as the last line.
-pub fn is_there(line: &[u8], option: usize, output: &mut Output, end: &mut usize) -> bool {
+pub fn is_there(
+    rt: HostRuntime,
+    line: &[u8],
+    option: usize,
+    output: &mut Output,
+    end: &mut usize,
+) -> bool {
     let names =
         b"--clock is missing: give the time of the session, as --clock 2025-04-09T10:01:00Z\n\n\n\n\n\
         --updates is missing: give the list of updates, as --updates LIST.json\n";
-    if has(line, option) {
+    if has(rt, line, option) {
         return true;
     }
     say(output, end, b"bad word: ");
@@ -83,10 +91,10 @@ pub fn is_there(line: &[u8], option: usize, output: &mut Output, end: &mut usize
 }
 
 // The terms of a run. Where a value is none of its option, that is said.
-pub fn read_terms(line: &[u8], output: &mut Output, end: &mut usize) -> Asked {
-    let asked = terms_of(line);
+pub fn read_terms(rt: HostRuntime, line: &[u8], output: &mut Output, end: &mut usize) -> Asked {
+    let asked = terms_of(rt, line);
     if asked.fault < OPTIONS {
-        say_no_value(output, end, line, asked.fault);
+        say_no_value(rt, output, end, line, asked.fault);
     }
     asked
 }

@@ -14,11 +14,12 @@ use records::capacities::SNAPSHOTS;
 use records::metadata::{SingleFields, TableMetadata};
 use records::snapshot::Snapshots;
 use slot_bounds::with_slots;
+use std::rt::HostRuntime;
 use tokens::input::{Input, Place};
 use tokens::output::Output;
 
 // The times of the oldest and the newest snapshot.
-#[derive(Drop)]
+#[derive(Clone, Copy)]
 struct Span {
     oldest: i64,
     newest: i64,
@@ -109,9 +110,9 @@ fn say_held(output: &mut Output, end: &mut usize, name: &[u8], metadata: TableMe
     say_tables(output, end, metadata);
 }
 
-fn say_file(output: &mut Output, end: &mut usize, line: &[u8], held: Held) {
+fn say_file(rt: HostRuntime, output: &mut Output, end: &mut usize, line: &[u8], held: Held) {
     let mut name = io::buffer();
-    let len = read_file_name(line, 0, &mut name);
+    let len = read_file_name(rt, line, 0, &mut name);
     if held.number == 0 {
         say_held(output, end, &name[..len], held.metadata);
         say_skipped(output, end, held.is_json, held.skipped);
@@ -119,14 +120,15 @@ fn say_file(output: &mut Output, end: &mut usize, line: &[u8], held: Held) {
 }
 
 pub fn import(
+    rt: HostRuntime,
     line: &[u8],
     input: &mut Input,
     place: &mut Place,
     output: &mut Output,
     end: &mut usize,
 ) {
-    if are_words(line, IMPORT, 1, 1, output, end) {
-        let held = read_metadata_at(line, 0, input, place, output, end);
-        say_file(output, end, line, held);
+    if are_words(rt, line, IMPORT, 1, 1, output, end) {
+        let held = read_metadata_at(rt, line, 0, input, place, output, end);
+        say_file(rt, output, end, line, held);
     }
 }

@@ -3,16 +3,18 @@ use crate::read::read_metadata_behind;
 use current::say_moments;
 use file_words::option::IN;
 use named_files::metadata::Held;
+use std::rt::HostRuntime;
 use tokens::input::{Input, Place};
 use tokens::output::Output;
 
 // The moments stand behind `--in` and the name of the file.
 const FIRST_MOMENT: usize = 3;
 
-fn say_held(output: &mut Output, end: &mut usize, line: &[u8], held: Held) {
+fn say_held(rt: HostRuntime, output: &mut Output, end: &mut usize, line: &[u8], held: Held) {
     let metadata = held.metadata;
     if held.number == 0 {
         say_moments(
+            rt,
             output,
             end,
             metadata.snapshot_log,
@@ -24,12 +26,13 @@ fn say_held(output: &mut Output, end: &mut usize, line: &[u8], held: Held) {
 }
 
 pub fn current(
+    rt: HostRuntime,
     line: &[u8],
     input: &mut Input,
     place: &mut Place,
     output: &mut Output,
     end: &mut usize,
 ) {
-    let held = read_metadata_behind(line, IN, input, place, output, end);
-    say_held(output, end, line, held);
+    let held = read_metadata_behind(rt, line, IN, input, place, output, end);
+    say_held(rt, output, end, line, held);
 }

@@ -6,10 +6,12 @@ use named_files::list::Listed;
 use named_files::metadata::Held;
 use named_files::{list, metadata};
 use records::capacities::OFFERS;
+use std::rt::HostRuntime;
 use tokens::input::{Input, Place};
 use tokens::output::Output;
 
 pub fn read_metadata_at(
+    rt: HostRuntime,
     line: &[u8],
     file: usize,
     input: &mut Input,
@@ -18,12 +20,13 @@ pub fn read_metadata_at(
     end: &mut usize,
 ) -> Held {
     let mut name = io::buffer();
-    let len = read_file_name(line, file, &mut name);
-    metadata::read(&name[..len], input, place, output, end)
+    let len = read_file_name(rt, line, file, &mut name);
+    metadata::read(rt, &name[..len], input, place, output, end)
 }
 
 // Metadata whose file stands behind an option.
 pub fn read_metadata_behind(
+    rt: HostRuntime,
     line: &[u8],
     option: usize,
     input: &mut Input,
@@ -32,11 +35,12 @@ pub fn read_metadata_behind(
     end: &mut usize,
 ) -> Held {
     let mut name = io::buffer();
-    let len = read_word(line, place_behind(line, option), &mut name);
-    metadata::read(&name[..len], input, place, output, end)
+    let len = read_word(rt, line, place_behind(rt, line, option), &mut name);
+    metadata::read(rt, &name[..len], input, place, output, end)
 }
 
 pub fn read_list_at(
+    rt: HostRuntime,
     line: &[u8],
     file: usize,
     offers: &mut [u8; OFFERS],
@@ -46,12 +50,13 @@ pub fn read_list_at(
     end: &mut usize,
 ) -> Listed {
     let mut name = io::buffer();
-    let len = read_file_name(line, file, &mut name);
-    list::read(&name[..len], offers, input, place, output, end)
+    let len = read_file_name(rt, line, file, &mut name);
+    list::read(rt, &name[..len], offers, input, place, output, end)
 }
 
 // A list whose file stands behind an option.
 pub fn read_list_behind(
+    rt: HostRuntime,
     line: &[u8],
     option: usize,
     offers: &mut [u8; OFFERS],
@@ -61,6 +66,6 @@ pub fn read_list_behind(
     end: &mut usize,
 ) -> Listed {
     let mut name = io::buffer();
-    let len = read_word(line, place_behind(line, option), &mut name);
-    list::read(&name[..len], offers, input, place, output, end)
+    let len = read_word(rt, line, place_behind(rt, line, option), &mut name);
+    list::read(rt, &name[..len], offers, input, place, output, end)
 }

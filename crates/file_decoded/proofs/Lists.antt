@@ -77,9 +77,9 @@ module _ (version : ℕ) (bs cells : List ℕ) where
     list_read room name spot list ms s (missing e z) =
         let y : get_or cells list 0 ≡ 0 = rw add-zero at (z 0 (omega arith)) in
         (rw (none_counted room list y) (sym (ap (λ (o : Option Json). records_of make (items_of o)) e)), rw (e, not_there list y))
-    list_read room name spot list ms s (present (Scalar t) schema ofSchema e h d c g) = absurd (impossible d)
-    list_read room name spot list ms s (present (Object place ms' closed) schema ofSchema e h d c g) = absurd (impossible d)
-    list_read room name spot list ms s (present (Array place xs closed) schema ofSchema e h d c g) =
+    list_read room name spot list ms s (present (Scalar t) schema of_schema e h d c g) = absurd (impossible d)
+    list_read room name spot list ms s (present (Object place ms' closed) schema of_schema e h d c g) = absurd (impossible d)
+    list_read room name spot list ms s (present (Array place xs closed) schema of_schema e h d c g) =
         let parts = both_empty (unless (leb (count_of xs) room) place over_capacity) (item_defects version schema (OfKind k) xs) d in
         let l : count_of xs ≤ room = leb-true (count_of xs) room (passed (leb (count_of xs) room) place over_capacity parts.0) in
         let i : item_in (shape_of spot) ≡ 100 + kind_number k = ap item_in s in

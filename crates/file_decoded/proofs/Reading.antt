@@ -68,7 +68,7 @@ module _ (version : ℕ) (bs cells : List ℕ) where
   -- a value that is to be of a shape: absent, or held and right
   pub data Reading (shape : FileShape) (name : List ℕ) (spot at : ℕ) (ms : Members) : Type 0 where
     missing : value_of name ms ≡ none → ((i : ℕ) → i < size_of shape → get_or cells (at + i) 0 ≡ 0) → Reading shape name spot at ms
-    present : (x : Json) (schema : ℕ) (of_schema : Bool) → value_of name ms ≡ some x → Holds version spot at x cells → defects version schema ofSchema shape x ≡ [] → is_closed x ≡ true → Every Sound x
+    present : (x : Json) (schema : ℕ) (of_schema : Bool) → value_of name ms ≡ some x → Holds version spot at x cells → defects version schema of_schema shape x ≡ [] → is_closed x ≡ true → Every Sound x
         → Reading shape name spot at ms
 
   module _ (v : is_known version ≡ true) {k : FileKind} {base : ℕ} {ms : Members} (h : HeldRecord k base ms) where
@@ -91,12 +91,12 @@ module _ (version : ℕ) (bs cells : List ℕ) where
         by_row (some q) e w = by_value q e (value_of r.name ms) refl
 
   -- an object where a record is to be
-  pub record_of_lem : (k : FileKind) (want base schema : ℕ) (of_schema : Bool) (x : Json) → shape_of want ≡ OfKind k → Holds version want base x cells → defects version schema ofSchema (OfKind k) x ≡ [] → is_closed x ≡ true → Every Sound x
+  pub record_of_lem : (k : FileKind) (want base schema : ℕ) (of_schema : Bool) (x : Json) → shape_of want ≡ OfKind k → Holds version want base x cells → defects version schema of_schema (OfKind k) x ≡ [] → is_closed x ≡ true → Every Sound x
       → HeldRecord k base (members_in x)
   unfolding defects Holds named_at record_at is_closed Every
-  record_of_lem k want base schema ofSchema (Scalar t) s h d c e = absurd (impossible d)
-  record_of_lem k want base schema ofSchema (Array place xs closed) s h d c e = absurd (impossible d)
-  record_of_lem k want base schema ofSchema (Object place ms closed) s h d c e =
+  record_of_lem k want base schema of_schema (Scalar t) s h d c e = absurd (impossible d)
+  record_of_lem k want base schema of_schema (Array place xs closed) s h d c e = absurd (impossible d)
+  record_of_lem k want base schema of_schema (Object place ms closed) s h d c e =
       let parts = both_empty (member_defects version (schema_place k place schema) k (rows_in version k) [] ms) (missing_defects version k place ms closed) d in
       let w : closed ≡ true = and_left closed (are_all ms) c in
       record {

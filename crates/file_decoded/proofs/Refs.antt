@@ -76,9 +76,9 @@ module _ (version : ℕ) (bs cells : List ℕ) (v : is_known version ≡ true) w
   refs_read name spot list ms s (missing e z) =
       let y : get_or cells list 0 ≡ 0 = rw add-zero at (z 0 (omega arith)) in
       (rw (none_counted version bs cells ref_room list y) (sym (ap (λ (o : Option Json). refs_of (members_of o)) e)), rw (e, not_there version bs cells list y))
-  refs_read name spot list ms s (present (Scalar t) schema ofSchema e h d c g) = absurd (impossible d)
-  refs_read name spot list ms s (present (Array place xs closed) schema ofSchema e h d c g) = absurd (impossible d)
-  refs_read name spot list ms s (present (Object place us closed) schema ofSchema e h d c g) =
+  refs_read name spot list ms s (present (Scalar t) schema of_schema e h d c g) = absurd (impossible d)
+  refs_read name spot list ms s (present (Array place xs closed) schema of_schema e h d c g) = absurd (impossible d)
+  refs_read name spot list ms s (present (Object place us closed) schema of_schema e h d c g) =
       let parts = both_empty (unless (leb (members_count us) ref_room) place over_capacity) (named_defects version schema (OfKind HeldRef) [] us) d in
       let l : members_count us ≤ ref_room = leb-true (members_count us) ref_room (passed (leb (members_count us) ref_room) place over_capacity parts.0) in
       let i : named_in (shape_of spot) ≡ 108 = ap named_in s in

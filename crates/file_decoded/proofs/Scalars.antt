@@ -121,9 +121,9 @@ module _ (version : ℕ) (bs cells : List ℕ) where
   single shape name spot at ms a n (missing e z) =
       let l : 0 < size_of (Single shape) = rw a (omega arith) in
       nothing e (not_there at (rw add-zero at (z 0 l)))
-  single shape name spot at ms a n (present (Scalar t) schema ofSchema e h d c f) = something t (stands_at ofSchema schema t.first) e (said_of t spot at h n f) d
-  single shape name spot at ms a n (present (Array place xs closed) schema ofSchema e h d c f) = absurd (impossible (rw a at d))
-  single shape name spot at ms a n (present (Object place ms' closed) schema ofSchema e h d c f) = absurd (impossible (rw a at d))
+  single shape name spot at ms a n (present (Scalar t) schema of_schema e h d c f) = something t (stands_at of_schema schema t.first) e (said_of t spot at h n f) d
+  single shape name spot at ms a n (present (Array place xs closed) schema of_schema e h d c f) = absurd (impossible (rw a at d))
+  single shape name spot at ms a n (present (Object place ms' closed) schema of_schema e h d c f) = absurd (impossible (rw a at d))
 
   -- ---- numbers
 
@@ -227,11 +227,11 @@ module _ (version : ℕ) (bs cells : List ℕ) where
       either : (b : Bool) → ◌≡◌ {A = Option ℤ} (cond b none none) none
       either true = refl
       either false = refl
-  current_read name spot at ms n (present (Scalar t) schema ofSchema e h d c f) =
+  current_read name spot at ms n (present (Scalar t) schema of_schema e h d c f) =
       let s : Said t at = said_of t spot at h n f in
       cases (eqb t.head 110)
       (λ b. rw (s.head, b) (sym (ap number_of e ∙ null_is_none t b)))
-      (λ b. let l : scalar_defects i64 (stands_at ofSchema schema t.first) t ≡ [] = rw b at d in
-      rw (s.head, b) (number_read (negsuc 9223372036854775807) (pos 9223372036854775807) name at ms (λ z w. w) (something t (stands_at ofSchema schema t.first) e s l)))
-  current_read name spot at ms n (present (Array place xs closed) schema ofSchema e h d c f) = absurd (impossible d)
-  current_read name spot at ms n (present (Object place ms' closed) schema ofSchema e h d c f) = absurd (impossible d)
+      (λ b. let l : scalar_defects i64 (stands_at of_schema schema t.first) t ≡ [] = rw b at d in
+      rw (s.head, b) (number_read (negsuc 9223372036854775807) (pos 9223372036854775807) name at ms (λ z w. w) (something t (stands_at of_schema schema t.first) e s l)))
+  current_read name spot at ms n (present (Array place xs closed) schema of_schema e h d c f) = absurd (impossible d)
+  current_read name spot at ms n (present (Object place ms' closed) schema of_schema e h d c f) = absurd (impossible d)

@@ -133,8 +133,8 @@ module _ (version : ℕ) (bs cells : List ℕ) (v : is_known version ≡ true) (
           let a : get_or cells 271 0 ≡ 0 = z 259 (omega arith) in
           let b : get_or cells 14 0 ≡ 0 = z 2 (omega arith) in
           rw (a, b) (sym (ap (λ (o : Option Json). schema_of (members_of o)) e))
-      go (present x schema ofSchema e g d c f) =
-          schema_same version bs cells v 12 (members_in x) (record_of_lem version bs cells HeldSchema 7 12 schema ofSchema x refl g d c f) ∙ sym (ap (λ (o : Option Json). schema_of (members_of o)) e)
+      go (present x schema of_schema e g d c f) =
+          schema_same version bs cells v 12 (members_in x) (record_of_lem version bs cells HeldSchema 7 12 schema of_schema x refl g d c f) ∙ sym (ap (λ (o : Option Json). schema_of (members_of o)) e)
 
   pub schemas_same : schemas_in bs cells version ≡ schemas_of version ms
   unfolding schemas_in

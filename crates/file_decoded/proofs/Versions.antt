@@ -54,12 +54,12 @@ always_shape version r q a e =
     ap (λ (p : Published). p.shape) (sym g) ∙ rw a)))
 
 -- the version that a value says
-said_version : (version schema : ℕ) (of_schema : Bool) (x : Json) → defects version schema ofSchema version_shape x ≡ []
+said_version : (version schema : ℕ) (of_schema : Bool) (x : Json) → defects version schema of_schema version_shape x ≡ []
     → is_known (elim (number_in x) [ none ↦ 0 | some n ↦ known_version n ]) ≡ true
 unfolding defects
-said_version version schema ofSchema (Array place xs closed) d = absurd (impossible d)
-said_version version schema ofSchema (Object place ms closed) d = absurd (impossible d)
-said_version version schema ofSchema (Scalar t) d = go (whole_number_of t) (passed (is_number_in (pos 1) (pos 3) t) (stands_at ofSchema schema t.first) not_published d)
+said_version version schema of_schema (Array place xs closed) d = absurd (impossible d)
+said_version version schema of_schema (Object place ms closed) d = absurd (impossible d)
+said_version version schema of_schema (Scalar t) d = go (whole_number_of t) (passed (is_number_in (pos 1) (pos 3) t) (stands_at of_schema schema t.first) not_published d)
   where
     go : (o : Option ℤ) → some_with (λ n. le_z (pos 1) n && le_z n (pos 3)) o ≡ true → is_known (elim o [ none ↦ 0 | some n ↦ known_version n ]) ≡ true
     go none e = absurd (false≢true e)

@@ -1,5 +1,7 @@
 // Metadata exported as a published JSON file into a lent buffer. Refused with 1, then 38 where a file cannot show it, then 25 where the buffer is short;
 // then nothing is written. Document 02 decides, requests (vii) and (xi), as the crate `file_rule` writes it in Export.
+#![tactic(auto)]
+
 ghost use Rattle.std.specs.Prelude.{true, ◌≡◌};
 ghost use Rattle.rules.specs.Layout.{read_metadata};
 ghost use Rattle.file_rule.specs.Fits.{metadata_fits};

@@ -67,7 +67,7 @@ reference_fits_lem r vs k =
     (both
     (both (number64 r.snapshot_id.0 k.1.1.0.1.1.0.1) (given_fits fits32 r.has_min r.min_snapshots_to_keep.0 (number32 r.min_snapshots_to_keep.0 least.1.1.0.1)))
     (given_fits fits64 r.has_age r.max_snapshot_age_ms.0 (number64 r.max_snapshot_age_ms.0 age.1.1.0.1)))
-    (given_fits fits64 r.has_ref_age r.max_ref_age_ms.0 (number64 r.max_ref_age_ms.0 refAge.1.1.0.1))
+    (given_fits fits64 r.has_ref_age r.max_ref_age_ms.0 (number64 r.max_ref_age_ms.0 ref_age.1.1.0.1))
 
 pub ref_fits_lem : (r : NamedRef) (vs : List Val) → Is (row ref.the_type) r vs → ref_fits (read_ref r) ≡ true
 ref_fits_lem r vs k = reference_fits_lem r.reference k.0.1.0 k.1.1.1.0

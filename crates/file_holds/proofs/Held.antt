@@ -178,6 +178,6 @@ module _ (version : ℕ) where
 
   -- ---- the theorem
 
-  pub filled_holds : (want schema base : ℕ) (of_schema : Bool) (x : Json) (cells : List ℕ) → Meant want → defects version schema ofSchema (shape_of want) x ≡ [] → is_closed x ≡ true
+  pub filled_holds : (want schema base : ℕ) (of_schema : Bool) (x : Json) (cells : List ℕ) → Meant want → defects version schema of_schema (shape_of want) x ≡ [] → is_closed x ≡ true
       → Unused base (base + size_at want) cells → base + size_at want ≤ length cells → Holds version want base x (filled version want base x cells)
-  filled_holds want schema base ofSchema x cells m d c u l = held want base x cells (right version want schema ofSchema x m d c) u l
+  filled_holds want schema base of_schema x cells m d c u l = held want base x cells (right version want schema of_schema x m d c) u l

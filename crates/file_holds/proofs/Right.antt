@@ -176,41 +176,41 @@ module _ (version : ℕ) where
 
   -- the elements of a list, and their numbers
   list_right : (want schema : ℕ) (of_schema : Bool) (place : ℕ) (xs : Items) (closed : Bool) (shape : FileShape) → shape_of want ≡ shape → is_plain shape ≡ true
-      → defects version schema ofSchema shape (Array place xs closed) ≡ [] → closed ≡ true
+      → defects version schema of_schema shape (Array place xs closed) ≡ [] → closed ≡ true
       → ((each : ℕ) (k : FileKind) → shape_of each ≡ OfKind k → item_defects version schema (OfKind k) xs ≡ [] → RightItems version each xs)
       → Right version want (Array place xs closed)
   unfolding Right defects item_at room_at size_at size_of
-  list_right want schema ofSchema place xs closed (Single shape) e p d c h = λ n. absurd (true≢false (rw e at n))
-  list_right want schema ofSchema place xs closed IdOrNull e p d c h = λ n. absurd (true≢false (rw e at n))
-  list_right want schema ofSchema place xs closed (ByName room each) e p d c h = λ n. absurd (true≢false (rw e at n))
-  list_right want schema ofSchema place xs closed (OfKind kind) e p d c h = λ n. absurd (true≢false (rw e at n))
-  list_right want schema ofSchema place xs closed (Several room (Single shape)) e p d c h = absurd (false≢true p)
-  list_right want schema ofSchema place xs closed (Several room IdOrNull) e p d c h = absurd (false≢true p)
-  list_right want schema ofSchema place xs closed (Several room (Several most each)) e p d c h = absurd (false≢true p)
-  list_right want schema ofSchema place xs closed (Several room (ByName most each)) e p d c h = absurd (false≢true p)
-  list_right want schema ofSchema place xs closed (Several room (OfKind k)) e p d c h =
+  list_right want schema of_schema place xs closed (Single shape) e p d c h = λ n. absurd (true≢false (rw e at n))
+  list_right want schema of_schema place xs closed IdOrNull e p d c h = λ n. absurd (true≢false (rw e at n))
+  list_right want schema of_schema place xs closed (ByName room each) e p d c h = λ n. absurd (true≢false (rw e at n))
+  list_right want schema of_schema place xs closed (OfKind kind) e p d c h = λ n. absurd (true≢false (rw e at n))
+  list_right want schema of_schema place xs closed (Several room (Single shape)) e p d c h = absurd (false≢true p)
+  list_right want schema of_schema place xs closed (Several room IdOrNull) e p d c h = absurd (false≢true p)
+  list_right want schema of_schema place xs closed (Several room (Several most each)) e p d c h = absurd (false≢true p)
+  list_right want schema of_schema place xs closed (Several room (ByName most each)) e p d c h = absurd (false≢true p)
+  list_right want schema of_schema place xs closed (Several room (OfKind k)) e p d c h =
       let parts = both_empty (unless (leb (count_of xs) room) place over_capacity) (item_defects version schema (OfKind k) xs) d in
       λ n. rw e (c, leb-true (count_of xs) room (passed (leb (count_of xs) room) place over_capacity parts.0), rw (record_shape k), h (100 + kind_number k) k (record_shape k) parts.1)
 
   -- the members of an object, and the numbers of its kind
   object_right : (want schema : ℕ) (of_schema : Bool) (place : ℕ) (ms : Members) (closed : Bool) (shape : FileShape) → shape_of want ≡ shape → is_plain shape ≡ true
-      → defects version schema ofSchema shape (Object place ms closed) ≡ [] → closed ≡ true
+      → defects version schema of_schema shape (Object place ms closed) ≡ [] → closed ≡ true
       → ((outer : ℕ) (k : FileKind) → member_defects version outer k (rows_in version k) [] ms ≡ [] → RightMembers version (kind_number k) [] ms)
       → ((each : ℕ) (k : FileKind) → shape_of each ≡ OfKind k → named_defects version schema (OfKind k) [] ms ≡ [] → RightNamed version each ms)
       → Right version want (Object place ms closed)
   unfolding Right defects named_at record_at room_at size_at size_of kind_at
-  object_right want schema ofSchema place ms closed (Single shape) e p d c h g =
+  object_right want schema of_schema place ms closed (Single shape) e p d c h g =
       (λ n. rw e ((λ k f. cc), right_unknown 13 [] ms refl), λ n. absurd (true≢false (rw e at n)))
-  object_right want schema ofSchema place ms closed IdOrNull e p d c h g = absurd (impossible d)
-  object_right want schema ofSchema place ms closed (Several room each) e p d c h g = absurd (impossible d)
-  object_right want schema ofSchema place ms closed (OfKind kind) e p d c h g =
+  object_right want schema of_schema place ms closed IdOrNull e p d c h g = absurd (impossible d)
+  object_right want schema of_schema place ms closed (Several room each) e p d c h g = absurd (impossible d)
+  object_right want schema of_schema place ms closed (OfKind kind) e p d c h g =
       let parts = both_empty (member_defects version (schema_place kind place schema) kind (rows_in version kind) [] ms) (missing_defects version kind place ms closed) d in
       (λ n. rw e ((λ k f. let i : some kind ≡ some k = sym (kind_at_lem kind) ∙ f in let j : kind ≡ k = cc in ap kind_size j), h (schema_place kind place schema) kind parts.0), λ n. absurd (true≢false (rw e at n)))
-  object_right want schema ofSchema place ms closed (ByName room (Single shape)) e p d c h g = absurd (false≢true p)
-  object_right want schema ofSchema place ms closed (ByName room IdOrNull) e p d c h g = absurd (false≢true p)
-  object_right want schema ofSchema place ms closed (ByName room (Several most each)) e p d c h g = absurd (false≢true p)
-  object_right want schema ofSchema place ms closed (ByName room (ByName most each)) e p d c h g = absurd (false≢true p)
-  object_right want schema ofSchema place ms closed (ByName room (OfKind k)) e p d c h g =
+  object_right want schema of_schema place ms closed (ByName room (Single shape)) e p d c h g = absurd (false≢true p)
+  object_right want schema of_schema place ms closed (ByName room IdOrNull) e p d c h g = absurd (false≢true p)
+  object_right want schema of_schema place ms closed (ByName room (Several most each)) e p d c h g = absurd (false≢true p)
+  object_right want schema of_schema place ms closed (ByName room (ByName most each)) e p d c h g = absurd (false≢true p)
+  object_right want schema of_schema place ms closed (ByName room (OfKind k)) e p d c h g =
       let parts = both_empty (unless (leb (members_count ms) room) place over_capacity) (named_defects version schema (OfKind k) [] ms) d in (
         λ n. absurd (not_kind k (rw e at n)),
         λ n. rw e (c, leb-true (members_count ms) room (passed (leb (members_count ms) room) place over_capacity parts.0), rw (record_shape k), g (100 + kind_number k) k (record_shape k) parts.1),
@@ -239,13 +239,13 @@ module _ (version : ℕ) where
   mutual
     unfolding defects is_closed Right
 
-    pub right : (want schema : ℕ) (of_schema : Bool) (x : Json) → Meant want → defects version schema ofSchema (shape_of want) x ≡ [] → is_closed x ≡ true → Right version want x
-    right want schema ofSchema (Scalar t) m d c = scalar_size want (shape_of want) (stands_at ofSchema schema t.first) t refl m d
-    right want schema ofSchema (Array place xs closed) m d c =
-        list_right want schema ofSchema place xs closed (shape_of want) refl (plain_shape want) d (and_left closed (are_closed xs) c)
+    pub right : (want schema : ℕ) (of_schema : Bool) (x : Json) → Meant want → defects version schema of_schema (shape_of want) x ≡ [] → is_closed x ≡ true → Right version want x
+    right want schema of_schema (Scalar t) m d c = scalar_size want (shape_of want) (stands_at of_schema schema t.first) t refl m d
+    right want schema of_schema (Array place xs closed) m d c =
+        list_right want schema of_schema place xs closed (shape_of want) refl (plain_shape want) d (and_left closed (are_closed xs) c)
         (λ each k s e. right_items each schema k xs s e (and_right closed (are_closed xs) c))
-    right want schema ofSchema (Object place ms closed) m d c =
-        object_right want schema ofSchema place ms closed (shape_of want) refl (plain_shape want) d (and_left closed (are_all ms) c)
+    right want schema of_schema (Object place ms closed) m d c =
+        object_right want schema of_schema place ms closed (shape_of want) refl (plain_shape want) d (and_left closed (are_all ms) c)
         (λ outer k e. right_members (kind_number k) outer k [] ms (kind_at_lem k) e (and_right closed (are_all ms) c))
         (λ each k s e. right_named each schema k [] ms s e (and_right closed (are_all ms) c))
 

@@ -72,23 +72,23 @@ module _ (version : ℕ) where
   mutual
     unfolding defects
 
-    numbers : (schema : ℕ) (of_schema : Bool) (shape : FileShape) (x : Json) → OfFile (defects version schema ofSchema shape x)
-    numbers schema ofSchema shape (Scalar t) = single_numbers shape (stands_at ofSchema schema t.first) t
-    numbers schema ofSchema (Several room each) (Array place xs closed) =
+    numbers : (schema : ℕ) (of_schema : Bool) (shape : FileShape) (x : Json) → OfFile (defects version schema of_schema shape x)
+    numbers schema of_schema shape (Scalar t) = single_numbers shape (stands_at of_schema schema t.first) t
+    numbers schema of_schema (Several room each) (Array place xs closed) =
         join (unless (leb (count_of xs) room) place over_capacity) (item_defects version schema each xs) (unless_number (leb (count_of xs) room) place 29 refl) (item_numbers schema each xs)
-    numbers schema ofSchema (Single shape) (Array place xs closed) = unless_number (is_anything shape) (stands_at ofSchema schema place) not_published refl
-    numbers schema ofSchema IdOrNull (Array place xs closed) = refl
-    numbers schema ofSchema (ByName room each) (Array place xs closed) = refl
-    numbers schema ofSchema (OfKind kind) (Array place xs closed) = refl
-    numbers schema ofSchema (ByName room each) (Object place ms closed) =
+    numbers schema of_schema (Single shape) (Array place xs closed) = unless_number (is_anything shape) (stands_at of_schema schema place) not_published refl
+    numbers schema of_schema IdOrNull (Array place xs closed) = refl
+    numbers schema of_schema (ByName room each) (Array place xs closed) = refl
+    numbers schema of_schema (OfKind kind) (Array place xs closed) = refl
+    numbers schema of_schema (ByName room each) (Object place ms closed) =
         join (unless (leb (members_count ms) room) place over_capacity) (named_defects version schema each [] ms) (unless_number (leb (members_count ms) room) place 29 refl) (named_numbers schema each [] ms)
-    numbers schema ofSchema (OfKind kind) (Object place ms closed) =
+    numbers schema of_schema (OfKind kind) (Object place ms closed) =
         join (member_defects version (schema_place kind place schema) kind (rows_in version kind) [] ms) (missing_defects version kind place ms closed)
         (member_numbers (schema_place kind place schema) kind (rows_in version kind) [] ms)
         (unless_number (not closed || all (is_one_of (names_of ms)) (required_in (rows_in version kind) ++ range_names version kind (names_of ms))) place missing_member refl)
-    numbers schema ofSchema (Single shape) (Object place ms closed) = unless_number (is_anything shape) (stands_at ofSchema schema place) not_published refl
-    numbers schema ofSchema IdOrNull (Object place ms closed) = refl
-    numbers schema ofSchema (Several room each) (Object place ms closed) = refl
+    numbers schema of_schema (Single shape) (Object place ms closed) = unless_number (is_anything shape) (stands_at of_schema schema place) not_published refl
+    numbers schema of_schema IdOrNull (Object place ms closed) = refl
+    numbers schema of_schema (Several room each) (Object place ms closed) = refl
 
     item_numbers : (schema : ℕ) (shape : FileShape) (xs : Items) → OfFile (item_defects version schema shape xs)
     item_numbers schema shape no_item = refl

@@ -32,7 +32,7 @@ use Rattle.file_import.specs.Passing.{Passes}
 use Rattle.file_import.proofs.Versions.{no_version, no_name_lem, broken_name, no_more, no_colon, a_member}
 
 -- the search has ended
-pub at_end_lem : (bs : List ℕ) (from version n : ℕ) (r : Passed) → r ≡ record { from = 0; goes_on_lem = false; version = n } → n ≡ version → Passes bs from r version
+pub at_end_lem : (bs : List ℕ) (from version n : ℕ) (r : Passed) → r ≡ record { from = 0; goes_on = false; version = n } → n ≡ version → Passes bs from r version
 at_end_lem bs from version n r q e =
     let no : (r.goes_on ≡ true → ⊥) = λ f. true≢false (sym f ∙ ap (λ (p : Passed). p.goes_on) q) in
     record { ends = λ _. ap (λ (p : Passed). p.version) q ∙ e; goes = λ f. absurd (no f); later = λ f. absurd (no f); fits = λ f. absurd (no f) }
@@ -91,7 +91,7 @@ module _ (bs : List ℕ) (from : ℕ) (t : Token) (slots : List ℕ) (k : TokenA
   still_fits e = (k.whole e).fits
 
 -- one more name is to come
-pub onward : (bs : List ℕ) (from later version : ℕ) → version_from (length bs) (lexemes_at bs later) ≡ version → from < later → later ≤ length bs → Passes bs from (record { from = later; goes_on_lem = true; version = 0 }) version
+pub onward : (bs : List ℕ) (from later version : ℕ) → version_from (length bs) (lexemes_at bs later) ≡ version → from < later → later ≤ length bs → Passes bs from (record { from = later; goes_on = true; version = 0 }) version
 onward bs from later version e l f = record { ends = λ h. absurd (true≢false h); goes = λ _. e; later = λ _. l; fits = λ _. f }
 
 -- ---- a name and its colon
@@ -198,7 +198,7 @@ module _ (bs : List ℕ) (t : Token) (slots : List ℕ) (k : TokenAt bs 0 t slot
       let w = k.whole e in
       sym (ap start_of w.is ∙ ap (λ (b : Bool). cond b (version_from (length bs) (lexemes_at bs t.after)) 0) (ne_eqb w.lexeme.head 123 (λ q. n (w.head ∙ q))))
 
-  pub begins : t.state ≡ 1 → t.head ≡ 123 → Standing bs (record { from = t.after; goes_on_lem = true; version = 0 })
+  pub begins : t.state ≡ 1 → t.head ≡ 123 → Standing bs (record { from = t.after; goes_on = true; version = 0 })
   begins e q =
       let w = k.whole e in
       record {

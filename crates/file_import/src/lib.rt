@@ -1,11 +1,13 @@
 // Metadata imported from a published JSON file. The file is gone through as far as its version, and then as a whole, by the tables of that version. Refused
 // with 27, 28, 29 or 30 at the place of the first defect, then with 1 where the metadata is not well formed. Document 02 decides, request (vii), as the crate
 // `file_rule` writes it in Import.
+#![tactic(auto)]
+
 ghost use Rattle.std.specs.Prelude.{◌≡◌, ◌%◌, replicate};
 ghost use Rattle.file_import.specs.Answer.{import_answer, refused_with};
 
 use crate::text::read_text;
-use crate::version::version_of_lem;
+use crate::version::version_of;
 use file_records::metadata::metadata_of;
 use file_walk::cells::{CELLS, Cells};
 use formed::metadata::is_formed;
@@ -16,7 +18,7 @@ pub mod text;
 pub mod version;
 
 // Number and place of the answer; how many members at the top were skipped, and the metadata. Both are blank where the file is refused.
-#[derive(Drop)]
+#[derive(Clone, Copy)]
 pub struct Imported {
     pub number: u8,
     pub place: usize,
@@ -54,7 +56,7 @@ pub fn import(bytes: &[u8]) -> Imported
     ensures { result ≡ import_answer bytes.now }
 {
     let mut passing = no_cells();
-    let version = version_of_lem(bytes, &mut passing);
+    let version = version_of(bytes, &mut passing);
     let mut cells = no_cells();
     let seat = read_text(bytes, &mut cells, version);
     if seat.number != 0 {

@@ -10,7 +10,7 @@ ghost use Rattle.file_import.specs.Passing.{Passes};
 use file_walk::cells::Cells;
 use file_walk::reader::value;
 use file_walk::seat::Seat;
-use json_lex::byte::is_digit_lem;
+use json_lex::byte::is_digit;
 use json_lex::text::{KEPT, Kept};
 use json_members::word::is_word;
 use json_tokens::{WHOLE, next};
@@ -54,19 +54,19 @@ fn version_at(bytes: &[u8], from: usize, kept: &mut Kept) -> usize
 }
 
 // Where the search for the version stands: at the next name, or at its end.
-#[derive(Drop)]
+#[derive(Clone, Copy)]
 struct Passed {
     from: usize,
-    goes_on_lem: bool,
+    goes_on: bool,
     version: usize,
 }
 
 fn ended(version: usize) -> Passed
-    ensures { result ≡ record { from = 0; goes_on_lem = false; version = version } }
+    ensures { result ≡ record { from = 0; goes_on = false; version = version } }
 {
     Passed {
         from: 0,
-        goes_on_lem: false,
+        goes_on: false,
         version,
     }
 }
@@ -97,7 +97,7 @@ fn pass(bytes: &[u8], from: usize, kept: &mut Kept, cells: &mut Cells) -> Passed
     }
     Passed {
         from: comma.after,
-        goes_on_lem: true,
+        goes_on: true,
         version: NO_VERSION,
     }
 }
@@ -136,7 +136,7 @@ fn take_member(bytes: &[u8], from: usize, kept: &mut Kept, cells: &mut Cells) ->
     take_value(bytes, colon.after, kept, cells, is_version)
 }
 
-pub fn version_of_lem(bytes: &[u8], cells: &mut Cells) -> usize
+pub fn version_of(bytes: &[u8], cells: &mut Cells) -> usize
     ensures { result ≡ version_at_start (length bytes.now) (lexemes_at bytes.now 0) }
 {
     let mut kept = [0u8; KEPT];
@@ -149,7 +149,7 @@ pub fn version_of_lem(bytes: &[u8], cells: &mut Cells) -> usize
     }
     let mut passed = Passed {
         from: brace.after,
-        goes_on_lem: true,
+        goes_on: true,
         version: NO_VERSION,
     };
     while passed.goes_on {

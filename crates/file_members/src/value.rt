@@ -15,7 +15,7 @@ use crate::spot::{
     STATISTICS_SNAPSHOT_ID, TABLE_UUID, TIMESTAMP_MS,
 };
 use crate::want::passes_over;
-use json_lex::byte::is_digit_lem;
+use json_lex::byte::is_digit;
 use json_lex::text::Kept;
 use json_members::refusal::NOT_PUBLISHED;
 

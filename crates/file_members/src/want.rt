@@ -131,7 +131,7 @@ pub fn room_of(want: usize) -> usize
 }
 
 // Which record is wanted; 13 where none is.
-pub fn record_of_lem(want: usize) -> usize
+pub fn record_of(want: usize) -> usize
     ensures { result ≡ record_at want }
 {
     if want == SCHEMA {

@@ -48,16 +48,16 @@ module _ (version schema : ℕ) where
       let k = no_both (defects version schema false each x) (item_defects version schema each xs) e in
       both_none k.0 (items_right h each k.1)
 
-  array_right : {xs ys : Items} → ExchangedItems xs ys → (place : ℕ) (closed of_schema : Bool) (shape : FileShape) → defects version schema ofSchema shape (Array place xs closed) ≡ []
-      → defects version schema ofSchema shape (Array place ys closed) ≡ []
+  array_right : {xs ys : Items} → ExchangedItems xs ys → (place : ℕ) (closed of_schema : Bool) (shape : FileShape) → defects version schema of_schema shape (Array place xs closed) ≡ []
+      → defects version schema of_schema shape (Array place ys closed) ≡ []
   unfolding defects
-  array_right {xs} {ys} h place closed ofSchema (Several room each) e =
+  array_right {xs} {ys} h place closed of_schema (Several room each) e =
       let k = no_both (unless (leb (count_of xs) room) place over_capacity) (item_defects version schema each xs) e in
       both_none (ap (λ (n : ℕ). unless (leb n room) place over_capacity) (count_exchanged h) ∙ k.0) (items_right h each k.1)
-  array_right h place closed ofSchema (Single shape) e = e
-  array_right h place closed ofSchema IdOrNull e = e
-  array_right h place closed ofSchema (ByName room each) e = e
-  array_right h place closed ofSchema (OfKind kind) e = e
+  array_right h place closed of_schema (Single shape) e = e
+  array_right h place closed of_schema IdOrNull e = e
+  array_right h place closed of_schema (ByName room each) e = e
+  array_right h place closed of_schema (OfKind kind) e = e
 
   said_right : {xs ys : Items} → ExchangedItems xs ys → (place : ℕ) (closed : Bool) (o : Option Published) → said_of version schema o (Array place xs closed) ≡ [] → said_of version schema o (Array place ys closed) ≡ []
   said_right h place closed none e = refl

@@ -48,12 +48,12 @@ refs_turned version schema (in_member {t = t} {x = x} {y = y} {ms = ms} h) seen 
     (λ i. record { name = or_else (text_of t) []; owner = 1; reference = record_turned version HeldRef reference_of (reference_good version) h schema r.value i }) kept
 refs_turned version schema (behind_member {t = t} {x = x} {ms = ms} h) seen e = later (refs_turned version schema h (with_name seen (text_of t)) (own_right version schema (OfKind HeldRef) seen t x ms e).others)
 
-refs_near : (version schema room : ℕ) (of_schema : Bool) {o p : Option Json} → Near o p → ((x : Json) → o ≡ some x → defects version schema ofSchema (ByName room (OfKind HeldRef)) x ≡ [])
+refs_near : (version schema room : ℕ) (of_schema : Bool) {o p : Option Json} → Near o p → ((x : Json) → o ≡ some x → defects version schema of_schema (ByName room (OfKind HeldRef)) x ≡ [])
     → Exchanged NamedRef (refs_of (members_at o)) (refs_of (members_at p))
 unfolding defects
-refs_near version schema room ofSchema alike e = kept
-refs_near version schema room ofSchema (near (in_array h)) e = kept
-refs_near version schema room ofSchema (near (in_object {place = place} {ms = ms} {closed = closed} h)) e =
+refs_near version schema room of_schema alike e = kept
+refs_near version schema room of_schema (near (in_array h)) e = kept
+refs_near version schema room of_schema (near (in_object {place = place} {ms = ms} {closed = closed} h)) e =
     refs_turned version schema h [] (no_both (unless (leb (members_count ms) room) place over_capacity) (named_defects version schema (OfKind HeldRef) [] ms) (e (Object place ms closed) refl)).1
 
 -- ---- a record under a name

@@ -137,12 +137,12 @@ module _ {A : Type 0} (version : ℕ) (kind : FileKind) (make : Members → A) (
       ap (λ (l : List A). make (members_in x) ∷ l) (records_turned h schema (no_both (defects version schema false (OfKind kind) x) (item_defects version schema (OfKind kind) xs) e).1)
 
   -- a list of them under a name
-  list_near : {o p : Option Json} → Near o p → (schema room : ℕ) (of_schema : Bool) → ((x : Json) → o ≡ some x → defects version schema ofSchema (Several room (OfKind kind)) x ≡ []) → records_of make (items_at o) ≡ records_of make (items_at p)
+  list_near : {o p : Option Json} → Near o p → (schema room : ℕ) (of_schema : Bool) → ((x : Json) → o ≡ some x → defects version schema of_schema (Several room (OfKind kind)) x ≡ []) → records_of make (items_at o) ≡ records_of make (items_at p)
   unfolding defects
-  list_near alike schema room ofSchema e = refl
-  list_near (near (in_array {place = place} {xs = xs} {closed = closed} h)) schema room ofSchema e =
+  list_near alike schema room of_schema e = refl
+  list_near (near (in_array {place = place} {xs = xs} {closed = closed} h)) schema room of_schema e =
       records_turned h schema (no_both (unless (leb (count_of xs) room) place over_capacity) (item_defects version schema (OfKind kind) xs) (e (Array place xs closed) refl)).1
-  list_near (near (in_object h)) schema room ofSchema e = refl
+  list_near (near (in_object h)) schema room of_schema e = refl
 
   pub list_kept : (outer : FileKind) (w : List ℕ) (room : ℕ) → RowShape (rows_in version outer) w (Several room (OfKind kind)) → (ms ns : Members) → TurnedMembers ms ns → (schema : ℕ)
       → member_defects version schema outer (rows_in version outer) [] ms ≡ [] → records_of make (items_at (value_of w ms)) ≡ records_of make (items_at (value_of w ns))

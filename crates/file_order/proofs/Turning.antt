@@ -209,7 +209,7 @@ module _ (version schema : ℕ) where
 
 -- ---- a tree
 
-said_turned : (version schema : ℕ) (o : Option Published) (x y : Json) → ((of_schema : Bool) (shape : FileShape) → defects version schema ofSchema shape x ≡ [] → defects version schema ofSchema shape y ≡ [])
+said_turned : (version schema : ℕ) (o : Option Published) (x y : Json) → ((of_schema : Bool) (shape : FileShape) → defects version schema of_schema shape x ≡ [] → defects version schema of_schema shape y ≡ [])
     → said_of version schema o x ≡ [] → said_of version schema o y ≡ []
 said_turned version schema none x y h e = refl
 said_turned version schema (some r) x y h e = h r.of_schema r.shape e
@@ -218,23 +218,23 @@ module _ (version : ℕ) where
   mutual
     unfolding defects
 
-    pub value_turned : {x y : Json} → Turned x y → (schema : ℕ) (of_schema : Bool) (shape : FileShape) → defects version schema ofSchema shape x ≡ [] → defects version schema ofSchema shape y ≡ []
-    value_turned (in_array {place = place} {xs = xs} {ys = ys} h) schema ofSchema (Several room each) e =
+    pub value_turned : {x y : Json} → Turned x y → (schema : ℕ) (of_schema : Bool) (shape : FileShape) → defects version schema of_schema shape x ≡ [] → defects version schema of_schema shape y ≡ []
+    value_turned (in_array {place = place} {xs = xs} {ys = ys} h) schema of_schema (Several room each) e =
         let k = no_both (unless (leb (count_of xs) room) place over_capacity) (item_defects version schema each xs) e in
         both_none (ap (λ (n : ℕ). unless (leb n room) place over_capacity) (count_turned h) ∙ k.0) (items_turned h schema each k.1)
-    value_turned (in_array h) schema ofSchema (Single shape) e = e
-    value_turned (in_array h) schema ofSchema IdOrNull e = e
-    value_turned (in_array h) schema ofSchema (ByName room each) e = e
-    value_turned (in_array h) schema ofSchema (OfKind kind) e = e
-    value_turned (in_object {place = place} {ms = ms} {ns = ns} h) schema ofSchema (ByName room each) e =
+    value_turned (in_array h) schema of_schema (Single shape) e = e
+    value_turned (in_array h) schema of_schema IdOrNull e = e
+    value_turned (in_array h) schema of_schema (ByName room each) e = e
+    value_turned (in_array h) schema of_schema (OfKind kind) e = e
+    value_turned (in_object {place = place} {ms = ms} {ns = ns} h) schema of_schema (ByName room each) e =
         let k = no_both (unless (leb (members_count ms) room) place over_capacity) (named_defects version schema each [] ms) e in
         both_none (ap (λ (n : ℕ). unless (leb n room) place over_capacity) (members_count_turned h) ∙ k.0) (named_turned h schema each [] k.1)
-    value_turned (in_object {place = place} {ms = ms} {ns = ns} {closed = closed} h) schema ofSchema (OfKind kind) e =
+    value_turned (in_object {place = place} {ms = ms} {ns = ns} {closed = closed} h) schema of_schema (OfKind kind) e =
         let k = no_both (member_defects version (schema_place kind place schema) kind (rows_in version kind) [] ms) (missing_defects version kind place ms closed) e in
         both_none (members_turned h (schema_place kind place schema) kind (rows_in version kind) [] k.0) (missing_same version (names_of ns) (names_of ms) (names_turned h) kind place closed ∙ k.1)
-    value_turned (in_object h) schema ofSchema (Single shape) e = e
-    value_turned (in_object h) schema ofSchema IdOrNull e = e
-    value_turned (in_object h) schema ofSchema (Several room each) e = e
+    value_turned (in_object h) schema of_schema (Single shape) e = e
+    value_turned (in_object h) schema of_schema IdOrNull e = e
+    value_turned (in_object h) schema of_schema (Several room each) e = e
 
     items_turned : {xs ys : Items} → TurnedItems xs ys → (schema : ℕ) (each : FileShape) → item_defects version schema each xs ≡ [] → item_defects version schema each ys ≡ []
     items_turned (in_item {x = x} {xs = xs} h) schema each e =
@@ -250,7 +250,7 @@ module _ (version : ℕ) where
     members_turned (in_member {t = t} {x = x} {y = y} {ms = ms} h) schema kind rows seen e =
         let r = member_right version schema kind rows seen t x ms e in
         right_member version schema kind rows seen t y ms
-        (record { name = r.name; value = said_turned version schema (new_row rows seen (text_of t)) x y (λ ofSchema shape d. value_turned h schema ofSchema shape d) r.value; others = r.others })
+        (record { name = r.name; value = said_turned version schema (new_row rows seen (text_of t)) x y (λ of_schema shape d. value_turned h schema of_schema shape d) r.value; others = r.others })
     members_turned (behind_member {t = t} {x = x} {ms = ms} {ns = ns} h) schema kind rows seen e =
         let r = member_right version schema kind rows seen t x ms e in
         right_member version schema kind rows seen t x ns (record { name = r.name; value = r.value; others = members_turned h schema kind rows (with_name seen (text_of t)) r.others })

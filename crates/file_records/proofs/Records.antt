@@ -26,6 +26,6 @@ module _ (file cells : List ℕ) where
   snapshot_laid at {has_rows = has_rows} a b p s t r f d =
       rw (f, d, a, b, p, s, t, ← r, there (at + 2)) (cases has_rows (λ y. rw y) (λ y. rw y))
 
-  pub reference_laid : (at : ℕ) {id min age ref_age : ℤ} {hasMin hasAge hasRefAge : Bool} {kind : ℕ} → id ≡ or_zero_at file cells at → kind ≡ cond (same_bytes (text_at file cells 96 (at + 2)) (bytes "branch")) 1 2 → hasMin ≡ is_there cells (at + 4) → min ≡ or_zero_narrow_at file cells (at + 4) → hasAge ≡ is_there cells (at + 6) → age ≡ or_zero_at file cells (at + 6) → hasRefAge ≡ is_there cells (at + 8) → refAge ≡ or_zero_at file cells (at + 8) → ◌≡◌ {A = F.SnapshotReference} (record { snapshot_id = record { 0 = id }; kind = kind; has_min = hasMin; min_snapshots_to_keep = record { 0 = min }; has_age = hasAge; max_snapshot_age_ms = record { 0 = age }; has_ref_age = hasRefAge; max_ref_age_ms = record { 0 = refAge } }) (laid_reference (reference_at file cells at))
+  pub reference_laid : (at : ℕ) {id min age ref_age : ℤ} {hasMin hasAge hasRefAge : Bool} {kind : ℕ} → id ≡ or_zero_at file cells at → kind ≡ cond (same_bytes (text_at file cells 96 (at + 2)) (bytes "branch")) 1 2 → hasMin ≡ is_there cells (at + 4) → min ≡ or_zero_narrow_at file cells (at + 4) → hasAge ≡ is_there cells (at + 6) → age ≡ or_zero_at file cells (at + 6) → hasRefAge ≡ is_there cells (at + 8) → ref_age ≡ or_zero_at file cells (at + 8) → ◌≡◌ {A = F.SnapshotReference} (record { snapshot_id = record { 0 = id }; kind = kind; has_min = hasMin; min_snapshots_to_keep = record { 0 = min }; has_age = hasAge; max_snapshot_age_ms = record { 0 = age }; has_ref_age = hasRefAge; max_ref_age_ms = record { 0 = ref_age } }) (laid_reference (reference_at file cells at))
   unfolding laid_reference reference_at is_word_at
   reference_laid at i k a b d e f g = rw (i, k, a, b, d, e, f, g, there_narrow (at + 4), there (at + 6), there (at + 8))

@@ -9,7 +9,7 @@ use equality::ids::same_snapshot;
 use records::counters::SnapshotId;
 
 // Behind a flag that is not set it is 0.
-#[derive(Drop)]
+#[derive(Clone, Copy)]
 pub struct CurrentSnapshot {
     pub given: bool,
     pub id: SnapshotId,

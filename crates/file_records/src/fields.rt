@@ -11,7 +11,7 @@ use crate::offsets::{
 };
 use crate::partition::last_partition;
 use crate::table::single_decides;
-use crate::text::{text_at_lem, uuid_at};
+use crate::text::{text_at, uuid_at};
 use crate::value::{Cells, narrow_number, natural, number};
 use records::counters::{FieldId, RowId, SchemaId, SequenceNumber, SortOrderId, SpecId, Time};
 use records::metadata::SingleFields;
@@ -62,7 +62,7 @@ pub fn fields_of(version: usize, bytes: &[u8], cells: &Cells) -> SingleFields
     ensures { result ≡ laid_fields (fields_in bytes.now cells.now version) }
 {
     let table_uuid = uuid_at(bytes, cells, TABLE_UUID);
-    let location = text_at_lem(bytes, cells, LOCATION);
+    let location = text_at(bytes, cells, LOCATION);
     let updated = number(bytes, cells, LAST_UPDATED_MS);
     let last_sequence_number = last_sequence(version, bytes, cells);
     let next_row_id = next_row(version, cells);

@@ -1,4 +1,6 @@
 // From the cells of a metadata file and its bytes to the records: values, records, tables in order, the whole metadata.
+#![tactic(auto)]
+
 pub mod current_snapshot;
 pub mod fields;
 pub mod keyed;

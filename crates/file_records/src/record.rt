@@ -5,7 +5,7 @@ ghost use Rattle.rules.specs.Layout.{laid_snapshot, laid_reference, laid_ref, la
 ghost use Rattle.file_records.specs.Decoded.{is_there, natural_at, maybe_narrow_at, snapshot_at, reference_at, ref_at, log_entry_at, file_entry_at, statistics_at, field_at, schema_at, sort_field_at, order_at, partition_field_at, spec_fields_at, spec_at};
 ghost use Rattle.file_records.specs.Positions.{placed};
 
-use crate::text::{choice, name_at, text_at_lem, transform_at};
+use crate::text::{choice, name_at, text_at, transform_at};
 use crate::value::{Cells, count_of, is_there, narrow_number, natural, number};
 use records::capacities::{PARTITION_FIELDS, SCHEMA_FIELDS, SORT_FIELDS};
 use records::counters::{
@@ -92,7 +92,7 @@ pub fn file_entry_at(bytes: &[u8], cells: &Cells, at: usize) -> MetadataLogEntry
     requires { at + 4 ≤ 9047 }
     ensures { result ≡ laid_metadata_log_entry (file_entry_at bytes.now cells.now at) }
 {
-    let metadata_file = text_at_lem(bytes, cells, at);
+    let metadata_file = text_at(bytes, cells, at);
     let time = number(bytes, cells, at + 2);
     MetadataLogEntry {
         metadata_file,
@@ -105,7 +105,7 @@ pub fn statistics_at(bytes: &[u8], cells: &Cells, at: usize) -> StatisticsFile
     ensures { result ≡ laid_statistics_file (statistics_at bytes.now cells.now at) }
 {
     let id = number(bytes, cells, at);
-    let statistics_path = text_at_lem(bytes, cells, at + 2);
+    let statistics_path = text_at(bytes, cells, at + 2);
     let size = number(bytes, cells, at + 4);
     StatisticsFile {
         snapshot_id: SnapshotId(id.0),
@@ -274,7 +274,7 @@ pub fn spec_of(bytes: &[u8], cells: &Cells, list: usize, id: SpecId) -> Partitio
     spec
 }
 
-pub fn spec_at_lem(bytes: &[u8], cells: &Cells, at: usize) -> PartitionSpec
+pub fn spec_at(bytes: &[u8], cells: &Cells, at: usize) -> PartitionSpec
     requires { at + 67 ≤ 9047 }
     ensures { result ≡ laid_partition_spec (spec_at bytes.now cells.now at) }
 {

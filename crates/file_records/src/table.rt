@@ -9,8 +9,7 @@ ghost use Rattle.file_records.specs.Decoded.{is_there, count_at, item_at, schema
 use crate::keyed::order_of;
 use crate::offsets;
 use crate::record::{
-    file_entry_at, log_entry_at, order_at, schema_at, snapshot_at, spec_at_lem, spec_of,
-    statistics_at,
+    file_entry_at, log_entry_at, order_at, schema_at, snapshot_at, spec_at, spec_of, statistics_at,
 };
 use crate::value::{Cells, count_of, is_there};
 use records::capacities::{
@@ -192,7 +191,7 @@ fn all_specs(bytes: &[u8], cells: &Cells) -> PartitionSpecs
     let mut i = 0;
     while i < n {
         let k = order.items[i];
-        let s = spec_at_lem(
+        let s = spec_at(
             bytes,
             cells,
             offsets::PARTITION_SPECS + 1 + k * offsets::SPEC,

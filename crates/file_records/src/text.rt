@@ -74,7 +74,7 @@ fn name_of(kept: &Kept, len: usize) -> Name
 }
 
 // A location, the name of a metadata file, or the path of a statistics file.
-pub fn text_at_lem(bytes: &[u8], cells: &Cells, at: usize) -> Text
+pub fn text_at(bytes: &[u8], cells: &Cells, at: usize) -> Text
     requires { at < 9047 }
     ensures { result ≡ laid_text (text_at bytes.now cells.now 96 at) }
 {

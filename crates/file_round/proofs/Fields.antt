@@ -261,8 +261,8 @@ names_fine version kind fs = published (rows_in version kind) [] fs && all (is_t
 
 -- what is wrong with a value that is there
 abbrev pub FineIn : ℕ → Bool → FileShape → Option Document → Type 0
-FineIn version ofSchema shape none = Unit {0}
-FineIn version ofSchema shape (some d) = (schema place : ℕ) → defects version schema ofSchema shape (tree_at place d) ≡ []
+FineIn version of_schema shape none = Unit {0}
+FineIn version of_schema shape (some d) = (schema place : ℕ) → defects version schema of_schema shape (tree_at place d) ≡ []
 
 abbrev pub FineBy : ℕ → Option Published → Option Document → Type 0
 FineBy version none o = Unit {0}
@@ -271,9 +271,9 @@ FineBy version (some r) o = FineIn version r.of_schema r.shape o
 abbrev pub ValuesFine : ℕ → List Published → List Field → Type 0
 ValuesFine version rows fs = Each (λ f. FineBy version (published_as f.name rows) f.value) fs
 
-pub mapped_fine : {A : Type 0} (version : ℕ) (of_schema : Bool) (shape : FileShape) (f : A → Document) (o : Option A) → ((x : A) → o ≡ some x → FineIn version ofSchema shape (some (f x))) → FineIn version ofSchema shape (mapped f o)
-mapped_fine version ofSchema shape f none h = tt
-mapped_fine version ofSchema shape f (some x) h = h x refl
+pub mapped_fine : {A : Type 0} (version : ℕ) (of_schema : Bool) (shape : FileShape) (f : A → Document) (o : Option A) → ((x : A) → o ≡ some x → FineIn version of_schema shape (some (f x))) → FineIn version of_schema shape (mapped f o)
+mapped_fine version of_schema shape f none h = tt
+mapped_fine version of_schema shape f (some x) h = h x refl
 
 -- those seen before are among these
 abbrev pub Among : List (List ℕ) → List (List ℕ) → Type 0

@@ -51,47 +51,47 @@ fitting_unsigned n h = let k : n ≤ largest_unsigned = leb-true n largest_unsig
 -- ---- numbers
 
 module _ (version : ℕ) (of_schema : Bool) where
-  pub number_fine : (least most z : ℤ) → (le_z least z && le_z z most) ≡ true → Fitting z → FineIn version ofSchema (Single (NumberIn least most)) (some (number z))
+  pub number_fine : (least most z : ℤ) → (le_z least z && le_z z most) ≡ true → Fitting z → FineIn version of_schema (Single (NumberIn least most)) (some (number z))
   unfolding defects tree_at
   number_fine least most z h f schema place =
-      ap (λ o. unless (some_with (λ n. le_z least n && le_z n most) o) (stands_at ofSchema schema place) not_published) (number_read place z f)
-      ∙ ap (λ b. unless b (stands_at ofSchema schema place) not_published) h
+      ap (λ o. unless (some_with (λ n. le_z least n && le_z n most) o) (stands_at of_schema schema place) not_published) (number_read place z f)
+      ∙ ap (λ b. unless b (stands_at of_schema schema place) not_published) h
 
-  pub fine32 : (z : ℤ) → fits32 z ≡ true → FineIn version ofSchema (Single (NumberIn (negsuc 2147483647) (pos 2147483647))) (some (number z))
+  pub fine32 : (z : ℤ) → fits32 z ≡ true → FineIn version of_schema (Single (NumberIn (negsuc 2147483647) (pos 2147483647))) (some (number z))
   fine32 z h = number_fine (negsuc 2147483647) (pos 2147483647) z h (fitting32 z h)
 
-  pub fine64 : (z : ℤ) → fits64 z ≡ true → FineIn version ofSchema (Single (NumberIn (negsuc 9223372036854775807) (pos 9223372036854775807))) (some (number z))
+  pub fine64 : (z : ℤ) → fits64 z ≡ true → FineIn version of_schema (Single (NumberIn (negsuc 9223372036854775807) (pos 9223372036854775807))) (some (number z))
   fine64 z h = number_fine (negsuc 9223372036854775807) (pos 9223372036854775807) z h (fitting64 z h)
 
-  pub fine_unsigned : (n : ℕ) → fits_unsigned n ≡ true → FineIn version ofSchema (Single (NumberIn (pos 0) (pos 18446744073709551615))) (some (number (pos n)))
+  pub fine_unsigned : (n : ℕ) → fits_unsigned n ≡ true → FineIn version of_schema (Single (NumberIn (pos 0) (pos 18446744073709551615))) (some (number (pos n)))
   fine_unsigned n h = number_fine (pos 0) (pos 18446744073709551615) (pos n) (both (le-leb 0 n (omega arith)) h) (fitting_unsigned n h)
 
-  pub id_fine : (z : ℤ) → fits64 z ≡ true → FineIn version ofSchema IdOrNull (some (number z))
+  pub id_fine : (z : ℤ) → fits64 z ≡ true → FineIn version of_schema IdOrNull (some (number z))
   unfolding defects tree_at
   id_fine z h schema place =
       by_test (λ l. l ≡ []) (is_null (lexeme_of place (number_text z))) (λ _. refl) (λ _. fine64 z h schema place)
 
   -- ---- texts
 
-  pub text_fine : (room : ℕ) (bs : List ℕ) → leb (length bs) room ≡ true → FineIn version ofSchema (Single (TextUpTo room)) (some (quotation bs))
+  pub text_fine : (room : ℕ) (bs : List ℕ) → leb (length bs) room ≡ true → FineIn version of_schema (Single (TextUpTo room)) (some (quotation bs))
   unfolding defects tree_at
   text_fine room bs h schema place =
-      ap (λ o. text_defects room (stands_at ofSchema schema place) o) (text_read_lem place bs) ∙ ap (λ b. unless b (stands_at ofSchema schema place) over_capacity) h
+      ap (λ o. text_defects room (stands_at of_schema schema place) o) (text_read_lem place bs) ∙ ap (λ b. unless b (stands_at of_schema schema place) over_capacity) h
 
-  pub word_fine : (words : List (List ℕ)) (bs : List ℕ) → is_one_of words bs ≡ true → FineIn version ofSchema (Single (OneOf words)) (some (quotation bs))
+  pub word_fine : (words : List (List ℕ)) (bs : List ℕ) → is_one_of words bs ≡ true → FineIn version of_schema (Single (OneOf words)) (some (quotation bs))
   unfolding defects tree_at
   word_fine words bs h schema place =
-      ap (λ o. unless (some_with (is_one_of words) o) (stands_at ofSchema schema place) not_published) (text_read_lem place bs) ∙ ap (λ b. unless b (stands_at ofSchema schema place) not_published) h
+      ap (λ o. unless (some_with (is_one_of words) o) (stands_at of_schema schema place) not_published) (text_read_lem place bs) ∙ ap (λ b. unless b (stands_at of_schema schema place) not_published) h
 
-  pub uuid_fine : (bs : List ℕ) → is_uuid bs ≡ true → FineIn version ofSchema (Single AUuid) (some (quotation bs))
+  pub uuid_fine : (bs : List ℕ) → is_uuid bs ≡ true → FineIn version of_schema (Single AUuid) (some (quotation bs))
   unfolding defects tree_at
   uuid_fine bs h schema place =
-      ap (λ o. unless (some_with is_uuid o) (stands_at ofSchema schema place) not_published) (text_read_lem place bs) ∙ ap (λ b. unless b (stands_at ofSchema schema place) not_published) h
+      ap (λ o. unless (some_with is_uuid o) (stands_at of_schema schema place) not_published) (text_read_lem place bs) ∙ ap (λ b. unless b (stands_at of_schema schema place) not_published) h
 
-  pub transform_fine : (bs : List ℕ) → is_transform bs ≡ true → FineIn version ofSchema (Single ATransform) (some (quotation bs))
+  pub transform_fine : (bs : List ℕ) → is_transform bs ≡ true → FineIn version of_schema (Single ATransform) (some (quotation bs))
   unfolding defects tree_at
   transform_fine bs h schema place =
-      ap (λ o. unless (some_with is_transform o) (stands_at ofSchema schema place) not_published) (text_read_lem place bs) ∙ ap (λ b. unless b (stands_at ofSchema schema place) not_published) h
+      ap (λ o. unless (some_with is_transform o) (stands_at of_schema schema place) not_published) (text_read_lem place bs) ∙ ap (λ b. unless b (stands_at of_schema schema place) not_published) h
 
 -- ---- what may be absent
 

@@ -145,7 +145,7 @@ abbrev pub ref_to : List ℕ → ℕ → ℤ → NamedRef
 ref_to name kind id = record { name = name; owner = 1; reference = plain kind id }
 
 abbrev pub column : ℤ → ℕ → List ℕ → SchemaField
-column id fieldType name = record { id = id; field_type = fieldType; name = name }
+column id field_type name = record { id = id; field_type = field_type; name = name }
 
 abbrev pub schema_of : ℤ → List SchemaField → Schema
 schema_of id fields = record { id = id; fields = fields }

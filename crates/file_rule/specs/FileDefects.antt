@@ -135,18 +135,18 @@ module _ (version : ℕ) where
   -- The first number is the place of the schema around, the flag says that a defect of the value itself stands there.
   unfoldable mutual
     pub defects : ℕ → Bool → FileShape → Json → List Defect
-    defects schema ofSchema shape (Scalar t) = single_defects shape (stands_at ofSchema schema t.first) t
-    defects schema ofSchema (Several room each) (Array place xs closed) = unless (leb (count_of xs) room) place over_capacity ++ item_defects schema each xs
-    defects schema ofSchema (Single shape) (Array place xs closed) = misplaced shape (stands_at ofSchema schema place)
-    defects schema ofSchema IdOrNull (Array place xs closed) = refused_at place not_published
-    defects schema ofSchema (ByName room each) (Array place xs closed) = refused_at place not_published
-    defects schema ofSchema (OfKind kind) (Array place xs closed) = refused_at place not_published
-    defects schema ofSchema (ByName room each) (Object place ms closed) = unless (leb (members_count ms) room) place over_capacity ++ named_defects schema each [] ms
-    defects schema ofSchema (OfKind kind) (Object place ms closed) =
+    defects schema of_schema shape (Scalar t) = single_defects shape (stands_at of_schema schema t.first) t
+    defects schema of_schema (Several room each) (Array place xs closed) = unless (leb (count_of xs) room) place over_capacity ++ item_defects schema each xs
+    defects schema of_schema (Single shape) (Array place xs closed) = misplaced shape (stands_at of_schema schema place)
+    defects schema of_schema IdOrNull (Array place xs closed) = refused_at place not_published
+    defects schema of_schema (ByName room each) (Array place xs closed) = refused_at place not_published
+    defects schema of_schema (OfKind kind) (Array place xs closed) = refused_at place not_published
+    defects schema of_schema (ByName room each) (Object place ms closed) = unless (leb (members_count ms) room) place over_capacity ++ named_defects schema each [] ms
+    defects schema of_schema (OfKind kind) (Object place ms closed) =
         member_defects (schema_place kind place schema) kind (rows_in version kind) [] ms ++ missing_defects version kind place ms closed
-    defects schema ofSchema (Single shape) (Object place ms closed) = misplaced shape (stands_at ofSchema schema place)
-    defects schema ofSchema IdOrNull (Object place ms closed) = refused_at place not_published
-    defects schema ofSchema (Several room each) (Object place ms closed) = refused_at place not_published
+    defects schema of_schema (Single shape) (Object place ms closed) = misplaced shape (stands_at of_schema schema place)
+    defects schema of_schema IdOrNull (Object place ms closed) = refused_at place not_published
+    defects schema of_schema (Several room each) (Object place ms closed) = refused_at place not_published
 
     pub item_defects : ℕ → FileShape → Items → List Defect
     item_defects schema shape no_item = []

@@ -10,6 +10,7 @@ use file_words::option::{CLOCK, FILE, OPTIONS, has};
 use file_words::terms::Asked;
 use records::capacities::OFFERS;
 use records::metadata::TableMetadata;
+use std::rt::HostRuntime;
 use tokens::input::{Input, Place};
 use tokens::output::Output;
 
@@ -19,42 +20,50 @@ const MOST: usize = 4096;
 // This session's metadata, by its place among the files.
 const THIS: usize = 2;
 
-fn say_front(line: &[u8], found: Found, output: &mut Output, end: &mut usize) {
+fn say_front(rt: HostRuntime, line: &[u8], found: Found, output: &mut Output, end: &mut usize) {
     say_title(output, end);
-    say_file(output, end, line, 0, found.skipped);
-    say_file(output, end, line, 1, 0);
-    say_file(output, end, line, THIS, found.skipped_then);
+    say_file(rt, output, end, line, 0, found.skipped);
+    say_file(rt, output, end, line, 1, 0);
+    say_file(rt, output, end, line, THIS, found.skipped_then);
     say_first(
         output,
         end,
         found.judged,
         found.terms,
-        has(line, CLOCK),
-        has(line, FILE),
+        has(rt, line, CLOCK),
+        has(rt, line, FILE),
     );
 }
 
-fn say_of_this(line: &[u8], metadata: TableMetadata, output: &mut Output, end: &mut usize) {
-    say_second(output, end, metadata, line);
+fn say_of_this(
+    rt: HostRuntime,
+    line: &[u8],
+    metadata: TableMetadata,
+    output: &mut Output,
+    end: &mut usize,
+) {
+    say_second(rt, output, end, metadata, line);
     say_third(output, end, metadata);
     say_signatures(output, end);
 }
 
 // This session's file is read once more for the second question and the third, and not kept beside the first, so that less stack is needed.
 pub fn end_page(
+    rt: HostRuntime,
     line: &[u8],
     input: &mut Input,
     place: &mut Place,
     output: &mut Output,
     end: &mut usize,
 ) {
-    let held = read_metadata_at(line, THIS, input, place, output, end);
+    let held = read_metadata_at(rt, line, THIS, input, place, output, end);
     if held.number == 0 {
-        say_of_this(line, held.metadata, output, end);
+        say_of_this(rt, line, held.metadata, output, end);
     }
 }
 
 fn say_page(
+    rt: HostRuntime,
     line: &[u8],
     asked: Asked,
     offers: &mut [u8; OFFERS],
@@ -63,16 +72,17 @@ fn say_page(
     output: &mut Output,
     end: &mut usize,
 ) -> bool {
-    let found = find(line, asked, offers, input, place, output, end);
+    let found = find(rt, line, asked, offers, input, place, output, end);
     let is_found = found.is_found;
     if is_found {
-        say_front(line, found, output, end);
+        say_front(rt, line, found, output, end);
     }
     is_found
 }
 
 // The first question; whether the files were read, so that the others can be answered.
 pub fn begin(
+    rt: HostRuntime,
     line: &[u8],
     offers: &mut [u8; OFFERS],
     input: &mut Input,
@@ -80,10 +90,10 @@ pub fn begin(
     output: &mut Output,
     end: &mut usize,
 ) -> bool {
-    if are_words(line, AUDIT, 3, MOST, output, end) {
-        let asked = read_terms(line, output, end);
+    if are_words(rt, line, AUDIT, 3, MOST, output, end) {
+        let asked = read_terms(rt, line, output, end);
         if asked.fault == OPTIONS {
-            return say_page(line, asked, offers, input, place, output, end);
+            return say_page(rt, line, asked, offers, input, place, output, end);
         }
     }
     false

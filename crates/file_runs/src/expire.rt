@@ -20,6 +20,7 @@ use records::metadata::TableMetadata;
 use records::run::RunTerms;
 use records::update::UpdateList;
 use report::answer::fault_of;
+use std::rt::HostRuntime;
 use tokens::input::{Input, Place};
 use tokens::output::Output;
 
@@ -31,10 +32,10 @@ const FIVE_DAYS_MS: i64 = 432000000;
 const FOR_EVER_MS: i64 = i64::MAX;
 
 // A count that does not fit its field is 0, which the expiry refuses.
-fn policy_of(line: &[u8], terms: RunTerms) -> Policy {
-    let least = number_behind(line, MIN_SNAPSHOTS, ONE_SNAPSHOT);
-    let age = number_behind(line, MAX_SNAPSHOT_AGE, FIVE_DAYS_MS);
-    let ref_age = number_behind(line, MAX_REF_AGE, FOR_EVER_MS);
+fn policy_of(rt: HostRuntime, line: &[u8], terms: RunTerms) -> Policy {
+    let least = number_behind(rt, line, MIN_SNAPSHOTS, ONE_SNAPSHOT);
+    let age = number_behind(rt, line, MAX_SNAPSHOT_AGE, FIVE_DAYS_MS);
+    let ref_age = number_behind(rt, line, MAX_REF_AGE, FOR_EVER_MS);
     let clock_ms = terms.clock_ms;
     let count = narrowed(Whole(least.number));
     Policy {
@@ -47,10 +48,10 @@ fn policy_of(line: &[u8], terms: RunTerms) -> Policy {
 }
 
 // The first of the three whose value is no number.
-fn fault_in(line: &[u8]) -> usize {
-    let least = number_behind(line, MIN_SNAPSHOTS, ONE_SNAPSHOT);
-    let age = number_behind(line, MAX_SNAPSHOT_AGE, FIVE_DAYS_MS);
-    let ref_age = number_behind(line, MAX_REF_AGE, FOR_EVER_MS);
+fn fault_in(rt: HostRuntime, line: &[u8]) -> usize {
+    let least = number_behind(rt, line, MIN_SNAPSHOTS, ONE_SNAPSHOT);
+    let age = number_behind(rt, line, MAX_SNAPSHOT_AGE, FIVE_DAYS_MS);
+    let ref_age = number_behind(rt, line, MAX_REF_AGE, FOR_EVER_MS);
     if !least.is_number {
         return MIN_SNAPSHOTS;
     }
@@ -64,7 +65,7 @@ fn fault_in(line: &[u8]) -> usize {
 }
 
 // What the run of the list answers.
-#[derive(Drop)]
+#[derive(Clone, Copy)]
 struct Outcome {
     number: u8,
     place: usize,
@@ -78,14 +79,15 @@ fn outcome_of(m: TableMetadata, us: UpdateList, terms: RunTerms) -> Outcome {
     }
 }
 
-fn write_out(line: &[u8], list: UpdateList, output: &mut Output, end: &mut usize) {
+fn write_out(rt: HostRuntime, line: &[u8], list: UpdateList, output: &mut Output, end: &mut usize) {
     let mut name = io::buffer();
-    let len = read_word(line, place_behind(line, OUT), &mut name);
-    write_list(&name[..len], list, output, end);
+    let len = read_word(rt, line, place_behind(rt, line, OUT), &mut name);
+    write_list(rt, &name[..len], list, output, end);
 }
 
 // The list is written where that is asked for. Whether there is one.
 fn say_expired(
+    rt: HostRuntime,
     line: &[u8],
     is_written: bool,
     metadata: TableMetadata,
@@ -108,44 +110,45 @@ fn say_expired(
         let run = outcome_of(metadata, expiry.updates, terms);
         say_outcome(output, end, run.number, run.place);
         if is_written {
-            write_out(line, expiry.updates, output, end);
+            write_out(rt, line, expiry.updates, output, end);
         }
     }
     expiry.number == 0
 }
 
-fn is_asked(line: &[u8], output: &mut Output, end: &mut usize) -> bool {
-    if !are_words(line, EXPIRE, 1, 1, output, end) {
+fn is_asked(rt: HostRuntime, line: &[u8], output: &mut Output, end: &mut usize) -> bool {
+    if !are_words(rt, line, EXPIRE, 1, 1, output, end) {
         return false;
     }
-    let fault = fault_in(line);
+    let fault = fault_in(rt, line);
     if fault < OPTIONS {
-        say_no_value(output, end, line, fault);
+        say_no_value(rt, output, end, line, fault);
         return false;
     }
-    is_there(line, CLOCK, output, end)
+    is_there(rt, line, CLOCK, output, end)
 }
 
 pub fn expire(
+    rt: HostRuntime,
     line: &[u8],
     input: &mut Input,
     place: &mut Place,
     output: &mut Output,
     end: &mut usize,
 ) {
-    if is_asked(line, output, end) {
-        let asked = read_terms(line, output, end);
+    if is_asked(rt, line, output, end) {
+        let asked = read_terms(rt, line, output, end);
         if asked.fault == OPTIONS {
-            let held = read_metadata_at(line, 0, input, place, output, end);
+            let held = read_metadata_at(rt, line, 0, input, place, output, end);
             if held.number == 0 {
-                let policy = policy_of(line, asked.terms);
-                if has(line, OUT) {
-                    let is_made = say_expired(line, true, held.metadata, policy, output, end);
+                let policy = policy_of(rt, line, asked.terms);
+                if has(rt, line, OUT) {
+                    let is_made = say_expired(rt, line, true, held.metadata, policy, output, end);
                     if !is_made {
                         say(output, end, b"no file is written\n");
                     }
                 } else {
-                    say_expired(line, false, held.metadata, policy, output, end);
+                    say_expired(rt, line, false, held.metadata, policy, output, end);
                 }
             }
         }

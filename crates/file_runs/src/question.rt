@@ -13,6 +13,7 @@ use records::update::UpdateList;
 use report::answer::fault_of;
 use report::judged::Judged;
 use slot_bounds::lent;
+use std::rt::HostRuntime;
 use tokens::input::{Input, Place};
 use tokens::output::Output;
 use verdict::Verdict;
@@ -25,7 +26,7 @@ const LOG: usize = 1;
 const THIS: usize = 2;
 
 // What is found, if the three files were read: the verdict, the terms that were asked with, and how many members of each metadata file are not held.
-#[derive(Drop)]
+#[derive(Clone, Copy)]
 pub struct Found {
     pub is_found: bool,
     pub judged: Judged,
@@ -49,6 +50,7 @@ fn last_entry(log: MetadataLog) -> MetadataLogEntry {
 // What is not given as words is read off this session's metadata: the clock is its last update; and where the last entry of its metadata log has the time of
 // last session's last update, that is the file which was current.
 fn with_read_off(
+    rt: HostRuntime,
     line: &[u8],
     mut terms: RunTerms,
     start: Time,
@@ -56,10 +58,10 @@ fn with_read_off(
     log: MetadataLog,
 ) -> RunTerms {
     let entry = last_entry(log);
-    if !has(line, CLOCK) {
+    if !has(rt, line, CLOCK) {
         terms.clock_ms = last_update;
     }
-    if !has(line, FILE) && log.count > 0 && entry.timestamp_ms.0 == start.0 {
+    if !has(rt, line, FILE) && log.count > 0 && entry.timestamp_ms.0 == start.0 {
         let file = entry.metadata_file;
         terms.has_file = true;
         terms.file = file;
@@ -120,6 +122,7 @@ fn nothing(terms: RunTerms) -> Found {
 
 // The files are read and judged in one place, and not handed on, so that less stack is needed.
 pub fn find(
+    rt: HostRuntime,
     line: &[u8],
     asked: Asked,
     offers: &mut [u8; OFFERS],
@@ -129,20 +132,21 @@ pub fn find(
     end: &mut usize,
 ) -> Found {
     let mut found = nothing(asked.terms);
-    let start: Held = read_metadata_at(line, LAST, input, place, output, end);
+    let start: Held = read_metadata_at(rt, line, LAST, input, place, output, end);
     if start.number != 0 {
         return found;
     }
-    let ending: Held = read_metadata_at(line, THIS, input, place, output, end);
+    let ending: Held = read_metadata_at(rt, line, THIS, input, place, output, end);
     if ending.number != 0 {
         return found;
     }
-    let listed = read_list_at(line, LOG, offers, input, place, output, end);
+    let listed = read_list_at(rt, line, LOG, offers, input, place, output, end);
     if listed.number != 0 {
         return found;
     }
     let slots: &[u8] = offers;
     let terms = with_read_off(
+        rt,
         line,
         asked.terms,
         start.metadata.fields.last_updated_ms,

@@ -5,10 +5,12 @@ use file_words::option::OPTIONS;
 use file_words::terms::Asked;
 use records::capacities::OFFERS;
 use report::judged::say_judged;
+use std::rt::HostRuntime;
 use tokens::input::{Input, Place};
 use tokens::output::Output;
 
 fn say_found(
+    rt: HostRuntime,
     line: &[u8],
     asked: Asked,
     offers: &mut [u8; OFFERS],
@@ -17,13 +19,14 @@ fn say_found(
     output: &mut Output,
     end: &mut usize,
 ) {
-    let found = find(line, asked, offers, input, place, output, end);
+    let found = find(rt, line, asked, offers, input, place, output, end);
     if found.is_found {
         say_judged(output, end, found.judged);
     }
 }
 
 pub fn replay(
+    rt: HostRuntime,
     line: &[u8],
     offers: &mut [u8; OFFERS],
     input: &mut Input,
@@ -31,10 +34,10 @@ pub fn replay(
     output: &mut Output,
     end: &mut usize,
 ) {
-    if are_words(line, REPLAY, 3, 3, output, end) {
-        let asked = read_terms(line, output, end);
+    if are_words(rt, line, REPLAY, 3, 3, output, end) {
+        let asked = read_terms(rt, line, output, end);
         if asked.fault == OPTIONS {
-            say_found(line, asked, offers, input, place, output, end);
+            say_found(rt, line, asked, offers, input, place, output, end);
         }
     }
 }

@@ -15,6 +15,7 @@ use records::update::UpdateList;
 use report::answer::say_answer;
 use report::asked::say_asked;
 use slot_bounds::lent;
+use std::rt::HostRuntime;
 use tokens::input::{Input, Place};
 use tokens::output::Output;
 
@@ -54,6 +55,7 @@ fn say_start(
 
 // Files are made of an accepted run alone, if any are asked for. Whether it is accepted.
 fn run_held(
+    rt: HostRuntime,
     line: &[u8],
     is_written: bool,
     asked: Asked,
@@ -67,8 +69,9 @@ fn run_held(
     let answer = ask(asked.limit, metadata, updates, asked.terms, offers);
     say_answer(output, end, asked.terms, answer, offers);
     if answer.number == 0 && is_written {
-        if has(line, OUT) {
+        if has(rt, line, OUT) {
             write_session(
+                rt,
                 line,
                 answer.metadata,
                 answer.changes,
@@ -84,6 +87,7 @@ fn run_held(
                 b"the new metadata is not written: no --out is given\n",
             );
             write_session(
+                rt,
                 line,
                 answer.metadata,
                 answer.changes,
@@ -98,12 +102,13 @@ fn run_held(
 }
 
 // Whether a file is to be made.
-fn asks_for_file(line: &[u8]) -> bool {
-    has(line, OUT) || has(line, LOG) || has(line, EXPIRED)
+fn asks_for_file(rt: HostRuntime, line: &[u8]) -> bool {
+    has(rt, line, OUT) || has(rt, line, LOG) || has(rt, line, EXPIRED)
 }
 
 // The run is called from two places, so that its stack does not lie below the reading of files.
 fn read_and_run(
+    rt: HostRuntime,
     line: &[u8],
     asked: Asked,
     offers: &mut [u8; OFFERS],
@@ -112,15 +117,16 @@ fn read_and_run(
     output: &mut Output,
     end: &mut usize,
 ) {
-    let held = read_metadata_at(line, 0, input, place, output, end);
+    let held = read_metadata_at(rt, line, 0, input, place, output, end);
     if held.number == 0 {
-        let listed = read_list_behind(line, UPDATES, offers, input, place, output, end);
+        let listed = read_list_behind(rt, line, UPDATES, offers, input, place, output, end);
         let slots: &[u8] = offers;
         if listed.number != 0 {
             return;
         }
-        if asks_for_file(line) {
+        if asks_for_file(rt, line) {
             let is_accepted = run_held(
+                rt,
                 line,
                 true,
                 asked,
@@ -135,6 +141,7 @@ fn read_and_run(
             }
         } else {
             run_held(
+                rt,
                 line,
                 false,
                 asked,
@@ -148,17 +155,18 @@ fn read_and_run(
     }
 }
 
-fn is_asked(line: &[u8], output: &mut Output, end: &mut usize) -> bool {
-    if !are_words(line, RUN, 1, 1, output, end) {
+fn is_asked(rt: HostRuntime, line: &[u8], output: &mut Output, end: &mut usize) -> bool {
+    if !are_words(rt, line, RUN, 1, 1, output, end) {
         return false;
     }
-    if !is_there(line, CLOCK, output, end) {
+    if !is_there(rt, line, CLOCK, output, end) {
         return false;
     }
-    is_there(line, UPDATES, output, end)
+    is_there(rt, line, UPDATES, output, end)
 }
 
 pub fn run(
+    rt: HostRuntime,
     line: &[u8],
     offers: &mut [u8; OFFERS],
     input: &mut Input,
@@ -166,10 +174,10 @@ pub fn run(
     output: &mut Output,
     end: &mut usize,
 ) {
-    if is_asked(line, output, end) {
-        let asked = read_terms(line, output, end);
+    if is_asked(rt, line, output, end) {
+        let asked = read_terms(rt, line, output, end);
         if asked.fault == OPTIONS {
-            read_and_run(line, asked, offers, input, place, output, end);
+            read_and_run(rt, line, asked, offers, input, place, output, end);
         }
     }
 }

@@ -7,10 +7,11 @@ use plaintext::text::say;
 use records::metadata::{MetadataLog, TableMetadata};
 use records::update::UpdateList;
 use slot_bounds::lent;
+use std::rt::HostRuntime;
 use tokens::output::Output;
 
 // The texts of the three files, one after the other in the same slots: what became of each.
-#[derive(Drop)]
+#[derive(Clone, Copy)]
 pub struct Session {
     pub log: Sheet,
     pub expired: Sheet,
@@ -31,42 +32,42 @@ fn with_outcome(mut sheet: Sheet, outcome: usize) -> Sheet {
 }
 
 // A text that is there, under a name.
-fn prepare_text(name: &[u8], sheet: Sheet, slots: &[u8]) -> Sheet {
+fn prepare_text(rt: HostRuntime, name: &[u8], sheet: Sheet, slots: &[u8]) -> Sheet {
     if sheet.outcome != WRITTEN {
         return sheet;
     }
     let n = lent(slots, sheet.length);
-    let outcome = prepare(name, &slots[..n]);
+    let outcome = prepare(rt, name, &slots[..n]);
     with_outcome(sheet, outcome)
 }
 
 // Metadata as a file that is to get this name.
-pub fn prepare_metadata(name: &[u8], metadata: TableMetadata) -> Sheet {
+pub fn prepare_metadata(rt: HostRuntime, name: &[u8], metadata: TableMetadata) -> Sheet {
     let mut slots = [0u8; ROOM];
     let sheet = put_metadata(metadata, &mut slots);
-    prepare_text(name, sheet, &slots)
+    prepare_text(rt, name, sheet, &slots)
 }
 
 // A list of updates, likewise.
-fn prepare_list(name: &[u8], list: UpdateList, offers: &[u8]) -> Log {
+fn prepare_list(rt: HostRuntime, name: &[u8], list: UpdateList, offers: &[u8]) -> Log {
     let mut slots = [0u8; ROOM];
     let mut log = put_log(list, offers, &mut slots);
     let sheet = log.sheet;
-    log.sheet = prepare_text(name, sheet, &slots);
+    log.sheet = prepare_text(rt, name, sheet, &slots);
     log
 }
 
-fn prepare_names(name: &[u8], expired: MetadataLog) -> Sheet {
+fn prepare_names(rt: HostRuntime, name: &[u8], expired: MetadataLog) -> Sheet {
     let mut slots = [0u8; NAMES];
     let sheet = put_expired(expired, &mut slots);
-    prepare_text(name, sheet, &slots)
+    prepare_text(rt, name, sheet, &slots)
 }
 
-fn prepare_log(line: &[u8], changes: UpdateList, offers: &[u8]) -> Log {
+fn prepare_log(rt: HostRuntime, line: &[u8], changes: UpdateList, offers: &[u8]) -> Log {
     let mut name = io::buffer();
-    if has(line, LOG_FILE) {
-        let len = read_word(line, place_behind(line, LOG_FILE), &mut name);
-        return prepare_list(&name[..len], changes, offers);
+    if has(rt, line, LOG_FILE) {
+        let len = read_word(rt, line, place_behind(rt, line, LOG_FILE), &mut name);
+        return prepare_list(rt, &name[..len], changes, offers);
     }
     let sheet = unasked();
     Log {
@@ -75,20 +76,20 @@ fn prepare_log(line: &[u8], changes: UpdateList, offers: &[u8]) -> Log {
     }
 }
 
-fn prepare_expired(line: &[u8], expired: MetadataLog) -> Sheet {
+fn prepare_expired(rt: HostRuntime, line: &[u8], expired: MetadataLog) -> Sheet {
     let mut name = io::buffer();
-    if has(line, EXPIRED) {
-        let len = read_word(line, place_behind(line, EXPIRED), &mut name);
-        return prepare_names(&name[..len], expired);
+    if has(rt, line, EXPIRED) {
+        let len = read_word(rt, line, place_behind(rt, line, EXPIRED), &mut name);
+        return prepare_names(rt, &name[..len], expired);
     }
     unasked()
 }
 
-fn prepare_out(line: &[u8], metadata: TableMetadata) -> Sheet {
+fn prepare_out(rt: HostRuntime, line: &[u8], metadata: TableMetadata) -> Sheet {
     let mut name = io::buffer();
-    if has(line, OUT) {
-        let len = read_word(line, place_behind(line, OUT), &mut name);
-        return prepare_metadata(&name[..len], metadata);
+    if has(rt, line, OUT) {
+        let len = read_word(rt, line, place_behind(rt, line, OUT), &mut name);
+        return prepare_metadata(rt, &name[..len], metadata);
     }
     unasked()
 }
@@ -98,39 +99,46 @@ fn is_fine(sheet: Sheet) -> bool {
 }
 
 // What is prepared gets its name, or is forgotten where it is not to.
-fn place_behind_option(line: &[u8], option: usize, sheet: Sheet, is_wanted: bool) -> Sheet {
+fn place_behind_option(
+    rt: HostRuntime,
+    line: &[u8],
+    option: usize,
+    sheet: Sheet,
+    is_wanted: bool,
+) -> Sheet {
     let mut name = io::buffer();
     if sheet.outcome != WRITTEN {
         return sheet;
     }
-    let len = read_word(line, place_behind(line, option), &mut name);
+    let len = read_word(rt, line, place_behind(rt, line, option), &mut name);
     if is_wanted {
-        return with_outcome(sheet, place(&name[..len]));
+        return with_outcome(sheet, place(rt, &name[..len]));
     }
-    forget(&name[..len]);
+    forget(rt, &name[..len]);
     with_outcome(sheet, DROPPED)
 }
 
 // What got its name loses it again.
-fn take_back_behind(line: &[u8], option: usize, sheet: Sheet) -> Sheet {
+fn take_back_behind(rt: HostRuntime, line: &[u8], option: usize, sheet: Sheet) -> Sheet {
     let mut name = io::buffer();
     if sheet.outcome != WRITTEN {
         return sheet;
     }
-    let len = read_word(line, place_behind(line, option), &mut name);
-    take_back(&name[..len]);
+    let len = read_word(rt, line, place_behind(rt, line, option), &mut name);
+    take_back(rt, &name[..len]);
     with_outcome(sheet, DROPPED)
 }
 
 // The metadata comes last, so that where it is, all that belongs to it is.
-fn place_all(line: &[u8], mut session: Session) -> Session {
+fn place_all(rt: HostRuntime, line: &[u8], mut session: Session) -> Session {
     let log = session.log;
     let expired = session.expired;
     let out = session.out;
     let is_wanted = is_fine(log) && is_fine(expired) && is_fine(out);
-    let first = place_behind_option(line, LOG_FILE, log, is_wanted);
-    let second = place_behind_option(line, EXPIRED, expired, is_wanted && is_fine(first));
+    let first = place_behind_option(rt, line, LOG_FILE, log, is_wanted);
+    let second = place_behind_option(rt, line, EXPIRED, expired, is_wanted && is_fine(first));
     let third = place_behind_option(
+        rt,
         line,
         OUT,
         out,
@@ -142,26 +150,39 @@ fn place_all(line: &[u8], mut session: Session) -> Session {
     session
 }
 
-fn take_back_all(line: &[u8], mut session: Session) -> Session {
+fn take_back_all(rt: HostRuntime, line: &[u8], mut session: Session) -> Session {
     let log = session.log;
     let expired = session.expired;
     let out = session.out;
     if is_fine(log) && is_fine(expired) && is_fine(out) {
         return session;
     }
-    session.log = take_back_behind(line, LOG_FILE, log);
-    session.expired = take_back_behind(line, EXPIRED, expired);
-    session.out = take_back_behind(line, OUT, out);
+    session.log = take_back_behind(rt, line, LOG_FILE, log);
+    session.expired = take_back_behind(rt, line, EXPIRED, expired);
+    session.out = take_back_behind(rt, line, OUT, out);
     session
 }
 
-fn say_behind(output: &mut Output, end: &mut usize, line: &[u8], option: usize, sheet: Sheet) {
+fn say_behind(
+    rt: HostRuntime,
+    output: &mut Output,
+    end: &mut usize,
+    line: &[u8],
+    option: usize,
+    sheet: Sheet,
+) {
     let mut name = io::buffer();
-    let len = read_word(line, place_behind(line, option), &mut name);
+    let len = read_word(rt, line, place_behind(rt, line, option), &mut name);
     say_outcome(output, end, &name[..len], sheet.outcome, sheet.length);
 }
 
-fn say_session(output: &mut Output, end: &mut usize, line: &[u8], session: Session) {
+fn say_session(
+    rt: HostRuntime,
+    output: &mut Output,
+    end: &mut usize,
+    line: &[u8],
+    session: Session,
+) {
     if !session.is_json && session.log.outcome == WRITTEN {
         say(
             output,
@@ -169,13 +190,14 @@ fn say_session(output: &mut Output, end: &mut usize, line: &[u8], session: Sessi
             b"a list as JSON has neither statistics files nor texts that are not UTF-8: the log is written in the case format\n",
         );
     }
-    say_behind(output, end, line, LOG_FILE, session.log);
-    say_behind(output, end, line, EXPIRED, session.expired);
-    say_behind(output, end, line, OUT, session.out);
+    say_behind(rt, output, end, line, LOG_FILE, session.log);
+    say_behind(rt, output, end, line, EXPIRED, session.expired);
+    say_behind(rt, output, end, line, OUT, session.out);
 }
 
 // The files that a session asks for, and a line for each.
 pub fn write_session(
+    rt: HostRuntime,
     line: &[u8],
     metadata: TableMetadata,
     changes: UpdateList,
@@ -184,9 +206,9 @@ pub fn write_session(
     output: &mut Output,
     end: &mut usize,
 ) {
-    let log = prepare_log(line, changes, offers);
-    let names = prepare_expired(line, expired);
-    let out = prepare_out(line, metadata);
+    let log = prepare_log(rt, line, changes, offers);
+    let names = prepare_expired(rt, line, expired);
+    let out = prepare_out(rt, line, metadata);
     let sheet = log.sheet;
     let prepared = Session {
         log: sheet,
@@ -194,23 +216,35 @@ pub fn write_session(
         out,
         is_json: log.is_json,
     };
-    let placed = place_all(line, prepared);
-    let session = take_back_all(line, placed);
-    say_session(output, end, line, session);
+    let placed = place_all(rt, line, prepared);
+    let session = take_back_all(rt, line, placed);
+    say_session(rt, output, end, line, session);
 }
 
 // A list of updates alone, as an expiry makes it: it offers nothing.
-pub fn write_list(name: &[u8], list: UpdateList, output: &mut Output, end: &mut usize) {
-    let log = prepare_list(name, list, b"");
+pub fn write_list(
+    rt: HostRuntime,
+    name: &[u8],
+    list: UpdateList,
+    output: &mut Output,
+    end: &mut usize,
+) {
+    let log = prepare_list(rt, name, list, b"");
     let sheet = log.sheet;
-    write_prepared(name, sheet, output, end);
+    write_prepared(rt, name, sheet, output, end);
 }
 
 // What is prepared alone.
-pub fn write_prepared(name: &[u8], sheet: Sheet, output: &mut Output, end: &mut usize) {
+pub fn write_prepared(
+    rt: HostRuntime,
+    name: &[u8],
+    sheet: Sheet,
+    output: &mut Output,
+    end: &mut usize,
+) {
     let mut outcome = sheet.outcome;
     if outcome == WRITTEN {
-        outcome = place(name);
+        outcome = place(rt, name);
     }
     say_outcome(output, end, name, outcome, sheet.length);
 }

@@ -11,7 +11,7 @@ use records::update::UpdateList;
 use slot_bounds::{lent, store_byte, with_slots};
 use std::num::wrapping_add_usize;
 use tokens::number::put_count;
-use tokens::output::{Output, empty_output};
+use tokens::output::{Output, bytes_of, empty_output};
 
 // Room for every exported file, which has at most 339,202 bytes, and for every log.
 pub const ROOM: usize = 393216;
@@ -20,7 +20,7 @@ pub const ROOM: usize = 393216;
 pub const NAMES: usize = 49408;
 
 // Whether there is a text, in the words of what becomes of a file, and its length.
-#[derive(Drop)]
+#[derive(Clone, Copy)]
 pub struct Sheet {
     pub outcome: usize,
     pub length: usize,
@@ -40,7 +40,7 @@ fn copy(slots: &mut [u8], at: usize, text: &[u8]) {
 
 // What waits in an output goes behind what the slots hold already; how much they hold then.
 fn move_to(slots: &mut [u8], at: usize, output: &Output, end: &mut usize) -> usize {
-    let bytes: &[u8] = output;
+    let bytes = bytes_of(output);
     let n = lent(bytes, *end);
     copy(slots, at, &bytes[..n]);
     *end = 0;
@@ -104,7 +104,7 @@ pub fn put_metadata(metadata: TableMetadata, slots: &mut [u8]) -> Sheet {
 }
 
 // As JSON, or where that can not show it, in the case format.
-#[derive(Drop)]
+#[derive(Clone, Copy)]
 pub struct Log {
     pub is_json: bool,
     pub sheet: Sheet,

@@ -7,7 +7,7 @@ ghost use Rattle.file_shown.specs.Characters.{leading, after_byte, fits_byte};
 use records::text::{Name, Text};
 
 // How many bytes of a character are left, and between which bounds the next lies. None are left between characters.
-#[derive(Drop)]
+#[derive(Clone, Copy)]
 pub struct Character {
     pub left: u8,
     pub least: u8,

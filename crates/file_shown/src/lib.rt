@@ -1,5 +1,7 @@
 // Whether a metadata file can show what metadata holds: sequence numbers, row ids, owners, and texts that are UTF-8.
 // Document 02 decides, requests (vii) and (xi), as the crate `file_rule` writes it in Export.
+#![tactic(auto)]
+
 pub mod character;
 pub mod table;
 

@@ -37,7 +37,7 @@ module _ (f : ℕ → ℕ) where
   tested true place number = refl
   tested false place number = refl
 
-  stands : (of_schema : Bool) (schema place : ℕ) → stands_at ofSchema (f schema) (f place) ≡ f (stands_at ofSchema schema place)
+  stands : (of_schema : Bool) (schema place : ℕ) → stands_at of_schema (f schema) (f place) ≡ f (stands_at of_schema schema place)
   stands true schema place = refl
   stands false schema place = refl
 
@@ -128,37 +128,37 @@ module _ (f : ℕ → ℕ) where
   by_row (some r) said told h = h r
 
   -- a list or an object where something else is to be
-  elsewhere : (shape : Shape) (of_schema : Bool) (schema place : ℕ) → misplaced shape (stands_at ofSchema (f schema) (f place)) ≡ there (misplaced shape (stands_at ofSchema schema place))
-  elsewhere shape ofSchema schema place =
-      ap (λ (place : ℕ). misplaced shape place) (stands ofSchema schema place) ∙ tested (is_anything shape) (stands_at ofSchema schema place) not_published
+  elsewhere : (shape : Shape) (of_schema : Bool) (schema place : ℕ) → misplaced shape (stands_at of_schema (f schema) (f place)) ≡ there (misplaced shape (stands_at of_schema schema place))
+  elsewhere shape of_schema schema place =
+      ap (λ (place : ℕ). misplaced shape place) (stands of_schema schema place) ∙ tested (is_anything shape) (stands_at of_schema schema place) not_published
 
   module _ (version : ℕ) where
     mutual
       unfolding defects moved text_of
 
-      pub judged : (x : Json) (schema : ℕ) (of_schema : Bool) (shape : FileShape) → defects version (f schema) ofSchema shape (moved f x) ≡ there (defects version schema ofSchema shape x)
-      judged (Scalar t) schema ofSchema shape =
-          ap (λ (place : ℕ). single_defects shape place (moved_lexeme f t)) (stands ofSchema schema t.first) ∙ single_judged shape (stands_at ofSchema schema t.first) t
-      judged (Array place xs closed) schema ofSchema (Several room each) =
+      pub judged : (x : Json) (schema : ℕ) (of_schema : Bool) (shape : FileShape) → defects version (f schema) of_schema shape (moved f x) ≡ there (defects version schema of_schema shape x)
+      judged (Scalar t) schema of_schema shape =
+          ap (λ (place : ℕ). single_defects shape place (moved_lexeme f t)) (stands of_schema schema t.first) ∙ single_judged shape (stands_at of_schema schema t.first) t
+      judged (Array place xs closed) schema of_schema (Several room each) =
           joined (unless (leb (count_of (moved_items f xs)) room) (f place) over_capacity) (item_defects version (f schema) each (moved_items f xs))
           (unless (leb (count_of xs) room) place over_capacity) (item_defects version schema each xs)
           (ap (λ (n : ℕ). unless (leb n room) (f place) over_capacity) (count_moved xs) ∙ tested (leb (count_of xs) room) place over_capacity) (items_judged xs schema each)
-      judged (Array place xs closed) schema ofSchema (Single shape) = elsewhere shape ofSchema schema place
-      judged (Array place xs closed) schema ofSchema IdOrNull = refl
-      judged (Array place xs closed) schema ofSchema (ByName room each) = refl
-      judged (Array place xs closed) schema ofSchema (OfKind kind) = refl
-      judged (Object place ms closed) schema ofSchema (ByName room each) =
+      judged (Array place xs closed) schema of_schema (Single shape) = elsewhere shape of_schema schema place
+      judged (Array place xs closed) schema of_schema IdOrNull = refl
+      judged (Array place xs closed) schema of_schema (ByName room each) = refl
+      judged (Array place xs closed) schema of_schema (OfKind kind) = refl
+      judged (Object place ms closed) schema of_schema (ByName room each) =
           joined (unless (leb (members_count (moved_members f ms)) room) (f place) over_capacity) (named_defects version (f schema) each [] (moved_members f ms))
           (unless (leb (members_count ms) room) place over_capacity) (named_defects version schema each [] ms)
           (ap (λ (n : ℕ). unless (leb n room) (f place) over_capacity) (members_count_moved ms) ∙ tested (leb (members_count ms) room) place over_capacity) (named_judged ms schema each [])
-      judged (Object place ms closed) schema ofSchema (OfKind kind) =
+      judged (Object place ms closed) schema of_schema (OfKind kind) =
           joined (member_defects version (schema_place kind (f place) (f schema)) kind (rows_in version kind) [] (moved_members f ms)) (missing_defects version kind (f place) (moved_members f ms) closed)
           (member_defects version (schema_place kind place schema) kind (rows_in version kind) [] ms) (missing_defects version kind place ms closed)
           (ap (λ (around : ℕ). member_defects version around kind (rows_in version kind) [] (moved_members f ms)) (schema_place_lem kind place schema) ∙ members_judged ms (schema_place kind place schema) kind (rows_in version kind) [])
           (missing_judged version kind place ms closed)
-      judged (Object place ms closed) schema ofSchema (Single shape) = elsewhere shape ofSchema schema place
-      judged (Object place ms closed) schema ofSchema IdOrNull = refl
-      judged (Object place ms closed) schema ofSchema (Several room each) = refl
+      judged (Object place ms closed) schema of_schema (Single shape) = elsewhere shape of_schema schema place
+      judged (Object place ms closed) schema of_schema IdOrNull = refl
+      judged (Object place ms closed) schema of_schema (Several room each) = refl
 
       items_judged : (xs : Items) (schema : ℕ) (shape : FileShape) → item_defects version (f schema) shape (moved_items f xs) ≡ there (item_defects version schema shape xs)
       items_judged no_item schema shape = refl

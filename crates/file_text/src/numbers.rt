@@ -9,7 +9,7 @@ use crate::bytes::{put, put_if};
 const DIGITS: usize = 20;
 
 // A number of any field.
-#[derive(Drop)]
+#[derive(Clone, Copy)]
 pub struct Number(pub i64);
 
 // From the last digit to the first.

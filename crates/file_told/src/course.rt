@@ -83,7 +83,7 @@ pub fn set_expect(course: &mut Course, expect: usize) {
     course[EXPECT] = expect;
 }
 
-pub fn version_of_lem(course: &Course) -> usize {
+pub fn version_of(course: &Course) -> usize {
     course[VERSION]
 }
 

@@ -1,7 +1,7 @@
 // A text, gone through lexeme by lexeme up to the first that can not stand where it does.
 use crate::course::{
     AFTER, COLON, Course, FIRST_NAME, FIRST_VALUE, Flags, LIST, NAME, NOTHING_MORE, STOPPED, VALUE,
-    close, expect_of, opened_of, set_expect, set_version, version_of_lem,
+    close, expect_of, opened_of, set_expect, set_version, version_of,
 };
 use crate::judged::{take_close, take_name, take_value};
 use crate::reason::{BROKEN, ENDED};
@@ -120,7 +120,7 @@ fn go_through(text: &[u8], version: usize, found: &mut Found) -> usize {
         left -= 1;
         step(&mut course, &mut flags, &kept, t, text.len(), found);
     }
-    version_of_lem(&course)
+    version_of(&course)
 }
 
 // The defects of a text. The version is looked for first, since the tables are those of the version, wherever it stands.

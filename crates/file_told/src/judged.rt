@@ -3,7 +3,7 @@ use crate::course::{
     COLON, Course, FIRST_NAME, FIRST_VALUE, FREE, Flags, LIST, NAMED, RECORD, STOPPED, count_of,
     count_one, depth_of, each_of, field_named_of, first_of, forget_all, go_behind, is_seen, open,
     opened_of, own_of, pending_of, schema_of, see, set_expect, set_field_named, set_pending,
-    set_version, version_of_lem,
+    set_version, version_of,
 };
 use crate::reason::{
     DEEP, HALF_A_RANGE, MISSING, OTHERWISE, OVER_LIST, OVER_TEXT, REPEATED, REQUIRED, TYPE,
@@ -16,7 +16,7 @@ use file_members::spot::{FIELD_NAME, FIELD_REQUIRED, FORMAT_VERSION, PARTITION_N
 use file_members::standing::standing;
 use file_members::value::fault_of;
 use file_members::want::{
-    A_REF, THE_WHOLE_FILE, is_at_schema, item_of, named_of, passes_over, record_of_lem, room_of,
+    A_REF, THE_WHOLE_FILE, is_at_schema, item_of, named_of, passes_over, record_of, room_of,
     want_of,
 };
 use file_members::{kind, standing};
@@ -105,7 +105,7 @@ fn take_scalar(course: &mut Course, kept: &Kept, t: Token, want: usize, found: &
     if want == FIELD_NAME {
         set_field_named(course, t.first);
     }
-    if want == FORMAT_VERSION && number == 0 && version_of_lem(course) == 0 {
+    if want == FORMAT_VERSION && number == 0 && version_of(course) == 0 {
         set_version(course, (t.magnitude % 4) as usize);
     }
     go_behind(course);
@@ -139,7 +139,7 @@ fn take_object(
     want: usize,
     found: &mut Found,
 ) {
-    let record = record_of_lem(want);
+    let record = record_of(want);
     if named_of(want) != 0 {
         open(course, NAMED, want, A_REF, first, false);
     } else if record < NO_KIND {
@@ -187,7 +187,7 @@ fn position(record: usize, spot: usize) -> usize {
 // The name of a member. One that is unknown in the file itself is skipped; the value of one that is refused is not judged.
 fn take_member(course: &mut Course, flags: &mut Flags, kept: &Kept, t: Token, found: &mut Found) {
     let record = each_of(course);
-    let version = version_of_lem(course);
+    let version = version_of(course);
     let spot = member(version, record, kept, t.len);
     let at = position(record, spot);
     set_pending(course, 0);
@@ -230,7 +230,7 @@ pub fn take_name(course: &mut Course, flags: &mut Flags, kept: &Kept, t: Token, 
 
 // The first member that a record must have and was not seen; 0 where every one was.
 fn first_lacking(course: &Course, flags: &Flags, record: usize) -> usize {
-    let version = version_of_lem(course);
+    let version = version_of(course);
     let first = kind::first_of(record);
     let count = kind::count_of(record);
     let mut i = 0;
@@ -251,7 +251,7 @@ fn lacks_something(course: &Course, flags: &Flags, record: usize) -> bool {
         seen[i] = is_seen(course, flags, i);
         i += 1;
     }
-    lacks(version_of_lem(course), record, &seen)
+    lacks(version_of(course), record, &seen)
 }
 
 // An object is closed: a record may lack a member.

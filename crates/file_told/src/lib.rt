@@ -2,6 +2,8 @@
 // first of them is the answer, and the others stand behind it in order.
 // Nothing is decided here: the answer is that of the crate `file_import`. The text is gone through once more, lexeme by lexeme and by the same tables, to see
 // what shows the answer, and what else is wrong.
+#![tactic(auto)]
+
 mod course;
 mod gone;
 mod judged;

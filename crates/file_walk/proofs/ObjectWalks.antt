@@ -96,7 +96,7 @@ module _ (bs : List ℕ) (version want schema base depth first : ℕ) (seat : Se
       ∙ (begun version inner kind base depth bs t slots p start at_placed
       ∙ (ap₂ (λ (d : Option Defect) (k : ℕ). of_members version inner kind base [] 0 d start (first_member (length bs) (λ us. members_from (length bs) depth us) (lexemes_at bs k)))
       (ap said_by is-placed ∙ said_refused (misplaced_number want (record_flag kind)) (stands_at (stands_at_schema want) schema first) seat) same_from
-      ∙ ap₂ (λ (i k : ℕ). of_members version i k base [] 0 (sooner (said_by seat) (placing k)) start inside) (is-inner ∙ ap (λ (k : ℕ). inner_place k first schema) is-kind) is-kind))
+      ∙ ap₂ (λ (i k : ℕ). of_members version i k base [] 0 (sooner (said_by seat) (placing k)) start inside) (is-inner ∙ ap (λ (k : ℕ). inner_place k first schema) is_kind) is_kind))
 
   names_begin : names_told version bs depth [] begin ≡ names_in [] inside
   names_begin =
@@ -110,10 +110,10 @@ module _ (bs : List ℕ) (version want schema base depth first : ℕ) (seat : Se
       let not_3 : eqb s.state 3 ≡ false = ne_eqb s.state 3 f in
       let names-are : l.names ≡ names_in [] inside = (rw not_3 at l.same) ∙ names_begin in
       let told_is : told bs s cells ≡ of_members version (inner_place (record_at want) first schema) (record_at want) base [] 0 (sooner (said_by seat) (placing (record_at want))) start inside = (rw not_3 at l.is) ∙ from_begin in
-      let g : Flagged version (record_at want) flags (names_in [] inside) = subst (λ (k : ℕ). Flagged version k flags (names_in [] inside)) is-kind (subst (λ (ns : List (List ℕ)). Flagged version kind flags ns) names-are l.flagged) in
+      let g : Flagged version (record_at want) flags (names_in [] inside) = subst (λ (k : ℕ). Flagged version k flags (names_in [] inside)) is_kind (subst (λ (ns : List (List ℕ)). Flagged version kind flags ns) names-are l.flagged) in
       record {
         is =
-            rw (e, said_refused (lack_number version kind s.state flags) first s, is-kind)
+            rw (e, said_refused (lack_number version kind s.state flags) first s, is_kind)
             (◌∙◌ {b = closing version (record_at want) first flags (of_members version (inner_place (record_at want) first schema) (record_at want) base [] 0 (sooner (said_by seat) (placing (record_at want))) start inside)}
             (ap (closing version (record_at want) first flags) told_is)
             (sym (object version schema want base first (said_by seat) start inside flags m.meant own g)));

@@ -25,10 +25,10 @@ is_record (OfKind kind) = true
 -- the flag says that what is wrong stands at the schema
 abbrev pub sound : FileShape → Bool → Bool
 sound (Single shape) of_schema = true
-sound IdOrNull of_schema = not ofSchema
-sound (Several room each) of_schema = not ofSchema && (leb room 128 && is_record each)
-sound (ByName room each) of_schema = not ofSchema && (leb room 128 && is_record each)
-sound (OfKind kind) of_schema = not ofSchema
+sound IdOrNull of_schema = not of_schema
+sound (Several room each) of_schema = not of_schema && (leb room 128 && is_record each)
+sound (ByName room each) of_schema = not of_schema && (leb room 128 && is_record each)
+sound (OfKind kind) of_schema = not of_schema
 
 abbrev sound_row : Row → Bool
 sound_row r = sound r.shape r.of_schema

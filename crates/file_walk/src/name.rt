@@ -103,7 +103,7 @@ fn name_stop(len: usize, t: Token) -> usize
 // Behind a name: the colon, and a value to come.
 fn after_colon(kind: usize, known: usize, len: usize, t: Token, seat: Seat) -> Seat
     requires { seat.count < len }
-    ensures { result ≡ afterColon kind known len t seat }
+    ensures { result ≡ after_colon kind known len t seat }
 {
     if is_mark(b':', t) {
         let mut s = seat;

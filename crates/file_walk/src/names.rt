@@ -44,7 +44,7 @@ fn is_again(bytes: &[u8], place: usize, kept: &Kept, len: usize) -> bool
 // Whether the name that is kept is one of those at the first so many places.
 fn was_there(bytes: &[u8], places: &Places, count: usize, kept: &Kept, len: usize) -> bool
     requires { (count ≤ 128) × (len ≤ 96) }
-    ensures { result ≡ isOneOf (names_at bytes.now places.now count) (front len kept.now) }
+    ensures { result ≡ is_one_of (names_at bytes.now places.now count) (front len kept.now) }
 {
     let mut i = 0;
     while i < count {
@@ -58,7 +58,7 @@ fn was_there(bytes: &[u8], places: &Places, count: usize, kept: &Kept, len: usiz
 
 // What is wrong with a name by its length.
 fn own_fault(len: usize) -> usize
-    ensures { result ≡ ownFault len }
+    ensures { result ≡ own_fault len }
 {
     if len == LONE {
         return 28;
@@ -71,7 +71,7 @@ fn own_fault(len: usize) -> usize
 
 // Whether something was refused before a place.
 fn is_early(place: usize, seat: Seat) -> bool
-    ensures { result ≡ isEarly (saidBy seat) place }
+    ensures { result ≡ is_early (said_by seat) place }
 {
     if seat.number == 0 {
         return false;
@@ -82,7 +82,7 @@ fn is_early(place: usize, seat: Seat) -> bool
 // What is wrong with a name. Where something was refused before it, it does not matter whether it was there before, nor would all earlier names be known.
 fn name_fault(bytes: &[u8], places: &Places, kept: &Kept, t: Token, seat: Seat) -> usize
     requires { seat.count ≤ 128 }
-    ensures { result ≡ nameFault bytes.now places.now kept.now t seat }
+    ensures { result ≡ name_fault bytes.now places.now kept.now t seat }
 {
     let own = own_fault(t.len);
     if own != 0 {
@@ -99,7 +99,7 @@ fn name_fault(bytes: &[u8], places: &Places, kept: &Kept, t: Token, seat: Seat) 
 
 // What is refused of a name past the room.
 fn over_room(room: usize, count: usize) -> usize
-    ensures { result ≡ overRoom room count }
+    ensures { result ≡ over_room room count }
 {
     if count < room {
         return 0;
@@ -109,7 +109,7 @@ fn over_room(room: usize, count: usize) -> usize
 
 // Where no name can be read.
 fn no_name_place(len: usize, t: Token) -> usize
-    ensures { result ≡ noNamePlace len t }
+    ensures { result ≡ no_name_place len t }
 {
     if t.state != BROKEN {
         return stop_place(len, t);
@@ -169,7 +169,7 @@ fn judge(
 }
 
 // A name and the colon behind it: the value is to come, or nothing more is read.
-pub fn read_name_lem(
+pub fn read_name(
     bytes: &[u8],
     kept: &mut Kept,
     places: &mut Places,

@@ -10,7 +10,7 @@ ghost use Rattle.file_walk.specs.Walked.{MayWalk, Walked, MayEnter, ListWalked, 
 
 use crate::cells::{Cells, item_cells, put_count};
 use crate::name::{NO_RECORD, name};
-use crate::names::{NAMES, Places, named_cells, put_name, read_name_lem};
+use crate::names::{NAMES, Places, named_cells, put_name, read_name};
 use crate::scalar::{own_place, scalar};
 use crate::seat::{
     GOES_ON, MISSING, READ, Seat, after_one, begun, counted, is_mark, refuse, settled, stop,
@@ -18,7 +18,7 @@ use crate::seat::{
 use file_members::cell::offset_of;
 use file_members::kind::HELD_SCHEMA;
 use file_members::seen::{Seen, lacks};
-use file_members::want::{item_of, named_of, record_of_lem, room_of, want_of};
+use file_members::want::{item_of, named_of, record_of, room_of, want_of};
 use json_lex::text::Kept;
 use json_tokens::next;
 
@@ -263,7 +263,7 @@ fn held(
     requires { (MayEnter bytes.now want base depth seat) × (named_at want ≡ 0) }
     ensures { ObjectWalked bytes.now version want schema base depth first seat cells.old result cells.new }
 {
-    let kind = record_of_lem(want);
+    let kind = record_of(want);
     let inner = inner_place(kind, first, schema);
     let t = next(bytes, seat.from, kept);
     let mut s = begun(
@@ -382,7 +382,7 @@ fn under_name(
     requires { MayNamed bytes.now each room base depth first seat }
     ensures { NamedTurned bytes.now version each room schema base depth first seat cells.old places.old result cells.new places.new }
 {
-    let u = read_name_lem(bytes, kept, places, room, first, seat);
+    let u = read_name(bytes, kept, places, room, first, seat);
     if u.state != GOES_ON {
         return u;
     }

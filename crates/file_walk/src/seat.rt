@@ -2,11 +2,11 @@
 // the number of a member.
 ghost use Rattle.std.specs.Prelude.{◌≡◌, ◌≤◌, ◌<◌};
 ghost use Rattle.file_cells.specs.Filled.{next_count};
-ghost use Rattle.file_walk.specs.Seats.{is_before, refused, stopped, is_mark, stop_place, begun_by, after_one, over_number, counted as countedBy, settled_by};
+ghost use Rattle.file_walk.specs.Seats.{is_before, refused, stopped, is_mark, stop_place, begun_by, after_one, over_number, counted as counted_by, settled_by};
 
 use json_tokens::{END, Token, WHOLE};
 
-#[derive(Drop)]
+#[derive(Clone, Copy)]
 pub struct Seat {
     pub from: usize,
     pub number: usize,
@@ -143,7 +143,7 @@ fn next_count(room: usize, count: usize) -> usize
 
 // With one more element, if there is something of it; so many were there before.
 pub fn counted(each: usize, room: usize, first: usize, count: usize, seat: Seat) -> Seat
-    ensures { result ≡ countedBy each room first count seat }
+    ensures { result ≡ counted_by each room first count seat }
 {
     let mut s = seat;
     s.count = count;

@@ -13,51 +13,52 @@ use records::counters::{Age, Time};
 use records::run::{DEFAULT_TOLERANCE_MS, FIRST_OFFICE, RunTerms};
 use records::text::Text;
 use slot_bounds::store_byte;
+use std::rt::HostRuntime;
 use tokens::field::{Signed, signed_of};
 use tokens::token::token_of;
 
 // The terms, and the first option whose value is none; `OPTIONS` where every one is.
-#[derive(Drop)]
+#[derive(Clone, Copy)]
 pub struct Asked {
     pub limit: LimitText,
     pub terms: RunTerms,
     pub fault: usize,
 }
 
-fn time_at(line: &[u8], at: usize) -> Timed {
+fn time_at(rt: HostRuntime, line: &[u8], at: usize) -> Timed {
     let mut word = io::buffer();
-    let len = read_word(line, at, &mut word);
+    let len = read_word(rt, line, at, &mut word);
     time_of_text(&word[..len])
 }
 
 // The moment behind an option; another one where the option is not there.
-pub fn time_behind(line: &[u8], option: usize, other: Time) -> Timed {
-    let at = place_behind(line, option);
+pub fn time_behind(rt: HostRuntime, line: &[u8], option: usize, other: Time) -> Timed {
+    let at = place_behind(rt, line, option);
     if at == NONE {
         return Timed {
             is_timed: true,
             time: other,
         };
     }
-    time_at(line, at)
+    time_at(rt, line, at)
 }
 
-fn number_at(line: &[u8], at: usize) -> Signed {
+fn number_at(rt: HostRuntime, line: &[u8], at: usize) -> Signed {
     let mut word = io::buffer();
-    let len = read_word(line, at, &mut word);
+    let len = read_word(rt, line, at, &mut word);
     signed_of(token_of(&word[..len]))
 }
 
 // The number behind an option, likewise.
-pub fn number_behind(line: &[u8], option: usize, other: i64) -> Signed {
-    let at = place_behind(line, option);
+pub fn number_behind(rt: HostRuntime, line: &[u8], option: usize, other: i64) -> Signed {
+    let at = place_behind(rt, line, option);
     if at == NONE {
         return Signed {
             is_number: true,
             number: other,
         };
     }
-    number_at(line, at)
+    number_at(rt, line, at)
 }
 
 fn copy(slots: &mut [u8], text: &[u8]) {
@@ -69,10 +70,10 @@ fn copy(slots: &mut [u8], text: &[u8]) {
 }
 
 // The bytes that have a slot, and the length as it is.
-fn text_at_lem(line: &[u8], at: usize) -> Text {
+fn text_at(rt: HostRuntime, line: &[u8], at: usize) -> Text {
     let mut word = io::buffer();
     let mut bytes = [0u8; TEXT];
-    let len = read_word(line, at, &mut word);
+    let len = read_word(rt, line, at, &mut word);
     copy(&mut bytes, &word[..len]);
     Text { bytes, len }
 }
@@ -90,20 +91,20 @@ fn keep_bytes(text: &mut [u8], word: &[u8]) -> usize
 }
 
 // A text that is not given has the limit of an empty one.
-pub fn limit_of(line: &[u8]) -> LimitText {
+pub fn limit_of(rt: HostRuntime, line: &[u8]) -> LimitText {
     let mut word = io::buffer();
     let mut bytes = [0u8; LIMIT_TEXT];
-    let n = read_word(line, place_behind(line, LIMIT), &mut word);
+    let n = read_word(rt, line, place_behind(rt, line, LIMIT), &mut word);
     let len = keep_bytes(&mut bytes, &word[..n]);
     LimitText { bytes, len }
 }
 
-fn file_of(line: &[u8]) -> Text {
-    let at = place_behind(line, FILE);
+fn file_of(rt: HostRuntime, line: &[u8]) -> Text {
+    let at = place_behind(rt, line, FILE);
     if at == NONE {
         return Text::blank();
     }
-    text_at_lem(line, at)
+    text_at(rt, line, at)
 }
 
 // Of a number that no office has, one that no run takes.
@@ -129,13 +130,13 @@ fn fault_of(is_clock: bool, is_tolerance: bool, office: u8) -> usize {
 }
 
 // The clock is 0 where none is given: the command says whether it wants one.
-pub fn terms_of(line: &[u8]) -> Asked {
-    let clock = time_behind(line, CLOCK, Time(0));
-    let tolerance = number_behind(line, TOLERANCE, DEFAULT_TOLERANCE_MS);
-    let office = office_of(number_behind(line, OFFICE, FIRST_OFFICE as i64).number);
-    let has_file = place_behind(line, FILE) < NONE;
-    let file = file_of(line);
-    let limit = limit_of(line);
+pub fn terms_of(rt: HostRuntime, line: &[u8]) -> Asked {
+    let clock = time_behind(rt, line, CLOCK, Time(0));
+    let tolerance = number_behind(rt, line, TOLERANCE, DEFAULT_TOLERANCE_MS);
+    let office = office_of(number_behind(rt, line, OFFICE, FIRST_OFFICE as i64).number);
+    let has_file = place_behind(rt, line, FILE) < NONE;
+    let file = file_of(rt, line);
+    let limit = limit_of(rt, line);
     let clock_ms = clock.time;
     let terms = RunTerms {
         clock_ms,

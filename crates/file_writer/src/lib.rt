@@ -1,5 +1,7 @@
 // Metadata written as a published JSON file into a lent buffer. Refused with 25 where the buffer is short; then nothing is written.
 // Document 02 decides, request (vii), as the crate `file_rule` writes it in Files and Export.
+#![tactic(auto)]
+
 ghost use Rattle.std.specs.Prelude.{◌≡◌, length};
 ghost use Rattle.rules.specs.Layout.{read_metadata};
 ghost use Rattle.file_rule.specs.Files.{file_text};
@@ -11,7 +13,7 @@ use records::metadata::TableMetadata;
 use records::replies::{ACCEPTED, BUFFER_TOO_SHORT};
 
 // The number is 0, or that of the refusal; the length is the file's, 0 on a refusal.
-#[derive(Drop)]
+#[derive(Clone, Copy)]
 pub struct Exported {
     pub number: u8,
     pub length: usize,

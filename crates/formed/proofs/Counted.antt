@@ -63,10 +63,10 @@ module _ {A : Type 0} {p : A → Bool} {n : ℕ} {items : List A} {from : ℕ} {
 
   module _ {i : ℕ} {ok : Bool} (s : Taken p n items from i first ok) where
     pub taken_on : (d : A) {z : Bool} → i < n → z ≡ p (get_or items i d) → Taken p n items from (i + 1) first (ok && z)
-    taken_on d k e = record { fits = s.fits; upto = each_on s.upto d (omega (arith, length-take-le n items s.fits)) (e ∙ ap p (sym (get_or-take n items i d k))) }
+    taken_on d k e = record { fits = s.fits; upto = each_on p s.upto d (omega (arith, length-take-le n items s.fits)) (e ∙ ap p (sym (get_or-take n items i d k))) }
 
     pub taken_end : n ≤ i → ok ≡ (first && all p (drop from (take n items)))
-    taken_end k = each_end s.upto (omega (arith, length-take-le n items s.fits))
+    taken_end k = each_end p s.upto (omega (arith, length-take-le n items s.fits))
 
 -- what is read of the counted slots, of which there is room for so many
 module _ {A B : Type 0} (rd : A → B) (q : B → Bool) (b : A) (room n : ℕ) (items : List A) (first : Bool) where

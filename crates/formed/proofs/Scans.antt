@@ -34,7 +34,7 @@ module _ {A : Type 0} {F : ℕ → List A → Bool} {l : List A} {from : ℕ} {f
 abbrev pub each : {A : Type 0} → (A → Bool) → ℕ → List A → Bool
 each p i l = all p l
 
-module _ {A : Type 0} {p : A → Bool} {l : List A} {from i : ℕ} {first ok : Bool} (s : Scanned (each p) l from i first ok) where
+module _ {A : Type 0} (p : A → Bool) {l : List A} {from i : ℕ} {first ok : Bool} (s : Scanned (each p) l from i first ok) where
   pub each_on : (d : A) {z : Bool} → i < length l → z ≡ p (get_or l i d) → Scanned (each p) l from (i + 1) first (ok && z)
   each_on d {z} h e = scan_on s d z h (ap (λ (b : Bool). b && all p (drop (i + 1) l)) (sym e))
 
@@ -56,7 +56,7 @@ module _ {A : Type 0} {p : A → Bool} {room : ℕ} {l : List A} {from : ℕ} wh
 
   module _ {i : ℕ} {ok : Bool} (s : Slotted p room l from i ok) where
     pub slotted_on : (d : A) {z : Bool} → i < room → z ≡ p (get_or l i d) → Slotted p room l from (i + 1) (ok && z)
-    slotted_on d h e = record { fits = s.fits; upto = each_on s.upto d (rw s.fits h) e }
+    slotted_on d h e = record { fits = s.fits; upto = each_on p s.upto d (rw s.fits h) e }
 
     pub slotted_end : room ≤ i → ok ≡ rest_blank room p l from
-    slotted_end h = with_slots p l from room s.fits (each_end s.upto (rw s.fits h))
+    slotted_end h = with_slots p l from room s.fits (each_end p s.upto (rw s.fits h))

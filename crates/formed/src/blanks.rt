@@ -121,7 +121,7 @@ pub fn reference_fits(used: bool, r: SnapshotReference) -> bool
     same_reference(r, SnapshotReference::blank())
 }
 
-fn field_fits_lem(used: bool, f: SchemaField) -> bool
+fn field_fits(used: bool, f: SchemaField) -> bool
     ensures { result ≡ cond used (is_tidy_schema_field f) (is_blank_schema_field f) }
 {
     let id = f.id;
@@ -140,7 +140,7 @@ pub fn schema_fits(used: bool, s: Schema) -> bool
     let mut i = 0;
     while i < SCHEMA_FIELDS {
         let f = s.items[i];
-        ok = ok & field_fits_lem(i < from, f);
+        ok = ok & field_fits(i < from, f);
         i += 1;
     }
     ok

@@ -15,7 +15,7 @@ use search::{Key, is_in};
 use tables::names::name_is_below;
 
 // The keys of a table in its order, and zeros up to as many as the largest table has. It is `filled` if its slots passed, and `formed` if its keys ascend too.
-#[derive(Drop)]
+#[derive(Clone, Copy)]
 pub struct Keys {
     pub ids: [i64; SNAPSHOTS],
     pub count: usize,

@@ -33,7 +33,7 @@ use records::update::{
 
 // ---- the parts
 
-fn fields_fit_lem(k: u8, p: FieldsPart) -> bool
+fn fields_fit(k: u8, p: FieldsPart) -> bool
     ensures { result ≡ is_tidy_fields_part k p }
 {
     let uuid = p.uuid;
@@ -99,7 +99,7 @@ pub fn is_tidy(u: TableUpdate) -> bool
     ensures { result ≡ is_tidy_update u }
 {
     let k = u.kind;
-    fields_fit_lem(k, u.fields)
+    fields_fit(k, u.fields)
         & snapshots_fit(k, u.snapshots)
         & refs_fit(k, u.refs)
         & schemas_fit(k, u.schemas)

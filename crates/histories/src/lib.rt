@@ -1,6 +1,8 @@
 // The two conditions under which a run keeps the answers about a moment: whether metadata holds every snapshot that its history names, and whether
 // a change log both removes and adds one snapshot. Nothing is refused: any metadata and any log are answered.
 // The conditions are this project's own, as the crate `rules` writes them in Moment; no document asks for them.
+#![tactic(auto)]
+
 ghost use Rattle.std.specs.Prelude.{◌≡◌, cond, ◌&&◌, ◌≤◌, leb};
 ghost use Rattle.rules.specs.Words.{all, any};
 ghost use Rattle.rules.specs.Capacities.{snapshot_log_room};

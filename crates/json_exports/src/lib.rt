@@ -1,6 +1,8 @@
 // A list of updates as published JSON, read by C linkage, at once or in parts of a length, and a metadata file, to time them beside other readers.
 // The bytes that the updates offer are left where the caller lends room for them. The list stays here: a record of that length has no place in a signature.
 // What is told of it is how many updates it has, and the kind of the last.
+#![tactic(auto)]
+
 ghost use Rattle.std.specs.Prelude.{◌≤◌, ◌<◌};
 
 use file_export::export;
@@ -10,7 +12,7 @@ use records::capacities::{OFFERS, UPDATES};
 
 // The number is 0, 27, 28 or 29; where it is 0 the place is 0 too, and else the count and the kind are.
 #[repr(C)]
-#[derive(Drop)]
+#[derive(Clone, Copy)]
 pub struct Read {
     pub number: u8,
     pub count: u8,
@@ -70,14 +72,14 @@ pub extern "C" fn json_updates(text: &[u8], part: usize, offers: &mut [u8; OFFER
 // What a metadata file comes to: the number of the answer, how many snapshots its metadata has, and the place of a refusal, or else how many members were
 // skipped.
 #[repr(C)]
-#[derive(Drop)]
+#[derive(Clone, Copy)]
 pub struct FileRead {
     pub number: u8,
     pub snapshots: u8,
     pub place: usize,
 }
 
-fn told_of_lem(read: Imported) -> FileRead {
+fn told_of(read: Imported) -> FileRead {
     let metadata = read.metadata;
     let count = metadata.snapshots.count;
     let mut place = read.place;
@@ -93,7 +95,7 @@ fn told_of_lem(read: Imported) -> FileRead {
 
 #[unsafe(no_mangle)]
 pub extern "C" fn json_file(text: &[u8]) -> FileRead {
-    told_of_lem(import(text))
+    told_of(import(text))
 }
 
 // A file that is read, and written into a buffer: the place is how many bytes were written.

@@ -62,19 +62,19 @@ module _ (a b : Hand) (items : ℕ) (v : ℕ) (x : Json) (marks : b.marks ≡ a.
   arrives n (nothing g) = nothing (λ e. absurd (false≢true e))
   arrives n (updates g) = absurd (true≢false (sym updates_list ∙ n))
   arrives n (update (awaits {m = m} e u)) =
-      let c = come AnUpdate m u.is_member e in
-      update (members (value_held x (kept_beside AnUpdate m u.is_member c.agree) (mark_same m) c.stored u))
+      let c = come AnUpdate m u.a_member e in
+      update (members (value_held x (kept_beside AnUpdate m u.a_member c.agree) (mark_same m) c.stored u))
   arrives n (ids i o u) = absurd (true≢false (sym (ids_list i) ∙ n))
   arrives {w} n (part {kind = kind} p (awaits {m = m} e h) u) =
-      let c = come kind m h.is_member e in
-      let d = in_part_lem p m h.is_member in
-      part p (members (value_held x (kept_beside kind m h.is_member c.agree) (mark_same m) c.stored h)) (awaits_kept AnUpdate (kept_update w m d.top c.agree) (mark_same w) u)
+      let c = come kind m h.a_member e in
+      let d = in_part_lem p m h.a_member in
+      part p (members (value_held x (kept_beside kind m h.a_member c.agree) (mark_same m) c.stored h)) (awaits_kept AnUpdate (kept_update w m d.top c.agree) (mark_same w) u)
   arrives n (fields f p o h u) = absurd (true≢false (sym (fields_list f) ∙ n))
   arrives n (field {w = list} {v = top} {each = each} {kind = kind} f p (awaits {m = m} e h) c few l r u) =
-      let y = come each m h.is_member e in
-      let d = in_field_lem f p m h.is_member in
+      let y = come each m h.a_member e in
+      let d = in_field_lem f p m h.a_member in
       let item : off (mine m) (item_at list) ≡ true = rw (field_there f p).item d.item in
-      field f p (members (value_held x (kept_beside each m h.is_member y.agree) (mark_same m) y.stored h)) c few
+      field f p (members (value_held x (kept_beside each m h.a_member y.agree) (mark_same m) y.stored h)) c few
       (list_held_kept (off (mine m)) y.agree item (rw (field_room f) (omega arith)) l)
       (awaits_kept kind (kept_part p list m d.mid y.agree) (mark_same list) r)
       (awaits_kept AnUpdate (kept_update top m d.top.top y.agree) (mark_same top) u)

@@ -82,15 +82,15 @@ module _ (a : Hand) (items : ℕ) (v place : ℕ) (is : is_some (listing_of (sha
   list_begins (updates g) = absurd (not_item 2 (g refl) updates_items)
   list_begins (update (awaits {m = m} {hs = us} {t = t} e u)) =
       let u' : Awaits AnUpdate a v us t = rw (awaited m e) at u in
-      let i = update_list_lem v u'.is_member is in
+      let i = update_list_lem v u'.a_member is in
       ids i.are (no_items a v items' (z (ids_not_one i.are))) u'
   list_begins (ids i o u) = absurd (not_item _ (o.item refl) (ids_items i))
   list_begins (part {kind = kind} p (awaits {m = m} {hs = ps} {t = t} e n) u) =
       let n' : Awaits kind a v ps t = rw (awaited m e) at n in
-      let f = part_list p v n'.is_member is in
+      let f = part_list p v n'.a_member is in
       fields f.are p (no_items a v items' (z (fields_not_one f.are))) n' u
   list_begins (fields f p o n u) = absurd (not_item _ (o.item refl) (fields_items f))
-  list_begins (field f p (awaits {m = m} e h) c k l n u) = absurd (field_list f m h.is_member (rw (awaited m e) is))
+  list_begins (field f p (awaits {m = m} e h) c k l n u) = absurd (field_list f m h.a_member (rw (awaited m e) is))
 
 -- ---- an object
 
@@ -261,10 +261,10 @@ module _ (a b : Hand) (items : ℕ) (v place : ℕ) (kind : Kind) (is : kind_of 
   object_begins el (updates g) = let e = g refl in rw e (update (members (empty AnUpdate (update_kind (kind_at_lem 2 e)))))
   object_begins el (update (awaits {m = m} {hs = us} {t = t} e u)) =
       let u' : Awaits AnUpdate a v us t = rw (awaited_record m e) at u in
-      let p = update_record v kind u'.is_member is in
+      let p = update_record v kind u'.a_member is in
       part p (members (empty kind refl)) (in_part_opened p u')
   object_begins el (ids i o u) = absurd (ids_no_record i (kind_at_lem _ (o.item refl)))
-  object_begins el (part p (awaits {m = m} e n) u) = absurd (part_record p m kind n.is_member (rw (awaited_record m e) is))
+  object_begins el (part p (awaits {m = m} e n) u) = absurd (part_record p m kind n.a_member (rw (awaited_record m e) is))
   object_begins el (fields {w = w} {room = room} {x = x} {each = each} {xs = xs} f p o n u) =
       let e : v ≡ x = o.item refl ∙ (field_there f p).item in
       let k : kind ≡ each = field_kind f (kind_at_lem x e) in
@@ -272,4 +272,4 @@ module _ (a b : Hand) (items : ℕ) (v place : ℕ) (kind : Kind) (is : kind_of 
       let count : items' ≡ suc (length xs) = more.more ∙ ap suc o.count in
       let few : suc (length xs) ≤ room = room_for more.room o.count (field_room f) in
       rw e (field f p (members (empty each k)) count few (fields_opened f p e k o.few o.held) (record_opened f p e k n) (outer_opened f p e k u))
-  object_begins el (field f p (awaits {m = m} e h) c k l n u) = absurd (field_record f m kind h.is_member (rw (awaited_record m e) is))
+  object_begins el (field f p (awaits {m = m} e h) c k l n u) = absurd (field_record f m kind h.a_member (rw (awaited_record m e) is))

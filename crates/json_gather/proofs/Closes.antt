@@ -101,17 +101,17 @@ module _ (a : Hand) (long : Long a) (o : Told) (items : ℕ) (given : Bool) (mar
       let x = Array place (items_before xs no_item) true in
       let q = list_put (of_ids i) a long o given place l.few l.held in
       rw (ids_around i, l.count)
-      (update (members (value_held x (kept_beside AnUpdate w u.is_member q.agree) refl (ids_stored i (put_hand w o (length xs) given a) x q.stored) u)))
+      (update (members (value_held x (kept_beside AnUpdate w u.a_member q.agree) refl (ids_stored i (put_hand w o (length xs) given a) x q.stored) u)))
   closes {w} c (part {kind = kind} p (members {place = place} {hs = hs} h) u) =
       let x = Object place (members_before hs no_member) true in
       rw (part_around p, part_silent p o items given (store a.numbers a.texts))
-      (update (members (value_held x (kept_beside AnUpdate w u.is_member (agree_self (off (mine w)) a)) refl (part_held p a place hs h (c.of_part kind p)) u)))
+      (update (members (value_held x (kept_beside AnUpdate w u.a_member (agree_self (off (mine w)) a)) refl (part_held p a place hs h (c.of_part kind p)) u)))
   closes {w} c (fields {v = v} {p = place} {kind = kind} {xs = xs} f p l n u) =
       let x = Array place (items_before xs no_item) true in
       let q = list_put (of_fields f) a long o given place l.few l.held in
       let d = field_there f p in
       rw (fields_around f p, l.count)
-      (part p (members (value_held x (kept_beside kind w n.is_member q.agree) refl (fields_stored f (put_hand w o (length xs) given a) x q.stored) n))
+      (part p (members (value_held x (kept_beside kind w n.a_member q.agree) refl (fields_stored f (put_hand w o (length xs) given a) x q.stored) n))
       (awaits_kept AnUpdate (kept_update v w d.list.top q.agree) refl u))
   closes {w} c (field {w = list} {v = v} {room = room} {each = each} {kind = kind} {xs = xs} f p (members {place = place} {hs = hs} h) k few l n u) =
       let x = Object place (members_before hs no_member) true in

@@ -102,6 +102,7 @@ field_size s = ap (λ (n : ℕ). suc (suc (suc (suc (suc n))))) (part_length 146
 
 field_is : {a : Hand} {i : ℕ} {x : Json} → ElementHeld a 38 i x → part (179 + i * 38) 38 a.texts ≡ field_offer (field_of (members_in x))
 field_is (field e) = e
+field_is {a = a} {i = i} (id {each = each} x11 _) = elim x11 [ ]
 
 module _ (a : Hand) (bytes : List ℕ) where
   field_before : (n : ℕ) {xs : List Json} → length xs ≤ n → ListHeld a 38 xs → ListHeld (with_texts (sets a.texts (179 + n * 38) bytes) a) 38 xs
@@ -166,6 +167,7 @@ other_number numbers from to i n =
 
 sort_is : {a : Hand} {i : ℕ} {x : Json} → ElementHeld a 45 i x → sort_field_in a.numbers i ≡ sort_field_of (members_in x)
 sort_is (sort_field e) = e
+sort_is {a = a} {i = i} (id {each = each} x11 _) = elim x11 [ ]
 
 module _ (numbers : List ℕ) (long : length numbers ≡ 304) (n : ℕ) (few : n < 8) where
   sorted_source : number_at (sorted3 numbers n) (112 + n * 3) ≡ number_at numbers 48
@@ -245,6 +247,7 @@ record PartitionIs (a : Hand) (i : ℕ) (x : Json) : Type 0 where
 
 partition_is : {a : Hand} {i : ℕ} {x : Json} → ElementHeld a 52 i x → PartitionIs a i x
 partition_is (partition_field e t) = record { id_said = e; bytes_said = t }
+partition_is {a = a} {i = i} (id {each = each} x11 _) = elim x11 [ ]
 
 module _ (a : Hand) (long : Long a) (given : Bool) (n : ℕ) (few : n < 8) (bytes : List ℕ) where
   abbrev ids_put : List ℕ

@@ -50,7 +50,7 @@ pub record AllHeld (kind : Kind) (a : Hand) (hs : List Held) : Type 0 where
 
 -- a member was named, and its value is awaited
 pub record Awaits (kind : Kind) (a : Hand) (m : ℕ) (hs : List Held) (t : Lexeme) : Type 0 where
-  pub is_member_lem : is_member kind m ≡ true
+  pub a_member : is_member kind m ≡ true
   pub text : text_of t ≡ some (name_at m)
   pub marked : is_marked a.marks m ≡ true
   pub absent : held_at m hs ≡ none
@@ -75,7 +75,7 @@ module _ (kind : Kind) {a b : Hand} where
   pub awaits_kept : {m : ℕ} {hs : List Held} {t : Lexeme} → KeptBut kind m a b → is_marked b.marks m ≡ is_marked a.marks m → Awaits kind a m hs t → Awaits kind b m hs t
   awaits_kept {hs = hs} k e w =
       record {
-        is_member_lem = w.is_member;
+        a_member = w.a_member;
         text = w.text;
         marked = e ∙ w.marked;
         absent = w.absent;
@@ -99,7 +99,7 @@ module _ {kind : Kind} {a b : Hand} {m : ℕ} {hs : List Held} {t : Lexeme} wher
   pub naming_held : is_member kind m ≡ true → text_of t ≡ some (name_at m) → is_marked a.marks m ≡ false → is_marked b.marks m ≡ true → KeptBut kind m a b → AllHeld kind a hs → Awaits kind b m hs t
   naming_held i e new now k h =
       record {
-        is_member_lem = i;
+        a_member = i;
         text = e;
         marked = now;
         absent = none_held (StoredIn kind a) a.marks m (held_at m hs) new (h.each m i);
@@ -114,7 +114,7 @@ module _ {kind : Kind} {a b : Hand} {m : ℕ} {hs : List Held} {t : Lexeme} wher
       now : (x : ℕ) → is_member kind x ≡ true → held_at x (record { name = t; value = y } ∷ hs) ≡ or_else_later (held_at x hs) (cond (eqb x m) (some y) none)
       now x i =
           value_before (name_at x) hs (member t y no_member)
-          ∙ ap (λ (b : Bool). or_else_later (held_at x hs) (cond b (some y) none)) (named_as t m x w.text ∙ names_apart kind x m i w.is_member)
+          ∙ ap (λ (b : Bool). or_else_later (held_at x hs) (cond b (some y) none)) (named_as t m x w.text ∙ names_apart kind x m i w.a_member)
 
       kept : (x : ℕ) → is_member kind x ≡ true → (o : Option Json) → HeldAs (StoredIn kind a) a.marks x o → Agree (footprint kind x) a b → HeldAs (StoredIn kind b) b.marks x (or_else_later o none)
       kept x i none h g = held_kept kind x i g none h

@@ -141,10 +141,12 @@ module _ {a : Hand} {x : Json} where
 sort_says : {a : Hand} {xs : List Json} → ListHeld a 45 xs → Says (sort_field_in a.numbers) (λ x. sort_field_of (members_in x)) xs
 sort_says no_element = none_said
 sort_says (element (sort_field e) l) = also_said e (sort_says l)
+sort_says {a = a} (element {xs = xs} (id x12 _) l) = elim x12 [ ]
 
 partition_says : {a : Hand} {xs : List Json} → ListHeld a 52 xs → Says (partition_id_in a.numbers) (λ x. (partition_field_of (members_in x)).id) xs
 partition_says no_element = none_said
 partition_says (element (partition_field e b) l) = also_said e (partition_says l)
+partition_says {a = a} (element {xs = xs} (id x12 _) l) = elim x12 [ ]
 
 -- two stretches that follow each other
 part_append : (p m n : ℕ) (l : List ℕ) → part p (m + n) l ≡ part p m l ++ part (p + m) n l
@@ -185,10 +187,12 @@ bytes_listed offer make texts at size (x ∷ xs) (also_said e s) =
 field_bytes_say : {a : Hand} {xs : List Json} → ListHeld a 38 xs → Says (λ i. part (179 + i * 38) 38 a.texts) (λ x. field_offer (field_of (members_in x))) xs
 field_bytes_say no_element = none_said
 field_bytes_say (element (field e) l) = also_said e (field_bytes_say l)
+field_bytes_say {a = a} (element {xs = xs} (id x12 _) l) = elim x12 [ ]
 
 partition_bytes_say : {a : Hand} {xs : List Json} → ListHeld a 52 xs → Says (λ i. part (1395 + i * 42) 42 a.texts) (λ x. partition_offer (partition_field_of (members_in x))) xs
 partition_bytes_say no_element = none_said
 partition_bytes_say (element (partition_field e b) l) = also_said b (partition_bytes_say l)
+partition_bytes_say {a = a} (element {xs = xs} (id x12 _) l) = elim x12 [ ]
 
 module _ {a : Hand} {x : Json} where
   fields_are : {A : Type 0} (make : Members → A) (v : ℕ) (l : ListStored a v x) → records_of make (items_in x) ≡ listed (λ y. make (members_in y)) l.elements

@@ -69,6 +69,10 @@ open_sends n ms (field f a m u) = rw (field_sends f)
 
 update_sends : {h : Held} {f : Frame} {fs : List Frame} → (ms : Members) → Open h 2 (f ∷ fs) → sent_at f ms ≡ sent_as (action_at (h.kind % 256)) ms
 update_sends ms (update u) = refl
+update_sends {h = h} ms (ids {each = each} {us = us} x7 _) = elim x7 [ ]
+update_sends {h = h} ms (part {kind = kind} {ps = ps} {us = us} x11 _ _) = elim x11 [ ]
+update_sends {h = h} ms (fields {room = room} {each = each} {kind = kind} {ps = ps} {us = us} x16 _ _) = elim x16 [ ]
+update_sends {h = h} ms (field {w = w} {room = room} {each = each} {kind = kind} {fs = fs} {ps = ps} {us = us} x17 _ _ _) = elim x17 [ ]
 
 -- what is passed over sends nothing
 passed_sends : {q : ℕ} {f : Frame} {fs js : List Frame} → (q ≡ 0 → ⊥) → (ms : Members) → Passed q (f ∷ fs) js → sent_at f ms ≡ []
@@ -87,6 +91,10 @@ record OpenUpdate (a : Hand) (js : List Holding) : Type 0 where
 
 open_update : {a : Hand} {items wanted : ℕ} {asks : Bool} {js : List Holding} → Gathers a items false asks wanted 2 js → OpenUpdate a js
 open_update (gathers.update (members {place = place} {hs = hs} h)) = record { place = place; hs = hs; rest = _; is = refl; held = h }
+open_update {a = a} {items = items} {wanted = wanted} {asks = asks} (gathers.ids {p = p} {q = q} {r = r} {each = each} {xs = xs} {ys = ys} {us = us} {t = t} x7 _ _) = elim x7 [ ]
+open_update {a = a} {items = items} {wanted = wanted} {asks = asks} (gathers.part {q = q} {r = r} {kind = kind} {ys = ys} {us = us} {t = t} {h = h} x8 _ _) = elim x8 [ ]
+open_update {a = a} {items = items} {wanted = wanted} {asks = asks} (gathers.fields {v = v} {room = room} {p = p} {q = q} {r = r} {z = z} {each = each} {kind = kind} {xs = xs} {ys = ys} {ps = ps} {us = us} {t = t} {n = n} x16 _ _ _ _) = elim x16 [ ]
+open_update {a = a} {items = items} {wanted = wanted} {asks = asks} (gathers.field {w = w} {v = v} {room = room} {p = p} {q = q} {r = r} {z = z} {each = each} {kind = kind} {xs = xs} {ys = ys} {ps = ps} {us = us} {t = t} {n = n} {h = h} x21 _ _ _ _ _ _ _) = elim x21 [ ]
 
 -- ---- what is sent
 

@@ -263,6 +263,7 @@ module _ (s : State) (st : Store) (sd : Sending) (g : Gathered s st sd.holdings)
     where
       by_above : (q : ℕ) (hs : List Holding) → s.passed ≡ q → sd.holdings ≡ hs → Above q hs g.judged → Gathered (skipped s) st (closing hs)
       by_above zero hs e f here = absurd (n e)
+      by_above (suc q) [] e f x4 = elim x4 [ ]
       by_above (suc q) (h ∷ hs) e f (more a) =
           let w = passed_waits s.expect s.passed n in
           let r : Gathers (hand_of s st) s.held.items true true 0 s.within g.judged = with_wanted (g.idle n) (with_flags w (asks_too s.expect s.passed w) g.gathers) in

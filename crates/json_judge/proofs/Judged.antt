@@ -13,7 +13,7 @@ use Rattle.json_rule.specs.Shapes.{update_list}
 use Rattle.json_rule.specs.Defects.{defects, least, text_defects_by}
 use Rattle.json_judge.specs.Frames.{plainly, Outside}
 use Rattle.json_judge.specs.Course.{AfterValue, start, Happening, step, at_end, happenings}
-use Rattle.json_judge.specs.Judging.{heard, heard_all, Judge, outcome, judged}
+use Rattle.json_judge.specs.Judging.{heard, heard_all, Judge, outcome, judged, take}
 use Rattle.json_judge.proofs.Least.{sooner_none, least_append}
 use Rattle.json_judge.proofs.Walk.{settled, value_heard, happen, happen_heard}
 use Rattle.json_judge.proofs.Follow.{from, stays, FollowsValue, value_follows}
@@ -29,7 +29,7 @@ heard_append (h ∷ a) b r = heard_append a b (heard h r)
 outcome_heard : (len : ℕ) (j : Judge) (ts : List Lexeme) → outcome len j ts ≡ heard_all (happenings len j.course ts) j.refusal
 outcome_heard len j [] = refl
 outcome_heard len j (t ∷ ts) =
-    outcome_heard len _ ts ∙ sym (heard_append (step j.course t).happened (happenings len (step j.course t).course ts) j.refusal)
+    outcome_heard len (take j t) ts ∙ sym (heard_append (step j.course t).happened (happenings len (step j.course t).course ts) j.refusal)
 
 -- ---- the value that is the whole text
 

@@ -125,14 +125,14 @@ module _ (whole : List (List ℕ)) (final : Option Action) (o : OpenObject) (bef
 
     module _ (a : Action) (update : is_update o.kind ≡ true) (is_action : same_bytes action_name ρ.name ≡ true) (names : now ≡ some a) where
       unseen : is_one_of (names_in o.seen) action_name ≡ false
-      unseen = ap (is_one_of (names_in o.seen)) (names_told_lem.equal action_name ρ.name isAction) ∙ (row_new (rows_of o.kind) (names_in o.seen) m ρ e).1
+      unseen = ap (is_one_of (names_in o.seen)) (names_told_lem.equal action_name ρ.name is_action) ∙ (row_new (rows_of o.kind) (names_in o.seen) m ρ e).1
 
       -- the first action was not known before, and is the object's
       pub no_action_yet : o.action ≡ none
       no_action_yet = absent o.action (λ u. true≢false (sym (k.acted u) ∙ unseen))
 
       pub is_final : final ≡ some a
-      is_final = sym k.acts ∙ final_now o.action (is_update o.kind) (is_one_of (names_in o.seen) action_name) (is_said m action_name) now later a no_action_yet update unseen (said action_name ∙ isAction) names
+      is_final = sym k.acts ∙ final_now o.action (is_update o.kind) (is_one_of (names_in o.seen) action_name) (is_said m action_name) now later a no_action_yet update unseen (said action_name ∙ is_action) names
 
       pub kept_acting : (t : Lexeme) → Kept whole final (acting a (seeing t (some ρ) o)) (with_name before m) left later
-      kept_acting t = record { told = told_new; total = total_new; acts = sym is_final; acted = λ u. or_left (is_one_of (names_in o.seen) action_name) isAction }
+      kept_acting t = record { told = told_new; total = total_new; acts = sym is_final; acted = λ u. or_left (is_one_of (names_in o.seen) action_name) is_action }

@@ -29,13 +29,13 @@ pub record RightList (schema room : ℕ) (each : Shape) (x : Json) : Type 0 wher
   pub fits : count_of items ≤ room
   pub right : item_defects schema each items ≡ []
 
-pub right_list : (schema room : ℕ) (of_schema : Bool) (each : Shape) (x : Json) → defects schema ofSchema (ListUpTo room each) x ≡ [] → RightList schema room each x
+pub right_list : (schema room : ℕ) (of_schema : Bool) (each : Shape) (x : Json) → defects schema of_schema (ListUpTo room each) x ≡ [] → RightList schema room each x
 unfolding defects
-right_list schema room ofSchema each (Scalar t) e = absurd (filled e)
-right_list schema room ofSchema each (Array place xs closed) e =
+right_list schema room of_schema each (Scalar t) e = absurd (filled e)
+right_list schema room of_schema each (Array place xs closed) e =
     let p = both_empty (unless (leb (count_of xs) room) place over_capacity) (item_defects schema each xs) e in
     record { place = place; items = xs; closed = closed; is = refl; fits = leb-true (count_of xs) room (passed (leb (count_of xs) room) place over_capacity p.0); right = p.1 }
-right_list schema room ofSchema each (Object place ms closed) e = absurd (filled e)
+right_list schema room of_schema each (Object place ms closed) e = absurd (filled e)
 
 pub record RightObject (schema : ℕ) (kind : Kind) (x : Json) : Type 0 where
   pub place : ℕ
@@ -46,11 +46,11 @@ pub record RightObject (schema : ℕ) (kind : Kind) (x : Json) : Type 0 where
   pub known : foreign_defects kind members ≡ []
   pub whole : missing_defects kind place members closed ≡ []
 
-pub right_object : (schema : ℕ) (of_schema : Bool) (kind : Kind) (x : Json) → defects schema ofSchema (ARecord kind) x ≡ [] → RightObject schema kind x
+pub right_object : (schema : ℕ) (of_schema : Bool) (kind : Kind) (x : Json) → defects schema of_schema (ARecord kind) x ≡ [] → RightObject schema kind x
 unfolding defects
-right_object schema ofSchema kind (Scalar t) e = absurd (filled e)
-right_object schema ofSchema kind (Array place xs closed) e = absurd (filled e)
-right_object schema ofSchema kind (Object place ms closed) e =
+right_object schema of_schema kind (Scalar t) e = absurd (filled e)
+right_object schema of_schema kind (Array place xs closed) e = absurd (filled e)
+right_object schema of_schema kind (Object place ms closed) e =
     let members : List Defect = member_defects (schema_place kind place schema) (rows_of kind) [] ms in
     let p = both_empty (members ++ foreign_defects kind ms) (missing_defects kind place ms closed) e in
     let q = both_empty members (foreign_defects kind ms) p.0 in

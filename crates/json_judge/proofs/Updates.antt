@@ -82,27 +82,27 @@ each_free (InObject o) h = refl
 each_free PassedList h = refl
 each_free PassedObject h = refl
 
-list_free : (shape : Shape) (ofSchema is_action : Bool) (f : Frame) (place : ℕ) → is_free shape ≡ true → is_free_frame (opened_list (record { shape = shape; of_schema = ofSchema; is_action = isAction }) f place) ≡ true
-list_free Anything ofSchema isAction f place h = refl
-list_free (TextUpTo room) ofSchema isAction f place h = refl
-list_free (OneOf words) ofSchema isAction f place h = refl
-list_free (NumberIn low high) ofSchema isAction f place h = refl
-list_free No ofSchema isAction f place h = refl
-list_free AUuid ofSchema isAction f place h = refl
-list_free ATransform ofSchema isAction f place h = refl
-list_free (ListUpTo room each) ofSchema isAction f place h = h
-list_free (ARecord kind) ofSchema isAction f place h = refl
+list_free : (shape : Shape) (of_schema is_action : Bool) (f : Frame) (place : ℕ) → is_free shape ≡ true → is_free_frame (opened_list (record { shape = shape; of_schema = of_schema; is_action = is_action }) f place) ≡ true
+list_free Anything of_schema is_action f place h = refl
+list_free (TextUpTo room) of_schema is_action f place h = refl
+list_free (OneOf words) of_schema is_action f place h = refl
+list_free (NumberIn low high) of_schema is_action f place h = refl
+list_free No of_schema is_action f place h = refl
+list_free AUuid of_schema is_action f place h = refl
+list_free ATransform of_schema is_action f place h = refl
+list_free (ListUpTo room each) of_schema is_action f place h = h
+list_free (ARecord kind) of_schema is_action f place h = refl
 
-object_free : (shape : Shape) (ofSchema is_action : Bool) (f : Frame) (place : ℕ) → is_free shape ≡ true → is_free_frame (opened_object (record { shape = shape; of_schema = ofSchema; is_action = isAction }) f place) ≡ true
-object_free Anything ofSchema isAction f place h = refl
-object_free (TextUpTo room) ofSchema isAction f place h = refl
-object_free (OneOf words) ofSchema isAction f place h = refl
-object_free (NumberIn low high) ofSchema isAction f place h = refl
-object_free No ofSchema isAction f place h = refl
-object_free AUuid ofSchema isAction f place h = refl
-object_free ATransform ofSchema isAction f place h = refl
-object_free (ListUpTo room each) ofSchema isAction f place h = refl
-object_free (ARecord kind) ofSchema isAction f place h = h
+object_free : (shape : Shape) (of_schema is_action : Bool) (f : Frame) (place : ℕ) → is_free shape ≡ true → is_free_frame (opened_object (record { shape = shape; of_schema = of_schema; is_action = is_action }) f place) ≡ true
+object_free Anything of_schema is_action f place h = refl
+object_free (TextUpTo room) of_schema is_action f place h = refl
+object_free (OneOf words) of_schema is_action f place h = refl
+object_free (NumberIn low high) of_schema is_action f place h = refl
+object_free No of_schema is_action f place h = refl
+object_free AUuid of_schema is_action f place h = refl
+object_free ATransform of_schema is_action f place h = refl
+object_free (ListUpTo room each) of_schema is_action f place h = refl
+object_free (ARecord kind) of_schema is_action f place h = h
 
 -- whether it is free of updates is told by how a frame was opened
 free_opened : (f : Frame) → is_free_frame f ≡ is_free_frame (as_opened f)

@@ -102,33 +102,33 @@ object_said_lem ms says kind place schema closed r =
 
 -- ---- by what is wanted
 
-array_said : (place : ℕ) (xs : Items) (closed : Bool) → SaysItems xs → (shape : Shape) (ofSchema is_action : Bool) (f : Frame) (r : Option Defect)
-    → inside (Array place xs closed) (record { shape = shape; of_schema = ofSchema; is_action = isAction }) f r ≡ sooner r (least (defects (schema_around f) ofSchema shape (Array place xs closed)))
+array_said : (place : ℕ) (xs : Items) (closed : Bool) → SaysItems xs → (shape : Shape) (of_schema is_action : Bool) (f : Frame) (r : Option Defect)
+    → inside (Array place xs closed) (record { shape = shape; of_schema = of_schema; is_action = is_action }) f r ≡ sooner r (least (defects (schema_around f) of_schema shape (Array place xs closed)))
 unfolding inside defects
-array_said place xs closed says Anything ofSchema isAction f r = passed_items xs r
-array_said place xs closed says (TextUpTo room) ofSchema isAction f r = passed_items xs _
-array_said place xs closed says (OneOf words) ofSchema isAction f r = passed_items xs _
-array_said place xs closed says (NumberIn low high) ofSchema isAction f r = passed_items xs _
-array_said place xs closed says No ofSchema isAction f r = passed_items xs _
-array_said place xs closed says AUuid ofSchema isAction f r = passed_items xs _
-array_said place xs closed says ATransform ofSchema isAction f r = passed_items xs _
-array_said place xs closed says (ListUpTo room each) ofSchema isAction f r =
+array_said place xs closed says Anything of_schema is_action f r = passed_items xs r
+array_said place xs closed says (TextUpTo room) of_schema is_action f r = passed_items xs _
+array_said place xs closed says (OneOf words) of_schema is_action f r = passed_items xs _
+array_said place xs closed says (NumberIn low high) of_schema is_action f r = passed_items xs _
+array_said place xs closed says No of_schema is_action f r = passed_items xs _
+array_said place xs closed says AUuid of_schema is_action f r = passed_items xs _
+array_said place xs closed says ATransform of_schema is_action f r = passed_items xs _
+array_said place xs closed says (ListUpTo room each) of_schema is_action f r =
     says (record { room = room; each = each; place = place; schema = schema_around f; count = 0 }) r (omega arith)
     ∙ ap (λ (d : Option Defect). sooner r d) (list_defects room place (count_of xs) (item_defects (schema_around f) each xs))
-array_said place xs closed says (ARecord kind) ofSchema isAction f r = passed_items xs _
+array_said place xs closed says (ARecord kind) of_schema is_action f r = passed_items xs _
 
-braced_said : (place : ℕ) (ms : Members) (closed : Bool) → Says ms → (shape : Shape) (ofSchema is_action : Bool) (f : Frame) (r : Option Defect)
-    → inside (Object place ms closed) (record { shape = shape; of_schema = ofSchema; is_action = isAction }) f r ≡ sooner r (least (defects (schema_around f) ofSchema shape (Object place ms closed)))
+braced_said : (place : ℕ) (ms : Members) (closed : Bool) → Says ms → (shape : Shape) (of_schema is_action : Bool) (f : Frame) (r : Option Defect)
+    → inside (Object place ms closed) (record { shape = shape; of_schema = of_schema; is_action = is_action }) f r ≡ sooner r (least (defects (schema_around f) of_schema shape (Object place ms closed)))
 unfolding inside defects
-braced_said place ms closed says Anything ofSchema isAction f r = passed_members ms closed r
-braced_said place ms closed says (TextUpTo room) ofSchema isAction f r = passed_members ms closed _
-braced_said place ms closed says (OneOf words) ofSchema isAction f r = passed_members ms closed _
-braced_said place ms closed says (NumberIn low high) ofSchema isAction f r = passed_members ms closed _
-braced_said place ms closed says No ofSchema isAction f r = passed_members ms closed _
-braced_said place ms closed says AUuid ofSchema isAction f r = passed_members ms closed _
-braced_said place ms closed says ATransform ofSchema isAction f r = passed_members ms closed _
-braced_said place ms closed says (ListUpTo room each) ofSchema isAction f r = passed_members ms closed _
-braced_said place ms closed says (ARecord kind) ofSchema isAction f r = object_said_lem ms says kind place (schema_around f) closed r
+braced_said place ms closed says Anything of_schema is_action f r = passed_members ms closed r
+braced_said place ms closed says (TextUpTo room) of_schema is_action f r = passed_members ms closed _
+braced_said place ms closed says (OneOf words) of_schema is_action f r = passed_members ms closed _
+braced_said place ms closed says (NumberIn low high) of_schema is_action f r = passed_members ms closed _
+braced_said place ms closed says No of_schema is_action f r = passed_members ms closed _
+braced_said place ms closed says AUuid of_schema is_action f r = passed_members ms closed _
+braced_said place ms closed says ATransform of_schema is_action f r = passed_members ms closed _
+braced_said place ms closed says (ListUpTo room each) of_schema is_action f r = passed_members ms closed _
+braced_said place ms closed says (ARecord kind) of_schema is_action f r = object_said_lem ms says kind place (schema_around f) closed r
 
 -- ---- all
 

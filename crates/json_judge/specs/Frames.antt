@@ -193,8 +193,8 @@ name_said PassedObject t = []
 
 -- the action that a text names, where it is wanted
 abbrev pub action_said_by : Bool → Option (List ℕ) → Option Action
-action_said_by isAction none = none
-action_said_by isAction (some word) = cond isAction (listed_action (some word)) none
+action_said_by is_action none = none
+action_said_by is_action (some word) = cond is_action (listed_action (some word)) none
 
 abbrev pub acting : Action → OpenObject → OpenObject
 acting a o = record { kind = o.kind; place = o.place; schema = o.schema; seen = o.seen; action = some a }

@@ -3,7 +3,7 @@ ghost use Rattle.std.specs.Prelude.{◌≡◌};
 ghost use Rattle.json_rule.specs.Lexemes.{is_digit};
 ghost use Rattle.json_machine.specs.Digest.{hex_of, escaped_of};
 
-pub fn is_digit_lem(byte: u8) -> bool
+pub fn is_digit(byte: u8) -> bool
     ensures { result ≡ is_digit byte }
 {
     if byte < b'0' {

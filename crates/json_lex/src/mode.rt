@@ -4,7 +4,7 @@ ghost use Rattle.json_rule.specs.Lexemes.{within, is_digit};
 ghost use Rattle.json_machine.specs.Modes.{text_mode, digits_mode, whole, begun as begunOf, in_wide, in_text, in_escape, in_hex, in_character, in_minus, at_exponent, in_zero, in_digits, at_digit, in_fraction, in_exponent, in_power, in_word, after_text, after_number, after_word, after_mode, may_end, is_integer};
 ghost use Rattle.json_machine.specs.Digest.{is_before_point};
 
-use crate::byte::{NO_ESCAPE, NO_HEX, escaped, hex_of, is_digit_lem};
+use crate::byte::{NO_ESCAPE, NO_HEX, escaped, hex_of, is_digit};
 
 // Between lexemes.
 pub const BETWEEN: u32 = 0;
@@ -88,7 +88,7 @@ pub const ENDED: u32 = 34;
 fn begun_beside(byte: u8) -> u32
     ensures { result ≡ cond (is_digit byte) digits_mode whole }
 {
-    if is_digit_lem(byte) {
+    if is_digit(byte) {
         return DIGITS;
     }
     WHOLE
@@ -115,7 +115,7 @@ pub fn begun(byte: u8) -> u32
 
 // The first byte of a character of two to four.
 fn in_wide(byte: u8) -> u32
-    ensures { result ≡ inWide byte }
+    ensures { result ≡ in_wide byte }
 {
     if byte < 0xC2 {
         return BROKEN;
@@ -146,7 +146,7 @@ fn in_wide(byte: u8) -> u32
 
 // A byte that is neither a quotation mark nor a backslash.
 fn in_character_begun(byte: u8) -> u32
-    ensures { result ≡ cond (within 32 127 byte) textMode (inWide byte) }
+    ensures { result ≡ cond (within 32 127 byte) text_mode (in_wide byte) }
 {
     if byte < 32 {
         return BROKEN;
@@ -158,7 +158,7 @@ fn in_character_begun(byte: u8) -> u32
 }
 
 fn in_text(byte: u8) -> u32
-    ensures { result ≡ inText byte }
+    ensures { result ≡ in_text byte }
 {
     match byte {
         b'"' => WHOLE,
@@ -234,7 +234,7 @@ fn in_zero(byte: u8) -> u32
 fn in_digits(byte: u8) -> u32
     ensures { result ≡ in_digits byte }
 {
-    if is_digit_lem(byte) {
+    if is_digit(byte) {
         return DIGITS;
     }
     in_zero(byte)
@@ -244,7 +244,7 @@ fn in_digits(byte: u8) -> u32
 fn at_digit(next: u32, byte: u8) -> u32
     ensures { result ≡ at_digit next byte }
 {
-    if is_digit_lem(byte) {
+    if is_digit(byte) {
         return next;
     }
     BROKEN
@@ -253,7 +253,7 @@ fn at_digit(next: u32, byte: u8) -> u32
 fn in_fraction(byte: u8) -> u32
     ensures { result ≡ in_fraction byte }
 {
-    if is_digit_lem(byte) {
+    if is_digit(byte) {
         return FRACTION;
     }
     at_exponent(byte)
@@ -272,7 +272,7 @@ fn in_exponent(byte: u8) -> u32
 fn in_power(byte: u8) -> u32
     ensures { result ≡ in_power byte }
 {
-    if is_digit_lem(byte) {
+    if is_digit(byte) {
         return POWER;
     }
     ENDED

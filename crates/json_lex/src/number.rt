@@ -2,7 +2,7 @@
 ghost use Rattle.std.specs.Prelude.{◌≡◌, ◌+◌, ◌*◌, ◌^◌, ltb};
 ghost use Rattle.json_machine.specs.Digest.{blank_number, with_digit, number_with};
 
-use crate::byte::is_digit_lem;
+use crate::byte::is_digit;
 pub use json_machine::Number;
 
 pub fn blank() -> Number
@@ -41,7 +41,7 @@ fn with_digit(n: Number, digit: u64) -> Number
 pub fn with_byte(n: Number, byte: u8) -> Number
     ensures { result ≡ number_with n byte }
 {
-    if is_digit_lem(byte) {
+    if is_digit(byte) {
         return with_digit(n, (byte - b'0') as u64);
     }
     n

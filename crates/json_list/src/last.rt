@@ -75,7 +75,7 @@ pub fn take_last(
 }
 
 // The updates that were closed, and how many bytes they offer.
-#[derive(Drop)]
+#[derive(Clone, Copy)]
 pub struct Held {
     pub list: UpdateList,
     pub offered: usize,

@@ -22,7 +22,7 @@ const MOST: usize = 18446744073709551615;
 
 // What is kept from part to part: how many bytes came before, the open lexeme, the judge, what is held of an open update, the updates that were closed, and how
 // many bytes they offer.
-#[derive(Drop)]
+#[derive(Clone, Copy)]
 pub struct Reader {
     pub before: usize,
     pub lexer: Lexer,
@@ -35,7 +35,7 @@ pub struct Reader {
 }
 
 // The number is 0 where a list was read.
-#[derive(Drop)]
+#[derive(Clone, Copy)]
 pub struct Answer {
     pub number: u8,
     pub place: usize,

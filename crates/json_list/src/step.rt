@@ -17,7 +17,7 @@ use json_store::puts::put_done;
 use json_store::texts::Texts;
 
 // Where reading stands in a part: in a lexeme, at which byte, and what the byte before made whole.
-#[derive(Drop)]
+#[derive(Clone, Copy)]
 pub struct Run {
     pub lexer: Lexer,
     pub at: usize,

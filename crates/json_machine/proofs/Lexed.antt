@@ -88,7 +88,7 @@ first_byte b place l slots e = rw e
 
 -- of the lexemes only a text begins in a mode of a text
 record Other (k : ℕ) : Type 0 where
-  no_text_lem : leb k after_f4_mode ≡ false
+  no_text : leb k after_f4_mode ≡ false
 
 either_other : {k l : ℕ} (t : Bool) → Other k → Other l → Other (cond t k l)
 either_other true p q = p
@@ -98,13 +98,13 @@ begun_other : (b : ℕ) → is_space b ≡ false → eqb b quote ≡ false → O
 unfolding begun
 begun_other b s q =
     rw (s, q)
-    (either_other (eqb b minus) (record { no_text_lem = refl })
-    (either_other (eqb b zero_digit) (record { no_text_lem = refl })
-    (either_other (is_digit b) (record { no_text_lem = refl })
-    (either_other (eqb b 116) (record { no_text_lem = refl })
-    (either_other (eqb b 102) (record { no_text_lem = refl })
-    (either_other (eqb b 110) (record { no_text_lem = refl })
-    (record { no_text_lem = refl })))))))
+    (either_other (eqb b minus) (record { no_text = refl })
+    (either_other (eqb b zero_digit) (record { no_text = refl })
+    (either_other (is_digit b) (record { no_text = refl })
+    (either_other (eqb b 116) (record { no_text = refl })
+    (either_other (eqb b 102) (record { no_text = refl })
+    (either_other (eqb b 110) (record { no_text = refl })
+    (record { no_text = refl })))))))
 
 begun_text : (b : ℕ) → is_space b ≡ false → eqb b quote ≡ true → begun b ≡ text_mode
 unfolding begun

@@ -25,11 +25,11 @@ use Rattle.json_machine.proofs.Modes.{from_mode, is_mode, kind_of, text_kind, mo
 
 count_append : (len : ℕ) (cs bs : List ℕ) → count_all len (cs ++ bs) ≡ count_all (count_all len cs) bs
 count_append len [] bs = refl
-count_append len (c ∷ cs) bs = count_append _ cs bs
+count_append len (c ∷ cs) bs = count_append (count_all len (c ∷ [])) cs bs
 
 slots_append : (slots : List ℕ) (len : ℕ) (cs bs : List ℕ) → slots_all slots len (cs ++ bs) ≡ slots_all (slots_all slots len cs) (count_all len cs) bs
 slots_append slots len [] bs = refl
-slots_append slots len (c ∷ cs) bs = slots_append _ _ cs bs
+slots_append slots len (c ∷ cs) bs = slots_append (slots_all slots len (c ∷ [])) (count_all len (c ∷ [])) cs bs
 
 count_lone : (bs : List ℕ) → count_all lone_length bs ≡ lone_length
 count_lone [] = refl
@@ -110,7 +110,7 @@ one_tail m next least most b h bs f l k a u v e s n =
 
 -- a byte in a text leads to a mode in which units begin anew
 record Anew (k : ℕ) : Type 0 where
-  goes_on_lem : eqb k whole ≡ false
+  goes_on : eqb k whole ≡ false
   anew : (u : ℕ) (bs : List ℕ) → units_from k u bs ≡ units bs
 
 either_anew : {k l : ℕ} (t : Bool) → Anew k → Anew l → Anew (cond t k l)
@@ -120,15 +120,15 @@ either_anew false p q = q
 character_anew : (b : ℕ) → Anew (cond (within 32 127 b) text_mode (in_wide b))
 unfolding in_wide units_from
 character_anew b =
-    either_anew (within 32 127 b) (record { goes_on_lem = refl; anew = λ u bs. refl })
-    (either_anew (within 194 223 b) (record { goes_on_lem = refl; anew = λ u bs. refl })
-    (either_anew (eqb b 224) (record { goes_on_lem = refl; anew = λ u bs. refl })
-    (either_anew (eqb b 237) (record { goes_on_lem = refl; anew = λ u bs. refl })
-    (either_anew (within 225 239 b) (record { goes_on_lem = refl; anew = λ u bs. refl })
-    (either_anew (eqb b 240) (record { goes_on_lem = refl; anew = λ u bs. refl })
-    (either_anew (within 241 243 b) (record { goes_on_lem = refl; anew = λ u bs. refl })
-    (either_anew (eqb b 244) (record { goes_on_lem = refl; anew = λ u bs. refl })
-    (record { goes_on_lem = refl; anew = λ u bs. refl }))))))))
+    either_anew (within 32 127 b) (record { goes_on = refl; anew = λ u bs. refl })
+    (either_anew (within 194 223 b) (record { goes_on = refl; anew = λ u bs. refl })
+    (either_anew (eqb b 224) (record { goes_on = refl; anew = λ u bs. refl })
+    (either_anew (eqb b 237) (record { goes_on = refl; anew = λ u bs. refl })
+    (either_anew (within 225 239 b) (record { goes_on = refl; anew = λ u bs. refl })
+    (either_anew (eqb b 240) (record { goes_on = refl; anew = λ u bs. refl })
+    (either_anew (within 241 243 b) (record { goes_on = refl; anew = λ u bs. refl })
+    (either_anew (eqb b 244) (record { goes_on = refl; anew = λ u bs. refl })
+    (record { goes_on = refl; anew = λ u bs. refl }))))))))
 
 -- the quotation mark, a backslash, or a byte that is kept
 in_text_lem : (b : ℕ) (h : Held) (bs : List ℕ) → sound text_mode h.text ≡ true → eqb (after_mode text_mode b) broken ≡ false → OneByte text_mode b h bs

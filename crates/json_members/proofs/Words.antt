@@ -55,11 +55,14 @@ module _ (e : Entry) (es : List Entry) (text : List ℕ) (found next : ℕ) (som
       (λ z. cases (same_bytes text e.word) (λ s. rw (is, z, s, some)) (λ s. rw (is, z, s)))
       (λ z. rw (is, z, z))
 
-pub answered : (es : List Entry) (text : List ℕ) (found : ℕ) {r : ℕ} → Asked text es found r → r ≡ number_after found es text
+found_out : (text : List ℕ) (es : List Entry) (found : ℕ) {r : ℕ} → Asked text es found r → r ≡ number_after found es text
 unfolding number_of number_after
-answered [] text found done = cases (eqb found 0) (λ z. rw z (eqb-true found 0 z)) (λ z. rw z)
-answered es text found (others e) = e
-answered (e ∷ es) text found (ask {next = next} some is a) = answered es text next a ∙ handed_on e es text found next some is
+found_out text [] found done = cases (eqb found 0) (λ z. rw z (eqb-true found 0 z)) (λ z. rw z)
+found_out text es found (others e) = e
+found_out text (e ∷ es) found {r = r} (ask {next = next} some is a) = found_out text es next {r = r} a ∙ handed_on e es text found next some is
+
+pub answered : (es : List Entry) (text : List ℕ) (found : ℕ) {r : ℕ} → Asked text es found r → r ≡ number_after found es text
+answered es text found a = found_out text es found a
 
 pub answered_first : (es : List Entry) (text : List ℕ) {r : ℕ} → Asked text es 0 r → r ≡ number_of 0 es text
 unfolding number_after

@@ -9,12 +9,12 @@ ghost use Rattle.json_members.specs.Transforms.{transform_in, is_bracketed};
 
 use crate::kind::{NO_KIND, or_kind};
 use crate::word::is_word;
-use json_lex::byte::is_digit_lem;
+use json_lex::byte::is_digit;
 use json_lex::text::Kept;
 use records::partition::{BUCKET, DAY, IDENTITY, MONTH, YEAR};
 
 // A transform, or 0 where a text is none; and the number of a bucket, or 0 where it is none.
-#[derive(Drop)]
+#[derive(Clone, Copy)]
 pub struct Transform {
     pub kind: u8,
     pub buckets: u32,

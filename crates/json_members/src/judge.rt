@@ -130,7 +130,7 @@ fn on_wanted(
     integer: bool,
     magnitude: u64,
 ) -> usize
-    ensures { after judge.new result ≡ onWanted wanted (told kept.now head first len integer magnitude) judge.old }
+    ensures { after judge.new result ≡ on_wanted wanted (told kept.now head first len integer magnitude) judge.old }
 {
     let fault = fault_of(wanted, kept, head, len, integer, magnitude);
     if fault == 0 {
@@ -150,7 +150,7 @@ fn on_scalar(
     integer: bool,
     magnitude: u64,
 ) -> usize
-    ensures { after judge.new result ≡ onScalar (told kept.now head first len integer magnitude) judge.old }
+    ensures { after judge.new result ≡ on_scalar (told kept.now head first len integer magnitude) judge.old }
 {
     let wanted = judge[WANTED];
     judge[EXPECT] = AFTER;

@@ -1,6 +1,6 @@
 // The rows of the actions: which members an update of each kind may have, and which it must have.
 ghost use Rattle.std.specs.Prelude.{◌≡◌};
-ghost use Rattle.json_members.specs.Rows.{alone as aloneAt, span_of, is_foreign_at};
+ghost use Rattle.json_members.specs.Rows.{alone as alone_at, span_of, is_foreign_at};
 
 use crate::spot::{
     ACTION, CHOSEN_ORDER_ID, CHOSEN_SCHEMA_ID, CHOSEN_SPEC_ID, FORMAT_VERSION, LAST_COLUMN_ID,
@@ -15,7 +15,7 @@ use records::update::{
 };
 
 // The first and the last member of a row: those between belong to it too. All from the first to `must` are required, the others optional.
-#[derive(Drop)]
+#[derive(Clone, Copy)]
 pub struct Row {
     pub first: usize,
     pub must: usize,
@@ -23,7 +23,7 @@ pub struct Row {
 }
 
 fn alone(spot: usize) -> Row
-    ensures { result ≡ aloneAt spot }
+    ensures { result ≡ alone_at spot }
 {
     Row {
         first: spot,

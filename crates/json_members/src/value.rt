@@ -13,7 +13,7 @@ use crate::spot::{
 use crate::uuid::is_uuid;
 use crate::width::{has, width_of};
 use crate::word::is_word;
-use json_lex::byte::is_digit_lem;
+use json_lex::byte::is_digit;
 use json_lex::text::{Kept, LONE};
 use records::capacities::{NAME, TEXT};
 
@@ -98,7 +98,7 @@ pub fn fault_of(
     if head == b'-' {
         return number_fault(spot, true, integer, magnitude);
     }
-    if is_digit_lem(head) {
+    if is_digit(head) {
         return number_fault(spot, false, integer, magnitude);
     }
     if head == b'f' {

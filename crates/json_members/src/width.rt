@@ -12,7 +12,7 @@ use crate::spot::{
 };
 
 // The largest number, and how far below 0 the least lies; `numbers` is false where the spot holds none.
-#[derive(Drop)]
+#[derive(Clone, Copy)]
 pub struct Width {
     pub numbers: bool,
     pub most: u64,

@@ -88,13 +88,13 @@ named_numbers ns ds (some r) inner p f q = both_numbers (ns ++ inner r) ds (both
 mutual
   unfolding defects
 
-  numbers : (schema : ℕ) (of_schema : Bool) (shape : Shape) (x : Json) → OfTree (defects schema ofSchema shape x)
-  numbers schema ofSchema shape (Scalar t) = scalar_numbers shape (stands_at ofSchema schema t.first) t
-  numbers schema ofSchema shape (Array place xs closed) =
-      by_option OfTree (listing_of shape) (λ e. unless_number (is_anything shape) (stands_at ofSchema schema place) not_published refl)
+  numbers : (schema : ℕ) (of_schema : Bool) (shape : Shape) (x : Json) → OfTree (defects schema of_schema shape x)
+  numbers schema of_schema shape (Scalar t) = scalar_numbers shape (stands_at of_schema schema t.first) t
+  numbers schema of_schema shape (Array place xs closed) =
+      by_option OfTree (listing_of shape) (λ e. unless_number (is_anything shape) (stands_at of_schema schema place) not_published refl)
       (λ l e. both_numbers (unless (leb (count_of xs) l.room) place 29) (item_defects schema l.each xs) (unless_number (leb (count_of xs) l.room) place 29 refl) (item_numbers schema l.each xs))
-  numbers schema ofSchema shape (Object place ms closed) =
-      by_option OfTree (kind_of shape) (λ e. unless_number (is_anything shape) (stands_at ofSchema schema place) not_published refl)
+  numbers schema of_schema shape (Object place ms closed) =
+      by_option OfTree (kind_of shape) (λ e. unless_number (is_anything shape) (stands_at of_schema schema place) not_published refl)
       (λ kind e. both_numbers (member_defects (schema_place kind place schema) (rows_of kind) [] ms ++ foreign_defects kind ms) (missing_defects kind place ms closed)
       (both_numbers (member_defects (schema_place kind place schema) (rows_of kind) [] ms) (foreign_defects kind ms) (member_numbers (schema_place kind place schema) (rows_of kind) [] ms) (kind_numbers kind ms))
       (missing_number kind place ms closed))
@@ -199,49 +199,49 @@ unless_holds true place number e = refl
 unless_holds false place number e = absurd (cons≢nil e)
 
 -- an object where a record is to be: nothing is wrong with its members
-pub record_fits : (schema : ℕ) (of_schema : Bool) (kind : Kind) (x : Json) → defects schema ofSchema (ARecord kind) x ≡ [] → (around : ℕ) × (member_defects around (rows_of kind) [] (members_in x) ≡ [])
+pub record_fits : (schema : ℕ) (of_schema : Bool) (kind : Kind) (x : Json) → defects schema of_schema (ARecord kind) x ≡ [] → (around : ℕ) × (member_defects around (rows_of kind) [] (members_in x) ≡ [])
 unfolding defects
-record_fits schema ofSchema kind (Scalar t) e = absurd (cons≢nil e)
-record_fits schema ofSchema kind (Array place xs closed) e = absurd (cons≢nil e)
-record_fits schema ofSchema kind (Object place ms closed) e =
+record_fits schema of_schema kind (Scalar t) e = absurd (cons≢nil e)
+record_fits schema of_schema kind (Array place xs closed) e = absurd (cons≢nil e)
+record_fits schema of_schema kind (Object place ms closed) e =
     let inner = member_defects (schema_place kind place schema) (rows_of kind) [] ms in
     (schema_place kind place schema, (empty_parts inner (foreign_defects kind ms) (empty_parts (inner ++ foreign_defects kind ms) (missing_defects kind place ms closed) e).0).0)
 
 -- a list where one is to be: it is not too long, and nothing is wrong with its items
-pub list_fits : (schema : ℕ) (of_schema : Bool) (room : ℕ) (each : Shape) (x : Json) → defects schema ofSchema (ListUpTo room each) x ≡ []
+pub list_fits : (schema : ℕ) (of_schema : Bool) (room : ℕ) (each : Shape) (x : Json) → defects schema of_schema (ListUpTo room each) x ≡ []
     → (count_of (items_in x) ≤ room) × (item_defects schema each (items_in x) ≡ [])
 unfolding defects
-list_fits schema ofSchema room each (Scalar t) e = absurd (cons≢nil e)
-list_fits schema ofSchema room each (Array place xs closed) e =
+list_fits schema of_schema room each (Scalar t) e = absurd (cons≢nil e)
+list_fits schema of_schema room each (Array place xs closed) e =
     let h = empty_parts (unless (leb (count_of xs) room) place 29) (item_defects schema each xs) e in
     (leb-true (count_of xs) room (unless_holds (leb (count_of xs) room) place 29 h.0), h.1)
-list_fits schema ofSchema room each (Object place ms closed) e = absurd (cons≢nil e)
+list_fits schema of_schema room each (Object place ms closed) e = absurd (cons≢nil e)
 
 -- a text where one is to be: it is not too long
-pub text_fits : (schema : ℕ) (of_schema : Bool) (room : ℕ) (x : Json) → defects schema ofSchema (TextUpTo room) x ≡ [] → length (or_else (text_in x) []) ≤ room
+pub text_fits : (schema : ℕ) (of_schema : Bool) (room : ℕ) (x : Json) → defects schema of_schema (TextUpTo room) x ≡ [] → length (or_else (text_in x) []) ≤ room
 unfolding defects
-text_fits schema ofSchema room (Scalar t) e = go (text_of t) e
+text_fits schema of_schema room (Scalar t) e = go (text_of t) e
   where
-    go : (o : Option (List ℕ)) → text_defects room (stands_at ofSchema schema t.first) o ≡ [] → length (or_else o []) ≤ room
+    go : (o : Option (List ℕ)) → text_defects room (stands_at of_schema schema t.first) o ≡ [] → length (or_else o []) ≤ room
     go none e = absurd (cons≢nil e)
-    go (some bs) e = leb-true (length bs) room (unless_holds (leb (length bs) room) (stands_at ofSchema schema t.first) 29 e)
-text_fits schema ofSchema room (Array place xs closed) e = absurd (cons≢nil e)
-text_fits schema ofSchema room (Object place ms closed) e = absurd (cons≢nil e)
+    go (some bs) e = leb-true (length bs) room (unless_holds (leb (length bs) room) (stands_at of_schema schema t.first) 29 e)
+text_fits schema of_schema room (Array place xs closed) e = absurd (cons≢nil e)
+text_fits schema of_schema room (Object place ms closed) e = absurd (cons≢nil e)
 
 -- a number where one is to be: it is there, between its bounds
-pub number_fits : (schema : ℕ) (of_schema : Bool) (low high : ℤ) (x : Json) → defects schema ofSchema (NumberIn low high) x ≡ []
+pub number_fits : (schema : ℕ) (of_schema : Bool) (low high : ℤ) (x : Json) → defects schema of_schema (NumberIn low high) x ≡ []
     → some_with (λ n. le_z low n && le_z n high) (number_in x) ≡ true
 unfolding defects
-number_fits schema ofSchema low high (Scalar t) e = unless_holds (is_number_in low high t) (stands_at ofSchema schema t.first) not_published e
-number_fits schema ofSchema low high (Array place xs closed) e = absurd (cons≢nil e)
-number_fits schema ofSchema low high (Object place ms closed) e = absurd (cons≢nil e)
+number_fits schema of_schema low high (Scalar t) e = unless_holds (is_number_in low high t) (stands_at of_schema schema t.first) not_published e
+number_fits schema of_schema low high (Array place xs closed) e = absurd (cons≢nil e)
+number_fits schema of_schema low high (Object place ms closed) e = absurd (cons≢nil e)
 
 -- a transform where one is to be
-pub transform_fits : (schema : ℕ) (of_schema : Bool) (x : Json) → defects schema ofSchema ATransform x ≡ [] → some_with is_transform (text_in x) ≡ true
+pub transform_fits : (schema : ℕ) (of_schema : Bool) (x : Json) → defects schema of_schema ATransform x ≡ [] → some_with is_transform (text_in x) ≡ true
 unfolding defects
-transform_fits schema ofSchema (Scalar t) e = unless_holds (some_with is_transform (text_of t)) (stands_at ofSchema schema t.first) not_published e
-transform_fits schema ofSchema (Array place xs closed) e = absurd (cons≢nil e)
-transform_fits schema ofSchema (Object place ms closed) e = absurd (cons≢nil e)
+transform_fits schema of_schema (Scalar t) e = unless_holds (some_with is_transform (text_of t)) (stands_at of_schema schema t.first) not_published e
+transform_fits schema of_schema (Array place xs closed) e = absurd (cons≢nil e)
+transform_fits schema of_schema (Object place ms closed) e = absurd (cons≢nil e)
 
 -- the value of a member, of which nothing is wrong by its name's row
 pub member_fits : (schema : ℕ) (rows : List Row) (name : List ℕ) (r : Row) → row_named name rows ≡ some r

@@ -172,7 +172,7 @@ schema_place APartitionField place outer = outer
 
 -- where a defect of a member's value stands that is found at a place
 abbrev pub stands_at : Bool → ℕ → ℕ → ℕ
-stands_at ofSchema schema place = cond ofSchema schema place
+stands_at of_schema schema place = cond of_schema schema place
 
 -- a list: how many it may have, and what each is to be
 pub record Listing : Type 0 where
@@ -219,13 +219,13 @@ misplaced shape place = unless (is_anything shape) place not_published
 -- The first number is the place of the schema around, the flag says that a defect of the value itself stands there.
 unfoldable mutual
   pub defects : ℕ → Bool → Shape → Json → List Defect
-  defects schema ofSchema shape (Scalar t) = scalar_defects shape (stands_at ofSchema schema t.first) t
-  defects schema ofSchema shape (Array place xs closed) = elim (listing_of shape) [
-    | none ↦ misplaced shape (stands_at ofSchema schema place)
+  defects schema of_schema shape (Scalar t) = scalar_defects shape (stands_at of_schema schema t.first) t
+  defects schema of_schema shape (Array place xs closed) = elim (listing_of shape) [
+    | none ↦ misplaced shape (stands_at of_schema schema place)
     | some l ↦ unless (leb (count_of xs) l.room) place over_capacity ++ item_defects schema l.each xs
   ]
-  defects schema ofSchema shape (Object place ms closed) = elim (kind_of shape) [
-    | none ↦ misplaced shape (stands_at ofSchema schema place)
+  defects schema of_schema shape (Object place ms closed) = elim (kind_of shape) [
+    | none ↦ misplaced shape (stands_at of_schema schema place)
     | some kind ↦ member_defects (schema_place kind place schema) (rows_of kind) [] ms ++ foreign_defects kind ms ++ missing_defects kind place ms closed
   ]
 

@@ -23,7 +23,7 @@ use Rattle.json_members.proofs.Words.{no_word, ◌+++◌, by_words, number_told}
 use Rattle.json_members.proofs.Actions.{action_kept}
 use Rattle.json_stands.proofs.Laid.{Held, hold, State, Sized, laid, changed}
 use Rattle.json_stands.proofs.Refused.{RefusalIs}
-use Rattle.json_stands.proofs.Open.{Open, update, update_open}
+use Rattle.json_stands.proofs.Open.{Open, update, update_open, field, fields, ids, part}
 use Rattle.json_stands.proofs.Foreigns.{refuse_foreigns}
 
 -- ---- the kind of a word
@@ -101,3 +101,7 @@ act s {kind = kind} {a = a} k (update u) z rf =
       bracket = refl;
       is = x.is;
     }
+act s {r = r} {kind = kind} {a = a} k (ids {each = each} {us = us} x10 _) z rf = elim x10 [ ]
+act s {r = r} {kind = kind} {a = a} k (part {ps = ps} {us = us} x14 _ _) z rf = elim x14 [ ]
+act s {r = r} {kind = kind} {a = a} k (fields {room = room} {each = each} {ps = ps} {us = us} x19 _ _) z rf = elim x19 [ ]
+act s {r = r} {kind = kind} {a = a} k (field {w = w} {room = room} {each = each} {fs = fs} {ps = ps} {us = us} x20 _ _ _) z rf = elim x20 [ ]

@@ -55,6 +55,8 @@ unfolding double
 between outermost = record { least = omega arith; most = omega arith }
 between (in_list {fs = g ∷ gs} e n) = let b = between n in rw e (record { least = omega (arith, b.least); most = omega (arith, b.most) })
 between (in_object {fs = g ∷ gs} e n) = let b = between n in rw e (record { least = omega (arith, b.least); most = omega (arith, b.most) })
+between (in_list {f = f} {fs = []} e n) = elim n [ ]
+between (in_object {f = f} {fs = []} e n) = elim n [ ]
 
 bits_some : {fs : List Frame} → Nested fs → 1 ≤ bits fs
 bits_some outermost = omega arith

@@ -46,30 +46,55 @@ pub record EntersList (v first : ℕ) (h : Held) (f : Frame) (fs : List Frame) :
 enter_updates : (first : ℕ) {h : Held} {f : Frame} {fs : List Frame} → Open h 0 (f ∷ fs) → EntersList 1 first h f fs
 unfolding row_at item_at entering slot_of count_slot
 enter_updates first {h} nothing = record { held = list_begun first h; laid_so = λ e k w q n p. refl; opens = updates; list = refl; sized = λ z. z }
+enter_updates first {h = h} (ids {each = each} {us = us} x7 _) = elim x7 [ ]
+enter_updates first {h = h} (part {kind = kind} {ps = ps} {us = us} x11 _ _) = elim x11 [ ]
+enter_updates first {h = h} (fields {room = room} {each = each} {kind = kind} {ps = ps} {us = us} x16 _ _) = elim x16 [ ]
+enter_updates first {h = h} (field {w = w} {room = room} {each = each} {kind = kind} {fs = fs} {ps = ps} {us = us} x17 _ _ _) = elim x17 [ ]
 
 enter_snapshot_ids : (first : ℕ) {h : Held} {f : Frame} {fs : List Frame} → Open h 2 (f ∷ fs) → EntersList 8 first h f fs
 unfolding row_at item_at entering slot_of count_slot
 enter_snapshot_ids first {h} (update u) = record { held = ids_begun first h; laid_so = λ e k w q n p. refl; opens = ids snapshot_ids u; list = refl; sized = λ z. z }
+enter_snapshot_ids first {h = h} (ids {each = each} {us = us} x7 _) = elim x7 [ ]
+enter_snapshot_ids first {h = h} (part {kind = kind} {ps = ps} {us = us} x11 _ _) = elim x11 [ ]
+enter_snapshot_ids first {h = h} (fields {room = room} {each = each} {kind = kind} {ps = ps} {us = us} x16 _ _) = elim x16 [ ]
+enter_snapshot_ids first {h = h} (field {w = w} {room = room} {each = each} {kind = kind} {fs = fs} {ps = ps} {us = us} x17 _ _ _) = elim x17 [ ]
 
 enter_schema_ids : (first : ℕ) {h : Held} {f : Frame} {fs : List Frame} → Open h 2 (f ∷ fs) → EntersList 18 first h f fs
 unfolding row_at item_at entering slot_of count_slot
 enter_schema_ids first {h} (update u) = record { held = ids_begun first h; laid_so = λ e k w q n p. refl; opens = ids schema_ids u; list = refl; sized = λ z. z }
+enter_schema_ids first {h = h} (ids {each = each} {us = us} x7 _) = elim x7 [ ]
+enter_schema_ids first {h = h} (part {kind = kind} {ps = ps} {us = us} x11 _ _) = elim x11 [ ]
+enter_schema_ids first {h = h} (fields {room = room} {each = each} {kind = kind} {ps = ps} {us = us} x16 _ _) = elim x16 [ ]
+enter_schema_ids first {h = h} (field {w = w} {room = room} {each = each} {kind = kind} {fs = fs} {ps = ps} {us = us} x17 _ _ _) = elim x17 [ ]
 
 enter_spec_ids : (first : ℕ) {h : Held} {f : Frame} {fs : List Frame} → Open h 2 (f ∷ fs) → EntersList 23 first h f fs
 unfolding row_at item_at entering slot_of count_slot
 enter_spec_ids first {h} (update u) = record { held = ids_begun first h; laid_so = λ e k w q n p. refl; opens = ids spec_ids u; list = refl; sized = λ z. z }
+enter_spec_ids first {h = h} (ids {each = each} {us = us} x7 _) = elim x7 [ ]
+enter_spec_ids first {h = h} (part {kind = kind} {ps = ps} {us = us} x11 _ _) = elim x11 [ ]
+enter_spec_ids first {h = h} (fields {room = room} {each = each} {kind = kind} {ps = ps} {us = us} x16 _ _) = elim x16 [ ]
+enter_spec_ids first {h = h} (field {w = w} {room = room} {each = each} {kind = kind} {fs = fs} {ps = ps} {us = us} x17 _ _ _) = elim x17 [ ]
 
 enter_schema_fields : (first : ℕ) {h : Held} {f : Frame} {fs : List Frame} → Open h 15 (f ∷ fs) → EntersList 38 first h f fs
 unfolding row_at item_at entering slot_of count_slot
 enter_schema_fields first {h} (part schema m u) = record { held = fields_begun first h; laid_so = λ e k w q n p. refl; opens = fields schema_fields m u; list = refl; sized = λ z. z }
+enter_schema_fields first {h = h} (ids {each = each} {us = us} x7 _) = elim x7 [ ]
+enter_schema_fields first {h = h} (fields {room = room} {each = each} {kind = kind} {ps = ps} {us = us} x15 _ _) = elim x15 [ ]
+enter_schema_fields first {h = h} (field {w = w} {room = room} {each = each} {kind = kind} {fs = fs} {ps = ps} {us = us} x16 _ _ _) = elim x16 [ ]
 
 enter_order_fields : (first : ℕ) {h : Held} {f : Frame} {fs : List Frame} → Open h 19 (f ∷ fs) → EntersList 45 first h f fs
 unfolding row_at item_at entering slot_of count_slot
 enter_order_fields first {h} (part order m u) = record { held = fields_begun first h; laid_so = λ e k w q n p. refl; opens = fields order_fields m u; list = refl; sized = λ z. z }
+enter_order_fields first {h = h} (ids {each = each} {us = us} x7 _) = elim x7 [ ]
+enter_order_fields first {h = h} (fields {room = room} {each = each} {kind = kind} {ps = ps} {us = us} x15 _ _) = elim x15 [ ]
+enter_order_fields first {h = h} (field {w = w} {room = room} {each = each} {kind = kind} {fs = fs} {ps = ps} {us = us} x16 _ _ _) = elim x16 [ ]
 
 enter_spec_fields : (first : ℕ) {h : Held} {f : Frame} {fs : List Frame} → Open h 21 (f ∷ fs) → EntersList 52 first h f fs
 unfolding row_at item_at entering slot_of count_slot
 enter_spec_fields first {h} (part spec m u) = record { held = fields_begun first h; laid_so = λ e k w q n p. refl; opens = fields spec_fields m u; list = refl; sized = λ z. z }
+enter_spec_fields first {h = h} (ids {each = each} {us = us} x7 _) = elim x7 [ ]
+enter_spec_fields first {h = h} (fields {room = room} {each = each} {kind = kind} {ps = ps} {us = us} x15 _ _) = elim x15 [ ]
+enter_spec_fields first {h = h} (field {w = w} {room = room} {each = each} {kind = kind} {fs = fs} {ps = ps} {us = us} x16 _ _ _) = elim x16 [ ]
 
 pub enter_list : (v first : ℕ) {h : Held} {f : Frame} {fs : List Frame} → is_some (listing_of (shape_at v)) ≡ true → Open h (parent_of v) (f ∷ fs) → EntersList v first h f fs
 unfolding parent_of row_at
@@ -135,6 +160,10 @@ module _ (first : ℕ) where
         object = refl;
         sized = cleared_size AnUpdate z;
       }
+  enter_update {h = h} z (ids {each = each} {us = us} x8 _) = elim x8 [ ]
+  enter_update {h = h} z (part {kind = kind} {ps = ps} {us = us} x12 _ _) = elim x12 [ ]
+  enter_update {h = h} z (fields {room = room} {each = each} {kind = kind} {ps = ps} {us = us} x17 _ _) = elim x17 [ ]
+  enter_update {h = h} z (field {w = w} {room = room} {each = each} {kind = kind} {fs = fs} {ps = ps} {us = us} x18 _ _ _) = elim x18 [ ]
 
   enter_snapshot : {h : Held} {f : Frame} {fs : List Frame} → Sized h.marks h.places → Open h 2 (f ∷ fs) → EntersObject 7 first h f fs
   unfolding row_at entering slot_of opening
@@ -146,6 +175,10 @@ module _ (first : ℕ) where
         object = refl;
         sized = cleared_size ASnapshot z;
       }
+  enter_snapshot {h = h} z (ids {each = each} {us = us} x8 _) = elim x8 [ ]
+  enter_snapshot {h = h} z (part {kind = kind} {ps = ps} {us = us} x12 _ _) = elim x12 [ ]
+  enter_snapshot {h = h} z (fields {room = room} {each = each} {kind = kind} {ps = ps} {us = us} x17 _ _) = elim x17 [ ]
+  enter_snapshot {h = h} z (field {w = w} {room = room} {each = each} {kind = kind} {fs = fs} {ps = ps} {us = us} x18 _ _ _) = elim x18 [ ]
 
   enter_schema : {h : Held} {f : Frame} {fs : List Frame} → Sized h.marks h.places → Open h 2 (f ∷ fs) → EntersObject 15 first h f fs
   unfolding row_at entering slot_of opening
@@ -157,6 +190,10 @@ module _ (first : ℕ) where
         object = refl;
         sized = cleared_size ASchema z;
       }
+  enter_schema {h = h} z (ids {each = each} {us = us} x8 _) = elim x8 [ ]
+  enter_schema {h = h} z (part {kind = kind} {ps = ps} {us = us} x12 _ _) = elim x12 [ ]
+  enter_schema {h = h} z (fields {room = room} {each = each} {kind = kind} {ps = ps} {us = us} x17 _ _) = elim x17 [ ]
+  enter_schema {h = h} z (field {w = w} {room = room} {each = each} {kind = kind} {fs = fs} {ps = ps} {us = us} x18 _ _ _) = elim x18 [ ]
 
   enter_order : {h : Held} {f : Frame} {fs : List Frame} → Sized h.marks h.places → Open h 2 (f ∷ fs) → EntersObject 19 first h f fs
   unfolding row_at entering slot_of opening
@@ -168,6 +205,10 @@ module _ (first : ℕ) where
         object = refl;
         sized = cleared_size AnOrder z;
       }
+  enter_order {h = h} z (ids {each = each} {us = us} x8 _) = elim x8 [ ]
+  enter_order {h = h} z (part {kind = kind} {ps = ps} {us = us} x12 _ _) = elim x12 [ ]
+  enter_order {h = h} z (fields {room = room} {each = each} {kind = kind} {ps = ps} {us = us} x17 _ _) = elim x17 [ ]
+  enter_order {h = h} z (field {w = w} {room = room} {each = each} {kind = kind} {fs = fs} {ps = ps} {us = us} x18 _ _ _) = elim x18 [ ]
 
   enter_spec : {h : Held} {f : Frame} {fs : List Frame} → Sized h.marks h.places → Open h 2 (f ∷ fs) → EntersObject 21 first h f fs
   unfolding row_at entering slot_of opening
@@ -179,6 +220,10 @@ module _ (first : ℕ) where
         object = refl;
         sized = cleared_size ASpec z;
       }
+  enter_spec {h = h} z (ids {each = each} {us = us} x8 _) = elim x8 [ ]
+  enter_spec {h = h} z (part {kind = kind} {ps = ps} {us = us} x12 _ _) = elim x12 [ ]
+  enter_spec {h = h} z (fields {room = room} {each = each} {kind = kind} {ps = ps} {us = us} x17 _ _) = elim x17 [ ]
+  enter_spec {h = h} z (field {w = w} {room = room} {each = each} {kind = kind} {fs = fs} {ps = ps} {us = us} x18 _ _ _) = elim x18 [ ]
 
   enter_field : {h : Held} {f : Frame} {fs : List Frame} → Sized h.marks h.places → Open h 38 (f ∷ fs) → EntersObject 39 first h f fs
   unfolding row_at entering slot_of opening
@@ -190,6 +235,9 @@ module _ (first : ℕ) where
         object = refl;
         sized = cleared_size AField z;
       }
+  enter_field {h = h} z (ids {each = each} {us = us} x9 _) = elim x9 [ ]
+  enter_field {h = h} z (part {kind = kind} {ps = ps} {us = us} x13 _ _) = elim x13 [ ]
+  enter_field {h = h} z (field {w = w} {room = room} {each = each} {kind = kind} {fs = fs} {ps = ps} {us = us} x18 _ _ _) = elim x18 [ ]
 
   enter_sort_field : {h : Held} {f : Frame} {fs : List Frame} → Sized h.marks h.places → Open h 45 (f ∷ fs) → EntersObject 46 first h f fs
   unfolding row_at entering slot_of opening
@@ -201,6 +249,9 @@ module _ (first : ℕ) where
         object = refl;
         sized = cleared_size ASortField z;
       }
+  enter_sort_field {h = h} z (ids {each = each} {us = us} x9 _) = elim x9 [ ]
+  enter_sort_field {h = h} z (part {kind = kind} {ps = ps} {us = us} x13 _ _) = elim x13 [ ]
+  enter_sort_field {h = h} z (field {w = w} {room = room} {each = each} {kind = kind} {fs = fs} {ps = ps} {us = us} x18 _ _ _) = elim x18 [ ]
 
   enter_partition_field : {h : Held} {f : Frame} {fs : List Frame} → Sized h.marks h.places → Open h 52 (f ∷ fs) → EntersObject 53 first h f fs
   unfolding row_at entering slot_of opening
@@ -212,6 +263,9 @@ module _ (first : ℕ) where
         object = refl;
         sized = cleared_size APartitionField z;
       }
+  enter_partition_field {h = h} z (ids {each = each} {us = us} x9 _) = elim x9 [ ]
+  enter_partition_field {h = h} z (part {kind = kind} {ps = ps} {us = us} x13 _ _) = elim x13 [ ]
+  enter_partition_field {h = h} z (field {w = w} {room = room} {each = each} {kind = kind} {fs = fs} {ps = ps} {us = us} x18 _ _ _) = elim x18 [ ]
 
 abbrev pub object_arms : List (List ℕ)
 object_arms = (2 ∷ 7 ∷ 15 ∷ 19 ∷ 21 ∷ 39 ∷ 46 ∷ 53 ∷ []) ∷ []

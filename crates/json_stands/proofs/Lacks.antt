@@ -117,8 +117,8 @@ module _ (s : State) (z : Sized s.held.marks s.held.places) where
 -- it has all that it must have, or is refused at its bracket
 pub record Lacks (f : Frame) (w : ℕ) (s : State) : Type 0 where
   pub has_them : Bool
-  pub told : lacks_in w (laid s) ≡ not hasThem
-  pub said : lacking f ≡ unless hasThem (first_in (laid s) w) not_published
+  pub told : lacks_in w (laid s) ≡ not has_them
+  pub said : lacking f ≡ unless has_them (first_in (laid s) w) not_published
 
 module _ (s : State) (z : Sized s.held.marks s.held.places) where
   lacks_nothing : {f : Frame} {w : ℕ} → lacks_in w (laid s) ≡ false → lacking f ≡ [] → Lacks f w s

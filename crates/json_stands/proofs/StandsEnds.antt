@@ -149,6 +149,12 @@ module _ (e n p : ℕ) where
   end_by b (list y) o (in_object {fs = g ∷ gs} c m) fr rf = passed (end_passed b refl y o fr rf)
   end_by b (object y) o (in_list {fs = g ∷ gs} c m) fr rf = passed (end_passed b refl y o fr rf)
   end_by b (object y) o (in_object {fs = g ∷ gs} c m) fr rf = passed (end_passed b refl y o fr rf)
+  end_by {k = k} {w = w} {v = v} {h = h} {f = f} {around = []} {r = r} b here o (in_list c m) fr rf = elim m [ ]
+  end_by {k = k} {w = w} {v = v} {h = h} {f = f} {around = []} {r = r} b here o (in_object c m) fr rf = elim m [ ]
+  end_by {k = k} {w = w} {v = v} {h = h} {around = []} {js = js} {r = r} b (list {q = q} y) o (in_list c m) fr rf = elim m [ ]
+  end_by {k = k} {w = w} {v = v} {h = h} {around = []} {js = js} {r = r} b (list {q = q} y) o (in_object c m) fr rf = elim m [ ]
+  end_by {k = k} {w = w} {v = v} {h = h} {around = []} {js = js} {r = r} b (object {q = q} y) o (in_list c m) fr rf = elim m [ ]
+  end_by {k = k} {w = w} {v = v} {h = h} {around = []} {js = js} {r = r} b (object {q = q} y) o (in_object c m) fr rf = elim m [ ]
 
 -- what became whole: the innermost list or object, if it is judged
 pub end_done : (s : State) → (on_close (laid s)).done ≡ cond (eqb s.passed 0) s.within 0

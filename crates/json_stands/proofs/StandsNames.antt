@@ -58,7 +58,7 @@ pub record KnownName (f : Frame) (around : List Frame) (t : Lexeme) (r : Option 
   pub place : ℕ
   pub none_passed : s.passed ≡ 0
   pub spot : s.within ≡ object_of kind
-  pub is_member_lem : is_member kind member ≡ true
+  pub is_member : is_member kind member ≡ true
   pub text : text_of t ≡ some (name_at member)
   pub unseen : is_marked s.held.marks member ≡ false
   pub wants : wanted_after f t ≡ wanted_at (value_at member)
@@ -127,7 +127,7 @@ module _ (k v n p : ℕ) {w : ℕ} {h : Held} {o : OpenObject} {around : List Fr
         place = u.place;
         none_passed = refl;
         spot = a.spot;
-        is_member_lem = g;
+        is_member = g;
         text = x;
         unseen = a.says m g ∙ new;
         wants = rw y (sym (member_wanted kind m g));

@@ -171,7 +171,7 @@ module _ (t : Lexeme) {next : Next} {f : Frame} {around : List Frame} {r : Optio
         taken = ap (λ (l : List ℕ). after l 0) y.laid_so;
         happens = name_happens q w;
         sized = y.stands.frames.sized;
-        took = name may (record { kind = y.kind; none_passed = y.none_passed; object = y.spot; is_member_lem = y.is_member; text = y.text; unseen = y.unseen });
+        took = name may (record { kind = y.kind; none_passed = y.none_passed; object = y.spot; is_member = y.is_member; text = y.text; unseen = y.unseen });
       }
   by_name q w c (other y) =
       record {
@@ -198,6 +198,8 @@ end_happens : {f : Frame} {around : List Frame} → Nested (f ∷ around) → is
 end_happens outermost b = absurd (true≢false b)
 end_happens (in_list {fs = g ∷ gs} e n) b = refl
 end_happens (in_object {fs = g ∷ gs} e n) b = refl
+end_happens {f = f} {around = []} (in_list e n) b = elim n [ ]
+end_happens {f = f} {around = []} (in_object e n) b = elim n [ ]
 
 end_may : {e v w : ℕ} {f : Frame} {next : Next} (t : Lexeme) → NextIs e v w f next → closes next f t ≡ true → (e ≡ 1) ⊎ ((e ≡ 3) ⊎ (e ≡ 5))
 end_may t (a_value x) c = absurd (true≢false (sym c))

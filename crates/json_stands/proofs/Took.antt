@@ -57,7 +57,7 @@ pub record KnownMember (s : State) (t : Lexeme) (m : ℕ) : Type 0 where
   pub kind : Kind
   pub none_passed : s.passed ≡ 0
   pub object : s.within ≡ object_of kind
-  pub is_member_lem : is_member kind m ≡ true
+  pub is_member : is_member kind m ≡ true
   pub text : text_of t ≡ some (name_at m)
   pub unseen : is_marked s.held.marks m ≡ false
 

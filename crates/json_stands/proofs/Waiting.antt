@@ -17,7 +17,7 @@ use Rattle.json_members.specs.Spots.{row_at, shape_at}
 use Rattle.json_members.specs.Opening.{refused_in}
 use Rattle.json_members.proofs.Cases.{done, ◌&◌, by_keys, all_below, all_below_lem}
 use Rattle.json_stands.proofs.Laid.{Held, State, laid}
-use Rattle.json_stands.proofs.Open.{Open, field, schema_fields, Passed, here, list, object}
+use Rattle.json_stands.proofs.Open.{Open, field, schema_fields, Passed, here, list, object, fields, ids, part}
 use Rattle.json_stands.proofs.Stands.{wanted_at, parent_of, Waits, anything, within, Frames}
 
 -- a spot where not anything may stand is none of what is passed over
@@ -68,6 +68,9 @@ module _ {v w q : ℕ} {h : Held} {fs js : List Frame} (t : Here v w) (i : (q �
 -- the type of a field, and whether it is required, at the schema
 in_field_lem : {h : Held} {f : Frame} {fs : List Frame} → Open h 39 (f ∷ fs) → schema_around f ≡ h.part
 in_field_lem (field schema_fields a m u) = refl
+in_field_lem {h = h} (ids {each = each} {us = us} x7 _) = elim x7 [ ]
+in_field_lem {h = h} (part {kind = kind} {ps = ps} {us = us} x11 _ _) = elim x11 [ ]
+in_field_lem {h = h} (fields {room = room} {each = each} {kind = kind} {ps = ps} {us = us} x16 _ _) = elim x16 [ ]
 
 abbrev of_schema_keys : List ℕ
 of_schema_keys = 42 ∷ 43 ∷ []

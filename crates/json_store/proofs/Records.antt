@@ -21,7 +21,7 @@ module _ (slots numbers : List ℕ) where
       (λ x. rw x (cases (seen_in slots 31) (λ y. rw y) (λ y. rw y)))
       (λ x. rw x (cases (seen_in slots 31) (λ y. rw y) (λ y. rw y))))
 
-  pub reference_laid : {id min age ref_age : ℤ} {hasMin hasAge hasRefAge : Bool} {kind : ℕ} → id ≡ number_at numbers 11 → kind ≡ byte_at numbers 10 → hasMin ≡ seen_in slots 12 → min ≡ or_zero_narrow_at slots numbers 12 → hasAge ≡ seen_in slots 13 → age ≡ or_zero_at slots numbers 13 → hasRefAge ≡ seen_in slots 14 → refAge ≡ or_zero_at slots numbers 14 → ◌≡◌ {A = F.SnapshotReference} (record { snapshot_id = record { 0 = id }; kind = kind; has_min = hasMin; min_snapshots_to_keep = record { 0 = min }; has_age = hasAge; max_snapshot_age_ms = record { 0 = age }; has_ref_age = hasRefAge; max_ref_age_ms = record { 0 = refAge } }) (laid_reference (reference_in slots numbers))
+  pub reference_laid : {id min age ref_age : ℤ} {hasMin hasAge hasRefAge : Bool} {kind : ℕ} → id ≡ number_at numbers 11 → kind ≡ byte_at numbers 10 → hasMin ≡ seen_in slots 12 → min ≡ or_zero_narrow_at slots numbers 12 → hasAge ≡ seen_in slots 13 → age ≡ or_zero_at slots numbers 13 → hasRefAge ≡ seen_in slots 14 → ref_age ≡ or_zero_at slots numbers 14 → ◌≡◌ {A = F.SnapshotReference} (record { snapshot_id = record { 0 = id }; kind = kind; has_min = hasMin; min_snapshots_to_keep = record { 0 = min }; has_age = hasAge; max_snapshot_age_ms = record { 0 = age }; has_ref_age = hasRefAge; max_ref_age_ms = record { 0 = ref_age } }) (laid_reference (reference_in slots numbers))
   unfolding laid_reference reference_in
   reference_laid i k a b d e f g =
       rw (i, k, a, b, d, e, f, g)

@@ -1,6 +1,6 @@
 // Numbers in slots: a magnitude, and so far behind it 1 where the number is below 0.
 ghost use Rattle.std.specs.Prelude.{◌≡◌};
-ghost use Rattle.json_store.specs.Numbers.{put_number, magnitude_at, negative_at, signed_of, number_at, narrowed as narrowedOf, narrow_at, low_at, byte_at, count_at, copied};
+ghost use Rattle.json_store.specs.Numbers.{put_number, magnitude_at, negative_at, signed_of, number_at, narrowed as narrowed_of, narrow_at, low_at, byte_at, count_at, copied};
 
 // There is one for each spot; behind those stand the number of a bucket and the elements of lists.
 pub const BUCKETS: usize = 63;
@@ -26,10 +26,10 @@ pub const NUMBERS: usize = 304;
 pub type Numbers = [u64; NUMBERS];
 
 // A number of 64 bits, and one of 32.
-#[derive(Drop)]
+#[derive(Clone, Copy)]
 pub struct Whole(pub i64);
 
-#[derive(Drop)]
+#[derive(Clone, Copy)]
 pub struct Narrow(pub i32);
 
 pub fn put(numbers: &mut Numbers, at: usize, negative: bool, magnitude: u64)
@@ -87,7 +87,7 @@ pub fn number_at(numbers: &Numbers, at: usize) -> Whole
 
 // Of 32 bits; 0 where it does not fit.
 pub fn narrowed(whole: Whole) -> Narrow
-    ensures { result.0 ≡ narrowedOf whole.0 }
+    ensures { result.0 ≡ narrowed_of whole.0 }
 {
     let n = whole.0;
     if n < -2147483648 {

@@ -21,7 +21,7 @@ pub const BROKEN: usize = 2;
 
 // Which of the three it is; the lexeme's first byte, and the place of that. Of a whole one: the place behind it, and what is kept of a text and of a
 // number. Of one that breaks off: the place of the byte that can not continue it, or the end.
-#[derive(Drop)]
+#[derive(Clone, Copy)]
 pub struct Token {
     pub state: usize,
     pub head: u8,

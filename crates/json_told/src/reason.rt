@@ -48,7 +48,7 @@ const CAPACITY: usize = 2;
 
 const OF_UPDATE: usize = 3;
 
-#[derive(Drop)]
+#[derive(Clone, Copy)]
 pub struct Why {
     pub reason: usize,
     pub detail: usize,
@@ -70,7 +70,7 @@ fn with_part(reason: usize, spot: usize, part: usize) -> Why {
 
 // What is seen before the judge takes a lexeme: which value is wanted, in which list or object, the last member that the open update must have, and what the
 // lexeme would be there.
-#[derive(Drop)]
+#[derive(Clone, Copy)]
 pub struct Before {
     pub wanted: usize,
     pub within: usize,

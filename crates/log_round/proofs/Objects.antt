@@ -23,17 +23,17 @@ use Rattle.file_round.proofs.Fields.{Field, Each, with_field, entries_of, object
 
 -- nothing is wrong with a value that is there
 abbrev pub Fine : Bool → Shape → Option Document → Type 0
-Fine ofSchema shape none = Unit {0}
-Fine ofSchema shape (some d) = (schema place : ℕ) → defects schema ofSchema shape (tree_at place d) ≡ []
+Fine of_schema shape none = Unit {0}
+Fine of_schema shape (some d) = (schema place : ℕ) → defects schema of_schema shape (tree_at place d) ≡ []
 
 -- what is no list and no object is judged as in a file
-pub single_fine : (version : ℕ) (of_schema : Bool) (shape : Shape) (s : List ℕ) → fields.FineIn version ofSchema (Single shape) (some (Token s)) → Fine ofSchema shape (some (Token s))
+pub single_fine : (version : ℕ) (of_schema : Bool) (shape : Shape) (s : List ℕ) → fields.FineIn version of_schema (Single shape) (some (Token s)) → Fine of_schema shape (some (Token s))
 unfolding defects file.defects tree_at
-single_fine version ofSchema shape s h schema place = h schema place
+single_fine version of_schema shape s h schema place = h schema place
 
-pub optional_fine : {A : Type 0} (version : ℕ) (of_schema : Bool) (shape : Shape) (f : A → List ℕ) (o : Option A) → fields.FineIn version ofSchema (Single shape) (mapped (λ x. Token (f x)) o) → Fine ofSchema shape (mapped (λ x. Token (f x)) o)
-optional_fine version ofSchema shape f none h = tt
-optional_fine version ofSchema shape f (some x) h = single_fine version ofSchema shape (f x) h
+pub optional_fine : {A : Type 0} (version : ℕ) (of_schema : Bool) (shape : Shape) (f : A → List ℕ) (o : Option A) → fields.FineIn version of_schema (Single shape) (mapped (λ x. Token (f x)) o) → Fine of_schema shape (mapped (λ x. Token (f x)) o)
+optional_fine version of_schema shape f none h = tt
+optional_fine version of_schema shape f (some x) h = single_fine version of_schema shape (f x) h
 
 -- ---- members
 

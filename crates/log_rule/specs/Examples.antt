@@ -64,7 +64,7 @@ pointing kind least age = record { snapshot = pos 5; kind = kind; min_snapshots 
 
 -- the bytes of fields
 abbrev pub column_of : ℕ → ℕ → List ℕ → List ℕ
-column_of id fieldType name = field_offer (record { id = pos id; field_type = fieldType; name = name })
+column_of id field_type name = field_offer (record { id = pos id; field_type = field_type; name = name })
 
 abbrev pub part_of : ℕ → ℕ → List ℕ → List ℕ
 part_of transform buckets name = partition_offer (record { source = pos 1; id = none; transform = transform; buckets = pos buckets; name = name })

@@ -1,5 +1,7 @@
 // A change log written as a published list of updates into a lent buffer. Refused with 38 where such a list cannot carry it, then with 25 where the buffer is
 // short; then nothing is written. The crate `log_rule` decides, in LogText.
+#![tactic(auto)]
+
 mod carried;
 mod ids;
 mod log;

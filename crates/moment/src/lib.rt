@@ -2,6 +2,8 @@
 // And which were current during a span of time: the answer at its first millisecond, and then each later one.
 // Refuses a log that counts above its slots with 1; what stands in the slots past the count is not looked at.
 // Document 02, request (i), decides, as the crate `rules` writes it in Moment; During is made of it.
+#![tactic(auto)]
+
 ghost use Rattle.std.specs.Prelude.{◌≡◌, ◌+◌, ◌≤◌, ◌<◌, ◌&&◌, drop};
 ghost use Rattle.std.specs.Int.Signed.{le_z};
 ghost use Rattle.rules.specs.Capacities.{snapshot_log_room};
@@ -16,7 +18,7 @@ use records::replies::{ACCEPTED, START_NOT_FORMED};
 use records::snapshot::{SnapshotLog, SnapshotLogEntry};
 
 // The number is 0 or 1; the entry is blank where none is found.
-#[derive(Drop)]
+#[derive(Clone, Copy)]
 pub struct Moment {
     pub number: u8,
     pub found: bool,
@@ -88,7 +90,7 @@ pub fn current_at(log: SnapshotLog, time: Time) -> Moment
 }
 
 // The first answer is `current_at`'s; the later entries are blank after the counted ones, and none where the log is refused.
-#[derive(Drop)]
+#[derive(Clone, Copy)]
 pub struct During {
     pub beginning: Moment,
     pub later: SnapshotLog,

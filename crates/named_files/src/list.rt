@@ -5,11 +5,13 @@ use file_words::file::is_json;
 use plaintext::fault::{say_fault, say_unopened};
 use records::capacities::OFFERS;
 use records::update::UpdateList;
-use tokens::input::{Input, Place, is_good, start};
+use std::rt::HostRuntime;
+use tokens::input::{Input, Place, close, is_good, start};
 use tokens::output::Output;
+use tokens::source::{Source, is_open, open};
 
 // The number is 0 where there is a list.
-#[derive(Drop)]
+#[derive(Clone, Copy)]
 pub struct Listed {
     pub number: u8,
     pub list: UpdateList,
@@ -19,13 +21,13 @@ pub struct Listed {
 const NO_LIST: u8 = 255;
 
 fn read_json(
-    descriptor: i32,
+    mut source: Source,
     name: &[u8],
     offers: &mut [u8; OFFERS],
     output: &mut Output,
     end: &mut usize,
 ) -> Listed {
-    let answer = update_lists::file::read(descriptor, name, offers, output, end);
+    let answer = update_lists::file::read(&mut source, name, offers, output, end);
     let number = answer.number;
     let list = answer.list;
     Listed { number, list }
@@ -33,7 +35,7 @@ fn read_json(
 
 // A count and the updates, and nothing behind them.
 fn read_case(
-    descriptor: i32,
+    source: Source,
     name: &[u8],
     offers: &mut [u8],
     input: &mut Input,
@@ -41,7 +43,7 @@ fn read_case(
     output: &mut Output,
     end: &mut usize,
 ) -> Listed {
-    *place = start(descriptor);
+    *place = start(source);
     let list = read_updates(input, place, offers);
     read_end(input, place);
     let mut number = 0;
@@ -49,11 +51,13 @@ fn read_case(
         say_fault(output, end, name, b"", place);
         number = NO_LIST;
     }
+    close(place);
     Listed { number, list }
 }
 
 // The list, or what is wrong with it: that is said. What its updates offer is put among the offers.
 pub fn read(
+    rt: HostRuntime,
     name: &[u8],
     offers: &mut [u8; OFFERS],
     input: &mut Input,
@@ -61,20 +65,19 @@ pub fn read(
     output: &mut Output,
     end: &mut usize,
 ) -> Listed {
-    let descriptor = os::open_read(name);
+    let source = open(rt, name);
     let mut listed = Listed {
         number: NO_LIST,
         list: UpdateList::blank(),
     };
-    if descriptor < 0 {
+    if !is_open(&source) {
         say_unopened(output, end, name);
         return listed;
     }
-    if is_json(name) {
-        listed = read_json(descriptor, name, offers, output, end);
+    if is_json(rt, name) {
+        listed = read_json(source, name, offers, output, end);
     } else {
-        listed = read_case(descriptor, name, offers, input, place, output, end);
+        listed = read_case(source, name, offers, input, place, output, end);
     }
-    libc::close(descriptor);
     listed
 }

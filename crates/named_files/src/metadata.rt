@@ -6,20 +6,21 @@ use case_reader::run::read_given;
 use file_import::import;
 use file_told::say_bad_file;
 use file_words::file::is_json;
-use libc::STDIN_FILENO;
 use plaintext::fault::{say_fault, say_unopened};
 use plaintext::name::say_escaped;
 use plaintext::text::say;
 use records::metadata::TableMetadata;
 use slot_bounds::lent;
+use std::rt::HostRuntime;
 use tokens::field::is_unsigned;
-use tokens::input::{Input, Place, is_good, spoil, start};
+use tokens::input::{Input, Place, close, is_good, spoil, start};
 use tokens::output::Output;
+use tokens::source::{Source, is_open, open, standard};
 use tokens::token::read_token;
 use tokens::wanted::{END, UP_TO};
 
 // The number is 0 where there is metadata. Skipped says how many members of a JSON file are not held; it is 0 of the case format.
-#[derive(Drop)]
+#[derive(Clone, Copy)]
 pub struct Held {
     pub number: u8,
     pub is_json: bool,
@@ -70,9 +71,9 @@ fn imported(name: &[u8], text: &[u8], output: &mut Output, end: &mut usize) -> H
     }
 }
 
-fn read_json(name: &[u8], output: &mut Output, end: &mut usize) -> Held {
+fn read_json(rt: HostRuntime, name: &[u8], output: &mut Output, end: &mut usize) -> Held {
     let mut text = [0u8; ROOM];
-    let whole = read_whole(name, &mut text);
+    let whole = read_whole(rt, name, &mut text);
     if whole.outcome != READ {
         say_unread(output, end, name, whole.outcome);
         return none();
@@ -118,14 +119,14 @@ pub fn read_end(input: &mut Input, place: &mut Place) {
 }
 
 fn read_open(
-    descriptor: i32,
+    source: Source,
     name: &[u8],
     input: &mut Input,
     place: &mut Place,
     output: &mut Output,
     end: &mut usize,
 ) -> Held {
-    *place = start(descriptor);
+    *place = start(source);
     let metadata = read_given_metadata(input, place);
     read_end(input, place);
     let mut number = 0;
@@ -142,42 +143,45 @@ fn read_open(
 }
 
 fn read_case(
+    rt: HostRuntime,
     name: &[u8],
     input: &mut Input,
     place: &mut Place,
     output: &mut Output,
     end: &mut usize,
 ) -> Held {
-    let descriptor = os::open_read(name);
-    if descriptor < 0 {
+    let source = open(rt, name);
+    if !is_open(&source) {
         say_unopened(output, end, name);
         return none();
     }
-    let held = read_open(descriptor, name, input, place, output, end);
-    libc::close(descriptor);
+    let held = read_open(source, name, input, place, output, end);
+    close(place);
     held
 }
 
 // Metadata in the case format on standard input.
 pub fn read_input(
+    rt: HostRuntime,
     input: &mut Input,
     place: &mut Place,
     output: &mut Output,
     end: &mut usize,
 ) -> Held {
-    read_open(STDIN_FILENO, b"", input, place, output, end)
+    read_open(standard(rt), b"", input, place, output, end)
 }
 
 // The metadata, or what is wrong with it: that is said.
 pub fn read(
+    rt: HostRuntime,
     name: &[u8],
     input: &mut Input,
     place: &mut Place,
     output: &mut Output,
     end: &mut usize,
 ) -> Held {
-    if is_json(name) {
-        return read_json(name, output, end);
+    if is_json(rt, name) {
+        return read_json(rt, name, output, end);
     }
-    read_case(name, input, place, output, end)
+    read_case(rt, name, input, place, output, end)
 }

@@ -1,14 +1,20 @@
 // Files that are made: each is new, and whole or not there at all. A text is written under a name of its own, that of the file and `.part`, and gets the name
 // of the file when all of it stands on the disk. Nothing is overwritten: a file that is there is refused, and stays as it was. Each outcome has a line.
 // Several files that belong together are prepared first and placed then, so that one that can not be written keeps the others from being made.
+#![tactic(auto)]
+
 ghost use Rattle.slot_bounds.specs.Counted.{Counted};
 
-use libc::EEXIST;
 use plaintext::name::say_escaped;
 use plaintext::number::say_count;
 use plaintext::text::{say, say_line};
 use slot_bounds::{lent, store_byte};
+use std::fs::{File, OpenOptions, remove_file, rename};
+use std::io::{Error, ErrorKind};
 use std::num::wrapping_add_usize;
+use std::os::fd::AsRawFd;
+use std::rt::HostRuntime;
+use std::str::from_utf8;
 use tokens::output::Output;
 
 // What became of a text, in the order of the words for it.
@@ -57,76 +63,106 @@ fn read_part_name(name: &[u8], slots: &mut [u8]) -> usize
 }
 
 // Why a file could not be made.
-fn why_unmade(taken: usize) -> usize {
-    if os::errno() == EEXIST {
+fn why_unmade(error: Error, taken: usize) -> usize {
+    if error.kind() == ErrorKind::AlreadyExists {
         return taken;
     }
     NOT_MADE
 }
 
-// Whether the text stands on the disk whole.
-fn write_whole(descriptor: i32, text: &[u8]) -> bool {
-    let is_written = io::write_all(descriptor, text);
-    let is_stored = libc::fsync(descriptor) == 0;
-    let is_closed = libc::close(descriptor) == 0;
-    is_written & is_stored & is_closed
+// A new file of this name, open for writing, or why there is none. The system's library takes names that are UTF-8 alone.
+fn create(rt: HostRuntime, name: &[u8], taken: usize) -> Result<File, usize> {
+    let Ok(path) = from_utf8(name) else {
+        return Err(NOT_MADE);
+    };
+    let mut options = OpenOptions::new();
+    options.write(true).create_new(true);
+    match options.open(&rt, path) {
+        Ok(file) => Ok(file),
+        Err(error) => Err(why_unmade(error, taken)),
+    }
+}
+
+fn remove(rt: HostRuntime, name: &[u8]) {
+    if let Ok(path) = from_utf8(name) {
+        let _ = remove_file(&rt, path);
+    }
+}
+
+// Whether the name of the part is now that of the file.
+fn give_name(rt: HostRuntime, part: &[u8], name: &[u8]) -> bool {
+    let Ok(from) = from_utf8(part) else {
+        return false;
+    };
+    let Ok(to) = from_utf8(name) else {
+        return false;
+    };
+    rename(&rt, from, to).is_ok()
+}
+
+// Whether the text stands on the disk whole. The file is closed then.
+fn write_whole(file: File, text: &[u8]) -> bool {
+    let is_written = io::write_all(file.as_raw_fd(), text);
+    let is_stored = file.sync_all().is_ok();
+    is_written & is_stored
 }
 
 // The text under the name of the part.
-pub fn prepare(name: &[u8], text: &[u8]) -> usize {
+pub fn prepare(rt: HostRuntime, name: &[u8], text: &[u8]) -> usize {
     let mut part = io::buffer();
     let len = read_part_name(name, &mut part);
-    let descriptor = os::create(&part[..len]);
-    if descriptor < 0 {
-        return why_unmade(PART_TAKEN);
+    match create(rt, &part[..len], PART_TAKEN) {
+        Ok(file) => {
+            if write_whole(file, text) {
+                return WRITTEN;
+            }
+            remove(rt, &part[..len]);
+            NOT_WRITTEN
+        }
+        Err(why) => why,
     }
-    if write_whole(descriptor, text) {
-        return WRITTEN;
-    }
-    os::unlink(&part[..len]);
-    NOT_WRITTEN
 }
 
 // What was prepared is not to be placed.
-pub fn forget(name: &[u8]) {
+pub fn forget(rt: HostRuntime, name: &[u8]) {
     let mut part = io::buffer();
     let len = read_part_name(name, &mut part);
-    os::unlink(&part[..len]);
+    remove(rt, &part[..len]);
 }
 
 // The name is taken first, by an empty file that nobody else can have made; the part then gets it.
-fn move_to(part: &[u8], name: &[u8]) -> usize {
-    let descriptor = os::create(name);
-    if descriptor < 0 {
-        let why = why_unmade(TAKEN);
-        os::unlink(part);
-        return why;
+fn move_to(rt: HostRuntime, part: &[u8], name: &[u8]) -> usize {
+    match create(rt, name, TAKEN) {
+        Ok(_) => {}
+        Err(why) => {
+            remove(rt, part);
+            return why;
+        }
     }
-    libc::close(descriptor);
-    if os::rename(part, name) == 0 {
+    if give_name(rt, part, name) {
         return WRITTEN;
     }
-    os::unlink(name);
-    os::unlink(part);
+    remove(rt, name);
+    remove(rt, part);
     NOT_WRITTEN
 }
 
 // What was prepared becomes the file, or nothing is left of it.
-pub fn place(name: &[u8]) -> usize {
+pub fn place(rt: HostRuntime, name: &[u8]) -> usize {
     let mut part = io::buffer();
     let len = read_part_name(name, &mut part);
-    move_to(&part[..len], name)
+    move_to(rt, &part[..len], name)
 }
 
 // A file that was placed, and is not to stay since another of those that belong together could not be.
-pub fn take_back(name: &[u8]) {
-    os::unlink(name);
+pub fn take_back(rt: HostRuntime, name: &[u8]) {
+    remove(rt, name);
 }
 
-pub fn write(name: &[u8], text: &[u8]) -> usize {
-    let outcome = prepare(name, text);
+pub fn write(rt: HostRuntime, name: &[u8], text: &[u8]) -> usize {
+    let outcome = prepare(rt, name, text);
     if outcome == WRITTEN {
-        return place(name);
+        return place(rt, name);
     }
     outcome
 }

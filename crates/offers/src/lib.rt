@@ -1,4 +1,6 @@
 // What an update offers, read from the bytes that are lent beside the list, as the crate `rules` says it in Offers. Any offer is answered, whatever the bytes.
+#![tactic(auto)]
+
 pub mod field;
 pub mod partition;
 pub mod place;
@@ -25,14 +27,14 @@ use records::schema::{Schema, SchemaOffer};
 use records::update::{ADD_PARTITION_SPEC, ADD_SCHEMA, TableUpdate};
 
 // Whether an offer is well formed, and the schema that it offers.
-#[derive(Drop)]
+#[derive(Clone, Copy)]
 pub struct OfferedSchema {
     pub formed: bool,
     pub schema: Schema,
 }
 
 // The same of a partition spec.
-#[derive(Drop)]
+#[derive(Clone, Copy)]
 pub struct OfferedSpec {
     pub formed: bool,
     pub spec: PartitionSpec,

@@ -1,6 +1,8 @@
 // Two offices share a register: whether an update of a list is this office's to make, and what the close of the second is told.
 // Nothing is refused here: the run refuses with 35, or with 3 where what the update offers is not well formed.
 // Document 02 decides, request (xi), as the crate `rules` writes it in Others.
+#![tactic(auto)]
+
 mod reach;
 mod removal;
 

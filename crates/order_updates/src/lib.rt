@@ -1,5 +1,7 @@
 // Sort orders: adding, choosing the default one.
 // Document 01, "Rules for each update", as the crate `rules` writes it in OrderUpdates.
+#![tactic(auto)]
+
 ghost use Rattle.std.specs.Prelude.{◌≡◌, true, false, cond, not, ◌&&◌};
 ghost use Rattle.records.specs.Blanks.{no_sort_orders_part};
 ghost use Rattle.rules.specs.Words.{eq_z, is_empty, highest as highestOf, put};
@@ -34,7 +36,7 @@ pub mod family;
 // ---- add sort order
 
 // The id that an added order gets: that of a held one with the same fields, if one is found, else the next, unless ids are exhausted.
-#[derive(Drop)]
+#[derive(Clone, Copy)]
 pub struct OrderNumbered {
     pub found: bool,
     pub exhausted: bool,
@@ -76,7 +78,7 @@ fn reuse_or_create_new_sort_id(
 }
 
 // The order is the one to log, and where the table grows the one to put.
-#[derive(Drop)]
+#[derive(Clone, Copy)]
 pub struct OrderAdded {
     pub number: u8,
     pub logs: bool,
@@ -127,7 +129,7 @@ fn order_addition(b: TableMetadataBuilder, t: SortOrders, s: Schema, o: SortOrde
 // ---- set default sort order
 
 // The id is the one to log.
-#[derive(Drop)]
+#[derive(Clone, Copy)]
 pub struct OrderSet {
     pub number: u8,
     pub logs: bool,

@@ -35,20 +35,20 @@ module _ {M : Type 0} {join : M → M → M} {nothing : M} (j : Joins join nothi
 pub tests_join : Joins ◌||◌ false
 tests_join = record { bracketed = or_assoc; alone = or-false }
 
-abbrev pub Asked : (K : Kind) → (K.Plain → Bool) → K.Whole → ℕ → ℕ → Bool → Type 0
-Asked K p t from i got = Scanned ◌||◌ K (any p) t from i false got
+pub record Asked (K : Kind) (p : K.Plain → Bool) (t : K.Whole) (from i : ℕ) (got : Bool) : Type 0 where
+  pub scanned : Scanned ◌||◌ K (any p) t from i false got
 
 module _ {K : Kind} {p : K.Plain → Bool} {t : K.Whole} (h : Tidy K t) {from : ℕ} where
   pub asked_start : Asked K p t from from false
-  asked_start = scan_start tests_join h
+  asked_start = record { scanned = scan_start tests_join h }
 
   module _ {i : ℕ} {got : Bool} (s : Asked K p t from i got) where
     pub asked_on : (d : K.Slot) {z : Bool} → i < K.count t → z ≡ p (K.read (get_or (K.items t) i d)) → Asked K p t from (i + 1) (got || z)
-    asked_on d {z} b e = scan_on tests_join h s d z b (ap (λ (y : Bool). y || any p (drop (i + 1) (listed K t))) (sym e)) refl
+    asked_on d {z} b e = record { scanned = scan_on tests_join h s.scanned d z b (ap (λ (y : Bool). y || any p (drop (i + 1) (listed K t))) (sym e)) refl }
 
     pub asked_end : K.count t ≤ i → got ≡ any p (drop from (listed K t))
-    asked_end b = scan_end tests_join h s b refl
+    asked_end b = scan_end tests_join h s.scanned b refl
 
     -- an element of which the test does not hold
     pub asked_past : (d : K.Slot) → i < K.count t → p (K.read (get_or (K.items t) i d)) ≡ false → Asked K p t from (i + 1) got
-    asked_past d b e = scan_on tests_join h s d false b (ap (λ (y : Bool). y || any p (drop (i + 1) (listed K t))) e) (sym (or-false got))
+    asked_past d b e = record { scanned = scan_on tests_join h s.scanned d false b (ap (λ (y : Bool). y || any p (drop (i + 1) (listed K t))) e) (sym (or-false got)) }

@@ -20,21 +20,21 @@ not_and : (a b : Bool) → not (not a && b) ≡ (a || not b)
 not_and true b = refl
 not_and false b = refl
 
-abbrev pub Apart : (K : Kind) → (K.Plain → K.Plain → Bool) → K.Whole → ℕ → Bool → Type 0
-Apart K same t i got = Scanned ◌||◌ K (twice same) t 0 i false got
+pub record Apart (K : Kind) (same : K.Plain → K.Plain → Bool) (t : K.Whole) (i : ℕ) (got : Bool) : Type 0 where
+  pub scanned : Scanned ◌||◌ K (twice same) t 0 i false got
 
 module _ {K : Kind} {same : K.Plain → K.Plain → Bool} {t : K.Whole} (h : Tidy K t) where
   pub apart_start : Apart K same t 0 false
-  apart_start = scan_start tests_join h
+  apart_start = record { scanned = scan_start tests_join h }
 
   module _ {i : ℕ} {got : Bool} (s : Apart K same t i got) where
     pub apart_on : (d : K.Slot) {z : Bool} → i < K.count t → z ≡ any (same (K.read (get_or (K.items t) i d))) (drop (i + 1) (listed K t)) → Apart K same t (i + 1) (got || z)
     apart_on d {z} b e =
         let l : List K.Plain = drop (i + 1) (listed K t) in
-        scan_on tests_join h s d z b (not_and (any (same (K.read (get_or (K.items t) i d))) l) (unequal_by same l) ∙ ap (λ (y : Bool). y || twice same l) (sym e)) refl
+        record { scanned = scan_on tests_join h s.scanned d z b (not_and (any (same (K.read (get_or (K.items t) i d))) l) (unequal_by same l) ∙ ap (λ (y : Bool). y || twice same l) (sym e)) refl }
 
     pub apart_end : K.count t ≤ i → not got ≡ unequal_by same (listed K t)
-    apart_end b = ap not (scan_end tests_join h s b refl) ∙ not-not (unequal_by same (listed K t))
+    apart_end b = ap not (scan_end tests_join h s.scanned b refl) ∙ not-not (unequal_by same (listed K t))
 
 -- ---- by what each gives
 

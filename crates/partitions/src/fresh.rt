@@ -26,7 +26,7 @@ const FIRST_PARTITION_ID: i64 = 1000;
 const NO_PARTITION_ID: i64 = 999;
 
 // The ids of the fields that have one, in their order, and zeros after them.
-#[derive(Drop)]
+#[derive(Clone, Copy)]
 pub struct GivenIds {
     pub ids: [i64; PARTITION_FIELDS],
     pub count: usize,
@@ -74,7 +74,7 @@ pub fn next_free(taken: &[i64], after: Key) -> Key
 }
 
 // A field with an id, and the number from which the next field goes on; or a fresh id would pass the largest.
-#[derive(Drop)]
+#[derive(Clone, Copy)]
 struct NumberedField {
     exhausted: bool,
     number: Key,
@@ -119,7 +119,7 @@ fn number_field(f: PartitionField, taken: &[i64], number: Key) -> NumberedField
 }
 
 // The spec with an id for each field; or a fresh id would pass the largest.
-#[derive(Drop)]
+#[derive(Clone, Copy)]
 pub struct NumberedSpec {
     pub exhausted: bool,
     pub spec: PartitionSpec,

@@ -1,6 +1,8 @@
 // Partition fields against each other, against the fields of a schema, and against the specs that are held; the ids that a spec reuses and those that it is
 // given, and the offer that is logged.
 // Document 02, request (ix), as the crate `rules` writes it in SpecUpdates and Partitions.
+#![tactic(auto)]
+
 pub mod columns;
 pub mod fresh;
 pub mod names;

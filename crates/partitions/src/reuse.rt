@@ -12,7 +12,7 @@ use records::counters::FieldId;
 use records::partition::{PartitionField, PartitionSpec, PartitionSpecs};
 
 // The smallest id of those looked at, where there is one.
-#[derive(Drop)]
+#[derive(Clone, Copy)]
 struct Smallest {
     found: bool,
     id: FieldId,

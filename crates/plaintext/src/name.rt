@@ -22,7 +22,7 @@ fn hexadecimal(digit: u8) -> u8
 }
 
 // What a byte is written as: the first so many of the four.
-#[derive(Drop)]
+#[derive(Clone, Copy)]
 struct Spelled {
     bytes: [u8; 4],
     len: usize,

@@ -14,7 +14,7 @@ use tokens::output::Output;
 
 // Where the reader of templates is: in which template, in which part of it, behind which mark; which alternative is wanted and which is
 // read, and whether that is said. Outside of alternatives everything is.
-#[derive(Drop)]
+#[derive(Clone, Copy)]
 struct Reading {
     template: usize,
     part: usize,
@@ -38,7 +38,7 @@ fn digit(byte: u8) -> usize {
     (byte - b'0') as usize
 }
 
-fn one_more_lem(n: usize) -> usize {
+fn one_more(n: usize) -> usize {
     if n < usize::MAX { n + 1 } else { n }
 }
 
@@ -69,10 +69,10 @@ fn behind(r: Reading, byte: u8) -> Reading {
     t.mark = mark_of(byte);
     match byte {
         b';' => {
-            t.template = one_more_lem(r.template);
+            t.template = one_more(r.template);
             t.part = 0;
         }
-        b'*' => t.part = one_more_lem(r.part),
+        b'*' => t.part = one_more(r.part),
         b'|' => {
             let option = next_option(r.option);
             t.option = option;

@@ -1,9 +1,9 @@
 // Text of any length to standard output: where the buffer is full, it is written out first.
-use tokens::output::{Output, make_room};
+use tokens::output::{Output, make_room, put_byte};
 
 pub fn say_byte(output: &mut Output, end: &mut usize, byte: u8) {
     let at = make_room(output, *end);
-    output[at] = byte;
+    put_byte(output, at, byte);
     *end = at + 1;
 }
 

@@ -18,7 +18,7 @@ use slot_bounds::with_slots;
 use tokens::output::Output;
 
 // The record that is said of a kind, behind its words; none of those whose words say all.
-fn record_of_lem(kind: u8) -> usize {
+fn record_of(kind: u8) -> usize {
     match kind {
         ADD_SNAPSHOT | SET_BRANCH_SNAPSHOT => OF_SNAPSHOTS,
         REMOVE_SNAPSHOTS | REMOVE_SCHEMAS | REMOVE_PARTITION_SPECS => OF_IDS,

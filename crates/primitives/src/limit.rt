@@ -6,7 +6,7 @@ ghost use Rattle.primitives.specs.Limit.{digits_limit};
 
 const DEFAULT_LIMIT: u64 = 100;
 
-fn is_digit_lem(byte: u8) -> bool
+fn is_digit(byte: u8) -> bool
     ensures { result ≡ is_digit byte }
 {
     b'0' <= byte && byte <= b'9'

@@ -20,7 +20,7 @@ pub fn same_bytes(a: &[u8], b: &[u8]) -> bool
 }
 
 // Byte order, a prefix first.
-pub fn name_below_lem(a: &[u8], b: &[u8]) -> bool
+pub fn name_below(a: &[u8], b: &[u8]) -> bool
     ensures { result ≡ name_below a.now b.now }
 {
     let mut i = 0;

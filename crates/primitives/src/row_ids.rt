@@ -6,7 +6,7 @@ use records::counters::RowId;
 use records::replies::{ACCEPTED, FIRST_ROW_BEHIND, ROWS_OVERFLOW};
 
 // The number is 0, 9 or 11. The next row id is the one after the range; on a refusal it is the one that came in.
-#[derive(Drop)]
+#[derive(Clone, Copy)]
 pub struct RowsChecked {
     pub number: u8,
     pub next: RowId,

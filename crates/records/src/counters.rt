@@ -1,44 +1,44 @@
 // Each counter and each kind of id is a type of its own, so that none passes for another.
 
 // The position of a snapshot in the table's changes.
-#[derive(Drop)]
+#[derive(Clone, Copy)]
 pub struct SequenceNumber(pub i64);
 
 // The id of a row; the next one to be given out.
-#[derive(Drop)]
+#[derive(Clone, Copy)]
 pub struct RowId(pub u64);
 
-#[derive(Drop)]
+#[derive(Clone, Copy)]
 pub struct SnapshotId(pub i64);
 
-#[derive(Drop)]
+#[derive(Clone, Copy)]
 pub struct SchemaId(pub i32);
 
-#[derive(Drop)]
+#[derive(Clone, Copy)]
 pub struct FieldId(pub i32);
 
-#[derive(Drop)]
+#[derive(Clone, Copy)]
 pub struct SortOrderId(pub i64);
 
-#[derive(Drop)]
+#[derive(Clone, Copy)]
 pub struct SpecId(pub i32);
 
 // How many buckets a partition has.
-#[derive(Drop)]
+#[derive(Clone, Copy)]
 pub struct Buckets(pub i32);
 
 // Milliseconds since 1970.
-#[derive(Drop)]
+#[derive(Clone, Copy)]
 pub struct Time(pub i64);
 
 // A span in milliseconds.
-#[derive(Drop)]
+#[derive(Clone, Copy)]
 pub struct Age(pub i64);
 
 // The size of a file, in bytes.
-#[derive(Drop)]
+#[derive(Clone, Copy)]
 pub struct FileSize(pub i64);
 
 // How many snapshots a branch keeps at least.
-#[derive(Drop)]
+#[derive(Clone, Copy)]
 pub struct MinSnapshots(pub i32);

@@ -1,6 +1,8 @@
 // The records of the register: metadata, updates, what a run is given and what it answers, each with its capacity and its blank.
 // Nothing is refused here: any value of these types is a value that the entry points answer.
 // Which values are well formed is said by the crate `rules`.
+#![tactic(auto)]
+
 pub mod capacities;
 pub mod counters;
 pub mod metadata;

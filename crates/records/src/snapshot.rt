@@ -6,7 +6,7 @@ use crate::capacities::{REMOVALS, SNAPSHOT_LOG, SNAPSHOTS};
 use crate::counters::{RowId, SequenceNumber, SnapshotId, Time};
 
 // A parent behind a flag that is not set, and a row range behind one, are 0.
-#[derive(Drop)]
+#[derive(Clone, Copy)]
 pub struct Snapshot {
     pub snapshot_id: SnapshotId,
     pub has_parent: bool,
@@ -19,27 +19,27 @@ pub struct Snapshot {
 }
 
 // Ascending by id.
-#[derive(Drop)]
+#[derive(Clone, Copy)]
 pub struct Snapshots {
     pub items: [Snapshot; SNAPSHOTS],
     pub count: usize,
 }
 
 // The ids of a removal.
-#[derive(Drop)]
+#[derive(Clone, Copy)]
 pub struct SnapshotIds {
     pub items: [SnapshotId; REMOVALS],
     pub count: usize,
 }
 
-#[derive(Drop)]
+#[derive(Clone, Copy)]
 pub struct SnapshotLogEntry {
     pub snapshot_id: SnapshotId,
     pub timestamp_ms: Time,
 }
 
 // In history order.
-#[derive(Drop)]
+#[derive(Clone, Copy)]
 pub struct SnapshotLog {
     pub items: [SnapshotLogEntry; SNAPSHOT_LOG],
     pub count: usize,

@@ -1,5 +1,7 @@
 // Set ref, remove ref: what these updates ask and do.
 // Document 01, "Rules for each update", as the crate `rules` writes it in RefUpdates.
+#![tactic(auto)]
+
 ghost use Rattle.std.specs.Prelude.{◌≡◌, true, false, cond, not, ◌&&◌, ◌||◌, List, [], ◌∷◌, ◌≤◌, ◌<◌, eqb, leb, ℤ, length};
 ghost use Rattle.std.proofs.Math.Option.{Option, none, some};
 ghost use Rattle.rules.specs.Words.{ascending, put, first_of};
@@ -114,7 +116,7 @@ fn setting(u: TableUpdate, r: SnapshotReference) -> TableUpdate
 }
 
 // What an update asks of the refs: whether the ref is held as it is to be, whether its name is, and the ref.
-#[derive(Drop)]
+#[derive(Clone, Copy)]
 pub struct AskedRef {
     pub same: bool,
     pub named: bool,

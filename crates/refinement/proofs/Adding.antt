@@ -101,7 +101,7 @@ module _ {g : Given} {i : ℕ} {p : Pieces} (S : Standing g i p) (v : Update) (a
   tables : {b : _} {t : Snapshots} {is : List ℤ} → b ≡ laid_builder (add_snapshot x S.state) → t ≡ laid_snapshots (put snapshot_below x S.state.metadata.snapshots) → is ≡ pad 64 (pos 0) (ids_of (put snapshot_below x S.state.metadata.snapshots))
       → (id : ℤ) → Tables (add_snapshot x S.state) (with_builder b (grown t is id p).held)
   unfolding add_snapshot
-  tables a b c id = let T = S.stands.tables in record { builder = a; snapshots = b; ids = c; refs = T.refs; log = T.log; last = T.last; own_tables = T.ownTables }
+  tables a b c id = let T = S.stands.tables in record { builder = a; snapshots = b; ids = c; refs = T.refs; log = T.log; last = T.last; own_tables = T.own_tables }
 
   -- a check that fails
   refused_decided : (half : Bool) {d : Decision} → d.number ≡ first_of (offer_checks (terms_of g) v S.state) → (d.number ≡ 0 → ⊥) → Decided g i half p d

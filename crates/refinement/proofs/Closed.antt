@@ -205,7 +205,7 @@ module _ {g : Given} {st : State} {p : Pieces} (E : Represents g st p) where
       let T = E.tables in
       let own : x.0 ≡ or_else st.own g.terms.clock_ms.0 = u ∙ ap (λ (o : Option ℤ). or_else o g.terms.clock_ms.0) (its_own st T.builder) in
       let F : updated x p.held.builder.fields ≡ updated (record { 0 = or_else st.own g.terms.clock_ms.0 }) (laid_fields st.metadata.fields) = λ i. updated (record { 0 = own i }) (fields_laid i) in
-      (λ i. record { number = 0; place = 0; metadata = record { fields = F i; snapshots = T.snapshots i; refs = T.refs i; snapshot_log = Y.log i; metadata_log = S i; schemas = (T.ownTables.schemas i).table; sort_orders = T.ownTables.orders i; statistics = T.ownTables.statistics i; partition_statistics = T.ownTables.partition_statistics i; partition_specs = T.ownTables.specs i }; changes = record { items = E.logs.entries i; count = E.logs.count i }; expired = G i })
+      (λ i. record { number = 0; place = 0; metadata = record { fields = F i; snapshots = T.snapshots i; refs = T.refs i; snapshot_log = Y.log i; metadata_log = S i; schemas = (T.own_tables.schemas i).table; sort_orders = T.own_tables.orders i; statistics = T.own_tables.statistics i; partition_statistics = T.own_tables.partition_statistics i; partition_specs = T.own_tables.specs i }; changes = record { items = E.logs.entries i; count = E.logs.count i }; expired = G i })
       ∙ ap (laid_outcome g.metadata) (sym (accepts e place))
 
   -- the parts that are lent

@@ -93,8 +93,8 @@ module _ {g : Given} {i : ℕ} {p : Pieces} (S : Standing g i p) (v : Update) (a
       z ∙ rw (lent left kt ki, read_refs_lem E) (ap (λ (q : plain.NamedRef → Bool). laid_refs (keep q S.state.metadata.refs)) (λ i y. in_held left y.reference.snapshot i)) in
       rw w
       (by_test (λ (s : State). Tables s (removed t is r b p).held) (is_empty (held_snapshots xs S.state.metadata.snapshots))
-      (λ k. record { builder = T.builder; snapshots = kt; ids = ki; refs = kr; log = T.log; last = T.last; own_tables = T.ownTables })
-      (λ k. record { builder = T.builder; snapshots = kt; ids = ki; refs = kr; log = T.log; last = T.last; own_tables = T.ownTables }))
+      (λ k. record { builder = T.builder; snapshots = kt; ids = ki; refs = kr; log = T.log; last = T.last; own_tables = T.own_tables })
+      (λ k. record { builder = T.builder; snapshots = kt; ids = ki; refs = kr; log = T.log; last = T.last; own_tables = T.own_tables }))
 
   pub removed_decided : {d : Decision} → SnapshotsGone xs S.state d → {t : Snapshots} {is : List ℤ} {r : Refs} → t ≡ laid_snapshots (other_snapshots xs (read_snapshots p.held.snapshots)) → is ≡ pad 64 (pos 0) (ids_of (read_snapshots t)) → r ≡ laid_refs (keep (λ y. is_in (take t.count is) y.reference.snapshot) (read_refs p.held.refs))
       → Decided g i false (removed t is r d.logs p) d
@@ -108,11 +108,11 @@ module _ {g : Given} {i : ℕ} {p : Pieces} (S : Standing g i p) (v : Update) (a
         logs = λ _ q.
             let k : is_empty (held_snapshots xs S.state.metadata.snapshots) ≡ false = not-true (is_empty (held_snapshots xs S.state.metadata.snapshots)) (sym D.logs ∙ q) in
             whole (next S v at a
-            (record { builder = D.builder ∙ rw (w, k); snapshots = T.snapshots; ids = T.ids; refs = T.refs; log = T.log; last = T.last; own_tables = T.ownTables })
+            (record { builder = D.builder ∙ rw (w, k); snapshots = T.snapshots; ids = T.ids; refs = T.refs; log = T.log; last = T.last; own_tables = T.own_tables })
             (rw (w, k, q) (push_removal S.stands.logs (omega (arith, fits S v at)) (held_snapshots xs S.state.metadata.snapshots) D.entry)));
         stays = λ _ q.
             let k : is_empty (held_snapshots xs S.state.metadata.snapshots) ≡ true = not-false (is_empty (held_snapshots xs S.state.metadata.snapshots)) (sym D.logs ∙ q) in
             let L = S.stands.logs in
             whole (next S v at a T
-            (rw (w, k, q) (record { entries = L.entries; count = L.count; added = L.added; adds = L.adds; main_targets = L.mainTargets; mains = L.mains; removal = or_nothing_lem p.changes.removal ∙ L.removal })));
+            (rw (w, k, q) (record { entries = L.entries; count = L.count; added = L.added; adds = L.adds; main_targets = L.main_targets; mains = L.mains; removal = or_nothing_lem p.changes.removal ∙ L.removal })));
       }

@@ -175,12 +175,12 @@ module _ {g : Given} {i : ℕ} {p : Pieces} (W : Midway g i p) {d : Decision} (D
               let y = other t in
               let f : is_main name ≡ false = rw (grows z t) at m in
               whole (W.goes (fine z)
-              (record { builder = D.builder z t; snapshots = rw (y, f) T.snapshots; ids = rw (y, f) T.ids; refs = rw (y, f) (refs_after (grows z t)); log = rw (y, f) T.log; last = rw (y, f) T.last; own_tables = rw (y, f) T.ownTables })
+              (record { builder = D.builder z t; snapshots = rw (y, f) T.snapshots; ids = rw (y, f) T.ids; refs = rw (y, f) (refs_after (grows z t)); log = rw (y, f) T.log; last = rw (y, f) T.last; own_tables = rw (y, f) T.own_tables })
               (rw (y, f) (push_quiet W.stands.logs W.more (SetRef name w) D.entry (record { adds = refl; sets = rw f; removes = refl }))));
           stays = λ z f.
               let y : is_held_ref name w W.state.metadata.refs ≡ true = not-false (is_held_ref name w W.state.metadata.refs) (sym D.logs ∙ f) in
               let k : d.grows ≡ false = D.grows ∙ rw f in
-              whole (W.goes (fine z) (rw y (record { builder = T.builder; snapshots = T.snapshots; ids = T.ids; refs = q ∙ rw k T.refs; log = T.log; last = T.last; own_tables = T.ownTables })) (rw y W.stands.logs));
+              whole (W.goes (fine z) (rw y (record { builder = T.builder; snapshots = T.snapshots; ids = T.ids; refs = q ∙ rw k T.refs; log = T.log; last = T.last; own_tables = T.own_tables })) (rw y W.stands.logs));
         }
 
     module _ (t : d.grows ≡ true) (m : is_main name ≡ true) where
@@ -216,7 +216,7 @@ module _ {g : Given} {i : ℕ} {p : Pieces} (W : Midway g i p) {d : Decision} (D
             room = λ z. room;
             logs = λ z f.
                 whole (W.goes (fine z)
-                (record { builder = D.builder z f; snapshots = rw (y, m) T.snapshots; ids = rw (y, m) T.ids; refs = rw (y, m) (refs_after t); log = rw (y, m) longer; last = rw (y, m) last; own_tables = rw (y, m) T.ownTables })
+                (record { builder = D.builder z f; snapshots = rw (y, m) T.snapshots; ids = rw (y, m) T.ids; refs = rw (y, m) (refs_after t); log = rw (y, m) longer; last = rw (y, m) last; own_tables = rw (y, m) T.own_tables })
                 (rw (y, m, v) (push_main W.stands.logs W.more name w D.entry m)));
             stays = λ z f. absurd (true≢false (sym accepts.0 ∙ f));
           }

@@ -1,6 +1,8 @@
 // The run: any metadata, any list of updates, any terms, limit text and offers get an answer.
 // A refusal gives document 01's number and the place, the metadata that was given, no changes and no expired entries.
 // Document 01 decides, as the crate `rules` writes it in Run and Answer.
+#![tactic(auto)]
+
 ghost use Rattle.std.specs.Prelude.{◌≡◌, cond, ◌+◌, ◌≤◌, ◌<◌};
 ghost use Rattle.rules.specs.Answer.{answer};
 

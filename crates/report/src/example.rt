@@ -2,6 +2,7 @@
 // each a run or a call of a leaf.
 use case_reader::run::{RUN, Run, read_run};
 use tokens::input::{empty_input, hold_line, start};
+use tokens::source::Source;
 
 pub const EXAMPLES: usize = 12;
 
@@ -94,7 +95,7 @@ pub fn run_of(step: usize) -> Run {
         \x20500000 0 0 1 4 1 0 0 1 -60000 0 0 0\n\
         \x20500000 0 0 1 4 1 0 0 1 -60001 0 0 0\n";
     let mut input = empty_input();
-    let mut place = start(0);
+    let mut place = start(Source::Nothing);
     hold_line(&mut input, &mut place, starts, start_of(step));
     hold_line(&mut input, &mut place, asked, step);
     // No example offers anything, so there is no room for what is offered.

@@ -11,7 +11,7 @@ use tokens::output::Output;
 
 // The number and the place of the run's answer, the fault of its start, where its metadata first differs from the ending one, and the
 // tolerance and the office that it was given.
-#[derive(Drop)]
+#[derive(Clone, Copy)]
 pub struct Judged {
     pub number: u8,
     pub place: usize,

@@ -110,8 +110,12 @@ number_of_one : (cs : List Check) → eqb (first_of cs) accepted ≡ false → a
 number_of_one [] h = sym h
 number_of_one (c ∷ cs) h =
     cases c.0
-    (λ t. rw t (or_left (any (eqb c.1) (map (λ (x : Check). x.1) cs)) (eq-eqb c.1 c.1 refl)))
-    (λ f. rw f (or_right (eqb (first_of cs) c.1) (number_of_one cs (rw f at h))))
+    (λ t. let P : ℕ → Type 0 = λ n. any (eqb n) (map (λ (x : Check). x.1) (c ∷ cs)) ≡ true in
+    let e : first_of (c ∷ cs) ≡ c.1 = rw t in
+    subst P (sym e) (or_left (any (eqb c.1) (map (λ (x : Check). x.1) cs)) (eq-eqb c.1 c.1 refl)))
+    (λ f. let P : ℕ → Type 0 = λ n. any (eqb n) (map (λ (x : Check). x.1) (c ∷ cs)) ≡ true in
+    let e : first_of (c ∷ cs) ≡ first_of cs = rw f in
+    subst P (sym e) (or_right (eqb (first_of cs) c.1) (number_of_one cs (rw f at h))))
 
 outcome_answers : (terms : Terms) (p : Policy) (m : Metadata) → Answers (expiring_updates p m) (list_outcome terms p m)
 unfolding list_outcome

@@ -87,14 +87,14 @@ because why by = record { why = why; by = by }
 
 -- a clock reading; the count, the snapshot age and the ref age; the office
 abbrev pub policy_of : ℤ → ℤ → ℤ → ℤ → ℕ → Policy
-policy_of clock count age refAge office = record { clock = clock; min_snapshots = count; max_snapshot_age = age; max_ref_age = refAge; office = office }
+policy_of clock count age ref_age office = record { clock = clock; min_snapshots = count; max_snapshot_age = age; max_ref_age = ref_age; office = office }
 
 -- at 400000, of office 1 and of office 2. In `three` 3 is then 100000 old, 2 200000 and 1 300000
 abbrev pub policy : ℕ → ℕ → ℕ → Policy
-policy count age ref_age = policy_of (pos 400000) (pos count) (pos age) (pos refAge) 1
+policy count age ref_age = policy_of (pos 400000) (pos count) (pos age) (pos ref_age) 1
 
 abbrev pub second_policy : ℕ → ℕ → ℕ → Policy
-second_policy count age ref_age = policy_of (pos 400000) (pos count) (pos age) (pos refAge) 2
+second_policy count age ref_age = policy_of (pos 400000) (pos count) (pos age) (pos ref_age) 2
 
 -- snapshots, the current one, refs and the history
 abbrev pub holding : List Snapshot → Option ℤ → List NamedRef → List LogEntry → Metadata

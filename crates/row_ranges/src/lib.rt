@@ -1,5 +1,7 @@
 // Whether the row ranges that metadata holds are apart. Where they are, no run gives out a row id twice from then on, so an archive asks once.
 // Document 02, request (xiii), speaks of the ranges that runs add. The test of those that are held is this project's own: the crate `rules` writes it in Rows.
+#![tactic(auto)]
+
 ghost use Rattle.std.specs.Prelude.{◌≡◌, ◌≤◌, leb, drop};
 ghost use Rattle.rules.specs.Words.{all, each_pair};
 ghost use Rattle.rules.specs.Layout.{read_snapshot, read_snapshots};
@@ -15,7 +17,7 @@ use records::snapshot::{Snapshot, Snapshots};
 const ROWS_FROM: u8 = 3;
 
 // The range ends at the bound or before it; its end may be above 2^64 - 1.
-fn ends_by_lem(first: RowId, added: u64, bound: RowId) -> bool
+fn ends_by(first: RowId, added: u64, bound: RowId) -> bool
     ensures { result ≡ leb (range_end first added) bound.0 }
 {
     if first.0 > bound.0 {
@@ -29,7 +31,7 @@ fn rows_end_by(s: Snapshot, next: RowId) -> bool
 {
     let none = !s.has_rows;
     let first = s.first_row_id;
-    none | ends_by_lem(first, s.added_rows, next)
+    none | ends_by(first, s.added_rows, next)
 }
 
 // No row id lies in both ranges, where both have one.
@@ -40,8 +42,8 @@ fn rows_disjoint(a: Snapshot, b: Snapshot) -> bool
     let empty = (a.added_rows == 0) | (b.added_rows == 0);
     let x = a.first_row_id;
     let y = b.first_row_id;
-    let before = ends_by_lem(x, a.added_rows, y);
-    let after = ends_by_lem(y, b.added_rows, x);
+    let before = ends_by(x, a.added_rows, y);
+    let after = ends_by(y, b.added_rows, x);
     none | (empty | (before | after))
 }
 

@@ -510,7 +510,7 @@ order_by id fields = record { id = pos id; fields = fields }
 
 -- a ref with its retention numbers: fewest snapshots, snapshot age, ref age
 abbrev pub keeping : ℤ → ℕ → Option ℤ → Option ℤ → Option ℤ → Reference
-keeping id kind fewest age ref_age = record { snapshot = id; kind = kind; min_snapshots = fewest; max_snapshot_age = age; max_ref_age = refAge }
+keeping id kind fewest age ref_age = record { snapshot = id; kind = kind; min_snapshots = fewest; max_snapshot_age = age; max_ref_age = ref_age }
 
 -- a ref of a name of some bytes, to snapshot 1
 abbrev pub named : List ℕ → NamedRef

@@ -18,7 +18,7 @@ use search::position;
 use tables::keys::schema_key;
 
 // In table order, and zeros after them.
-#[derive(Drop)]
+#[derive(Clone, Copy)]
 pub struct SchemaKeys {
     pub items: [i64; SCHEMAS],
     pub sizes: [usize; SCHEMAS],

@@ -1,5 +1,7 @@
 // Schemas: adding, choosing the current one, removing.
 // Document 01, "Rules for each update", and of names that are taken document 02, request (ix), as the crate `rules` writes it in SchemaUpdates.
+#![tactic(auto)]
+
 ghost use Rattle.std.specs.Prelude.{◌≡◌, true, ltb, pos, length, get_or};
 ghost use Rattle.std.proofs.Math.IntN.{suc_ℤ};
 ghost use Rattle.records.specs.Blanks.{no_schemas_part};
@@ -42,7 +44,7 @@ pub mod keys;
 const LARGEST: i64 = i32::MAX as i64;
 
 // The id that an added schema gets: that of a held one with the same fields, if one is found, else the next, unless ids are exhausted.
-#[derive(Drop)]
+#[derive(Clone, Copy)]
 pub struct SchemaNumbered {
     pub found: bool,
     pub exhausted: bool,
@@ -86,7 +88,7 @@ fn last_column(old: FieldId, s: Schema) -> FieldId
 }
 
 // The id is the one to log, and where the table grows that of the new schema.
-#[derive(Drop)]
+#[derive(Clone, Copy)]
 pub struct SchemaAdded {
     pub number: u8,
     pub logs: bool,
@@ -142,7 +144,7 @@ fn schema_addition(
 // ---- set schema
 
 // The id is the one to log.
-#[derive(Drop)]
+#[derive(Clone, Copy)]
 pub struct SchemaSet {
     pub number: u8,
     pub logs: bool,

@@ -1,4 +1,6 @@
 // The slots of a table or a text. What is counted beyond them is neither stored nor written.
+#![tactic(auto)]
+
 ghost use Rattle.std.specs.Prelude.{◌≡◌, ◌≤◌, set};
 ghost use Rattle.slot_bounds.specs.Counted.{Counted};
 

@@ -1,5 +1,7 @@
 // Adding and removing snapshots: what these updates ask and do.
 // Document 01, "Rules for each update", as the crate `rules` writes it in SnapshotUpdates.
+#![tactic(auto)]
+
 ghost use Rattle.std.specs.Prelude.{◌≡◌, true, ◌||◌, eqb, ℤ, pos};
 ghost use Rattle.std.specs.Int.Signed.{lt_z, le_z};
 ghost use Rattle.rules.specs.Words.{larger, or_else, some_with, ascending, first_of};

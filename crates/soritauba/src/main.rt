@@ -1,5 +1,7 @@
 // soritauba COMMAND WORDS: the program. What a command has to say is in what it prints: it has no status of its own.
 // The crate `commands` goes through the words, the files and the pieces, and says what came of them; here stand the calls of the run.
+#![tactic(auto)]
+
 use case_reader::limit_text::LimitText;
 use case_reader::run::{Run, read_ending, read_run};
 use commands::list::read_list;
@@ -23,8 +25,10 @@ use report::judged::{Judged, say_judged};
 use report::shown::say_shown;
 use slot_bounds::lent;
 use std::num::wrapping_sub_usize;
+use std::rt::HostRuntime;
 use tokens::input::{Input, Place, empty_input, is_good, piece_of, start};
 use tokens::output::{OUTPUT, Output, empty_output, flush};
+use tokens::source::standard;
 use verdict::judge_answer;
 
 // The metadata as it is, with no changes: what is answered before the first call.
@@ -99,6 +103,7 @@ fn read_own(first: u64, input: &mut Input, place: &mut Place, offers: &mut [u8; 
 // Nothing is said before the whole run is read, so that no part of its answer stands above `bad input`. A list that is given as JSON stands in the place of
 // the run's own; where it is refused, nothing is run. One run is asked apart from many, so that less stack is needed.
 fn run(
+    rt: HostRuntime,
     turn: Turn,
     input: &mut Input,
     place: &mut Place,
@@ -109,7 +114,7 @@ fn run(
     let mut run = read_own(turn.first, input, place, offers);
     let mut is_asked = is_good(place);
     if is_asked && turn.wanted == LISTED {
-        let read = read_list(turn, offers, output, end);
+        let read = read_list(rt, turn, offers, output, end);
         is_asked = read.number == 0;
         let list = read.list;
         run.updates = list;
@@ -164,7 +169,7 @@ fn replay(
 }
 
 // What the run of an expiry's list answers.
-#[derive(Drop)]
+#[derive(Clone, Copy)]
 struct Outcome {
     number: u8,
     place: usize,
@@ -224,6 +229,7 @@ fn show(step: usize, output: &mut Output, end: &mut usize) {
 
 // What a step wants of the run.
 fn answer(
+    rt: HostRuntime,
     turn: Turn,
     input: &mut Input,
     place: &mut Place,
@@ -233,7 +239,7 @@ fn answer(
 ) {
     let wanted = turn.wanted;
     match wanted {
-        ASKED | LISTED | CLOSED => run(turn, input, place, offers, output, end),
+        ASKED | LISTED | CLOSED => run(rt, turn, input, place, offers, output, end),
         JUDGED => replay(turn, input, place, offers, output, end),
         SHOWN => show(wrapping_sub_usize(turn.step, 1), output, end),
         _ => {}
@@ -242,6 +248,7 @@ fn answer(
 
 // What asks one metadata file alone.
 fn go_by_one(
+    rt: HostRuntime,
     command: usize,
     line: &[u8],
     offers: &mut [u8; OFFERS],
@@ -251,18 +258,19 @@ fn go_by_one(
     end: &mut usize,
 ) {
     match command {
-        RUN => file_runs::session::run(line, offers, input, place, output, end),
-        EXPIRE => file_runs::expire::expire(line, input, place, output, end),
-        CURRENT => file_commands::moments::current(line, input, place, output, end),
-        IMPORT => file_commands::import::import(line, input, place, output, end),
-        EXPORT => file_commands::export::export(line, input, place, output, end),
-        AUDIT => file_runs::audit::end_page(line, input, place, output, end),
+        RUN => file_runs::session::run(rt, line, offers, input, place, output, end),
+        EXPIRE => file_runs::expire::expire(rt, line, input, place, output, end),
+        CURRENT => file_commands::moments::current(rt, line, input, place, output, end),
+        IMPORT => file_commands::import::import(rt, line, input, place, output, end),
+        EXPORT => file_commands::export::export(rt, line, input, place, output, end),
+        AUDIT => file_runs::audit::end_page(rt, line, input, place, output, end),
         _ => {}
     }
 }
 
 // A command that goes by files, by the words of its line.
 fn go_by_files(
+    rt: HostRuntime,
     command: usize,
     line: &[u8],
     offers: &mut [u8; OFFERS],
@@ -272,14 +280,14 @@ fn go_by_files(
     end: &mut usize,
 ) {
     if command == REPLAY {
-        file_runs::replay::replay(line, offers, input, place, output, end);
+        file_runs::replay::replay(rt, line, offers, input, place, output, end);
     } else if command == AUDIT {
-        if file_runs::audit::begin(line, offers, input, place, output, end) {
-            go_by_one(command, line, offers, input, place, output, end);
+        if file_runs::audit::begin(rt, line, offers, input, place, output, end) {
+            go_by_one(rt, command, line, offers, input, place, output, end);
             write_out(output, end);
         }
     } else {
-        go_by_one(command, line, offers, input, place, output, end);
+        go_by_one(rt, command, line, offers, input, place, output, end);
     }
 }
 
@@ -298,6 +306,7 @@ fn write_half(output: &Output, end: &mut usize) {
 
 // The program's own line is the empty one.
 fn answer_files(
+    rt: HostRuntime,
     turn: Turn,
     offers: &mut [u8; OFFERS],
     input: &mut Input,
@@ -309,6 +318,7 @@ fn answer_files(
     if turn.line < NONE {
         let len = read_tour(turn.line, &mut line);
         go_by_files(
+            rt,
             turn.command,
             &line[..len],
             offers,
@@ -318,7 +328,7 @@ fn answer_files(
             end,
         );
     } else {
-        go_by_files(turn.command, b"", offers, input, place, output, end);
+        go_by_files(rt, turn.command, b"", offers, input, place, output, end);
         write_out(output, end);
     }
 }
@@ -326,10 +336,10 @@ fn answer_files(
 // The steps are counted since nothing says that an input ends; no run uses them up. What a step reads and what is answered to it
 // stand beside each other, and not one below the other, so that less stack is needed. For the same reason some are called from two places: what is called
 // from one alone is compiled as a part of its caller, and its stack lies below all that the caller calls.
-fn main() {
-    let mut turn = begin();
+fn main(rt: HostRuntime) {
+    let mut turn = begin(rt);
     let mut input = empty_input();
-    let mut place = start(0);
+    let mut place = start(standard(rt));
     let mut offers = [0u8; OFFERS];
     let mut output = empty_output();
     let mut end: usize = 0;
@@ -338,6 +348,7 @@ fn main() {
         if turn.line < NONE {
             write_out(&output, &mut end);
             answer(
+                rt,
                 turn,
                 &mut input,
                 &mut place,
@@ -347,6 +358,7 @@ fn main() {
             );
         } else {
             answer(
+                rt,
                 turn,
                 &mut input,
                 &mut place,
@@ -365,6 +377,7 @@ fn main() {
         }
         if turn.wanted == FILED {
             answer_files(
+                rt,
                 turn,
                 &mut offers,
                 &mut input,
@@ -373,7 +386,7 @@ fn main() {
                 &mut end,
             );
         }
-        turn = advance(turn, &mut input, &mut place, &mut output, &mut end);
+        turn = advance(rt, turn, &mut input, &mut place, &mut output, &mut end);
         left -= 1;
     }
     flush(&output, end);

@@ -39,7 +39,7 @@ use tables::partition_specs::{find_equal, ids_of};
 const LARGEST: i64 = i32::MAX as i64;
 
 // The id that an added spec gets: that of a held one with the same fields, if one is found, else the next, unless ids are exhausted.
-#[derive(Drop)]
+#[derive(Clone, Copy)]
 pub struct SpecNumbered {
     pub found: bool,
     pub exhausted: bool,
@@ -84,7 +84,7 @@ fn choose_misfit(p: PartitionSpec, s: Schema, rest: u8) -> u8
 }
 
 // The checks of a new spec, and the spec with an id for each field, with the last partition id that it leads to.
-#[derive(Drop)]
+#[derive(Clone, Copy)]
 pub struct SpecCompleted {
     pub number: u8,
     pub last_partition_id: FieldId,
@@ -111,7 +111,7 @@ fn complete(p: PartitionSpec, last: FieldId, version: u8, over: bool, count: usi
 }
 
 // The offer is the one to log, and where the table grows the spec the one to put at its end.
-#[derive(Drop)]
+#[derive(Clone, Copy)]
 pub struct SpecAdded {
     pub number: u8,
     pub logs: bool,

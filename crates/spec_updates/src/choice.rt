@@ -38,7 +38,7 @@ fn is_held_misfit(t: PartitionSpecs, s: Schema, id: SpecId) -> bool
 }
 
 // The id is the one to log.
-#[derive(Drop)]
+#[derive(Clone, Copy)]
 pub struct SpecSet {
     pub number: u8,
     pub logs: bool,

@@ -1,6 +1,8 @@
 // What a run starts with: the checks before the first update, and the refusal.
 // A refusal gives document 01's number and the place, the metadata that was given, no changes and no expired entries.
 // Document 01 decides, as the crate `rules` writes it in Run and Answer.
+#![tactic(auto)]
+
 ghost use Rattle.std.specs.Prelude.{◌≡◌, ◌&&◌, ◌≤◌};
 ghost use Rattle.records.specs.declared.metadata.TableMetadata as tables;
 ghost use Rattle.records.specs.declared.update.UpdateList as lists;

@@ -1,5 +1,7 @@
 // Statistics files: setting, removing. One function serves both tables.
 // Document 02, request (ii), as the crate `rules` writes it in StatisticsUpdates.
+#![tactic(auto)]
+
 ghost use Rattle.std.specs.Prelude.{◌≡◌, true, cond, ◌||◌, eqb};
 ghost use Rattle.rules.specs.Words.{ascending, put as putBy};
 ghost use Rattle.rules.specs.Register.{StatisticsTable, Terms, State, statistics_of};

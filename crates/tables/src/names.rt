@@ -4,7 +4,7 @@ ghost use Rattle.rules.specs.Names.{is_main, name_below};
 ghost use Rattle.rules.specs.Layout.{read_name};
 ghost use Rattle.tables.specs.Laid.{LaidName};
 
-use primitives::names::{is_main, name_below_lem};
+use primitives::names::{is_main, name_below};
 use records::text::Name;
 
 pub fn name_is_below(a: Name, b: Name) -> bool
@@ -16,7 +16,7 @@ pub fn name_is_below(a: Name, b: Name) -> bool
     let n = b.len;
     let x = a.bytes;
     let y = b.bytes;
-    name_below_lem(&x[..m], &y[..n])
+    name_below(&x[..m], &y[..n])
 }
 
 pub fn is_main_name(a: Name) -> bool

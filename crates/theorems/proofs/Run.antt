@@ -66,7 +66,7 @@ alike : {m m' : TableMetadata} {us us' : UpdateList} {t t' : RunTerms} {l l' : L
 alike p q r s = rw (p, q, r, s)
 
 -- `run` asks nothing: any arguments are allowed
-pub run_asks_nothing : AsksNothing signature (λ M. spec)
+pub run_asks_nothing : AsksNothing signature (λ M 𝓤. spec)
 run_asks_nothing M 𝓤 𝓛 mem run κs a = (tt, id⊢ 𝓤 (emp 𝓤))
 
 -- any two answers that the contract allows for equal arguments are equal

@@ -3,3 +3,4 @@
 // neither a row id nor a fresh field id is given out twice, what an office leaves of the other's, and what the list of an expiry answers and leaves;
 // this last also of the entry points `expiring_updates` and `run` one after the other.
 // This crate has no code; its theorems stand in proofs/.
+#![tactic(auto)]

@@ -106,7 +106,7 @@ fn read_signed(input: &mut Input, place: &mut Place, half: u64) -> i64
 }
 
 // The number of an i64 field that a token is; 0 if it is none.
-#[derive(Drop)]
+#[derive(Clone, Copy)]
 pub struct Signed {
     pub is_number: bool,
     pub number: i64,

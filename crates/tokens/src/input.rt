@@ -1,5 +1,5 @@
 // An input, a buffer at a time: a lent array that reads of a file fill, or that holds a whole text, and the reader's place in it.
-use crate::number::absolute;
+use crate::source::{Source, read};
 use std::num::wrapping_add_usize;
 
 pub const INPUT: usize = 16384;
@@ -8,7 +8,11 @@ pub type Input = [u8; INPUT];
 
 // The reader's place: where it reads, in which state, and at which number of which piece (a run, a question, a case) it is. At the first fault
 // all but the buffer's counts stays as it is, so that the fault can be told. Nothing bounds the counts, so they are added modulo 2^64.
-pub type Place = [usize; 11];
+#[derive(Drop)]
+pub struct Place {
+    counts: [usize; 10],
+    source: Source,
+}
 
 // The next byte of the buffer.
 const AT: usize = 0;
@@ -38,12 +42,6 @@ const WANTED: usize = 8;
 
 const BOUND: usize = 9;
 
-// The descriptor of the file that is read.
-const SOURCE: usize = 10;
-
-// No file has a descriptor from here on.
-const DESCRIPTORS: usize = 1 << 31;
-
 const READING: usize = 0;
 
 const ENDED: usize = 1;
@@ -53,7 +51,7 @@ const FAILED: usize = 2;
 
 const BAD: usize = 3;
 
-#[derive(Drop)]
+#[derive(Clone, Copy)]
 pub enum Next {
     Byte(u8),
     End,
@@ -63,20 +61,31 @@ pub fn empty_input() -> Input {
     [0; INPUT]
 }
 
-// The place at the beginning of a file that is open for reading, whose descriptor is not below 0.
-pub fn start(descriptor: i32) -> Place {
-    let mut place = [0; 11];
-    place[SOURCE] = absolute(descriptor as i64) as usize;
-    place
+// The place at the beginning of what is open for reading. It is closed where the place is let go.
+pub fn start(source: Source) -> Place {
+    Place {
+        counts: [0; 10],
+        source,
+    }
+}
+
+// The beginning again, of what is open there already and was not read.
+pub fn restart(place: &mut Place) {
+    place.counts = [0; 10];
+}
+
+// What was read there is closed, and nothing is read from then on.
+pub fn close(place: &mut Place) {
+    place.source = Source::Nothing;
 }
 
 // A text in the place of a file: this byte after those that are held already. What has no room is left out.
 fn hold(input: &mut Input, place: &mut Place, byte: u8) {
-    let at = place[FILLED];
-    place[STATE] = ENDED;
+    let at = place.counts[FILLED];
+    place.counts[STATE] = ENDED;
     if at < INPUT {
         input[at] = byte;
-        place[FILLED] = at + 1;
+        place.counts[FILLED] = at + 1;
     }
 }
 
@@ -96,54 +105,54 @@ pub fn hold_line(input: &mut Input, place: &mut Place, lines: &[u8], line: usize
 }
 
 pub fn is_good(place: &Place) -> bool {
-    place[STATE] < FAILED
+    place.counts[STATE] < FAILED
 }
 
 // What was wanted of the number that was read last. The first fault stays.
 pub fn spoil(place: &mut Place, wanted: usize, bound: u64) {
     if is_good(place) {
-        place[STATE] = BAD;
-        place[WANTED] = wanted;
-        place[BOUND] = bound as usize;
+        place.counts[STATE] = BAD;
+        place.counts[WANTED] = wanted;
+        place.counts[BOUND] = bound as usize;
     }
 }
 
 // Whether every byte that was read so far is used: the next one may have to be waited for.
 pub fn is_used_up(place: &Place) -> bool {
-    place[AT] >= place[FILLED]
+    place.counts[AT] >= place.counts[FILLED]
 }
 
 pub fn begin_piece(place: &mut Place) {
-    place[PIECE] = wrapping_add_usize(place[PIECE], 1);
-    place[NUMBER] = 0;
+    place.counts[PIECE] = wrapping_add_usize(place.counts[PIECE], 1);
+    place.counts[NUMBER] = 0;
 }
 
 pub fn begin_number(place: &mut Place) {
     if is_good(place) {
-        place[NUMBER] = wrapping_add_usize(place[NUMBER], 1);
-        place[BEGUN] = 0;
-        place[ODD] = 0;
+        place.counts[NUMBER] = wrapping_add_usize(place.counts[NUMBER], 1);
+        place.counts[BEGUN] = 0;
+        place.counts[ODD] = 0;
     }
 }
 
 // The byte that was read last is one of the number.
 pub fn note(place: &mut Place, byte: u8, is_odd: bool) {
-    if place[BEGUN] == 0 {
-        place[BEGUN] = wrapping_add_usize(place[BEFORE], place[AT]);
+    if place.counts[BEGUN] == 0 {
+        place.counts[BEGUN] = wrapping_add_usize(place.counts[BEFORE], place.counts[AT]);
     }
-    if is_odd && place[ODD] == 0 {
-        place[ODD] = byte as usize + 1;
+    if is_odd && place.counts[ODD] == 0 {
+        place.counts[ODD] = byte as usize + 1;
     }
 }
 
 // Which piece is read, counted from 1.
 pub fn piece_of(place: &Place) -> usize {
-    place[PIECE]
+    place.counts[PIECE]
 }
 
 // Whether nothing stands before the number that was read last.
 pub fn is_first(place: &Place) -> bool {
-    place[PIECE] <= 1 && place[NUMBER] <= 1
+    place.counts[PIECE] <= 1 && place.counts[NUMBER] <= 1
 }
 
 // What is there in the place of what was wanted.
@@ -156,13 +165,13 @@ pub const A_BYTE: usize = 2;
 pub const NO_INPUT: usize = 3;
 
 fn found(place: &Place) -> usize {
-    if place[STATE] == FAILED {
+    if place.counts[STATE] == FAILED {
         return NO_INPUT;
     }
-    if place[BEGUN] == 0 {
+    if place.counts[BEGUN] == 0 {
         return THE_END;
     }
-    if place[ODD] == 0 {
+    if place.counts[ODD] == 0 {
         return SOMETHING;
     }
     A_BYTE
@@ -170,14 +179,17 @@ fn found(place: &Place) -> usize {
 
 // The byte with which the number begins; where there is none, the one after the last.
 fn byte_at(place: &Place) -> usize {
-    if place[BEGUN] > 0 {
-        return place[BEGUN];
+    if place.counts[BEGUN] > 0 {
+        return place.counts[BEGUN];
     }
-    wrapping_add_usize(wrapping_add_usize(place[BEFORE], place[AT]), 1)
+    wrapping_add_usize(
+        wrapping_add_usize(place.counts[BEFORE], place.counts[AT]),
+        1,
+    )
 }
 
 // The first fault of an input: where it is, what was wanted there, and what is there instead.
-#[derive(Drop)]
+#[derive(Clone, Copy)]
 pub struct Fault {
     pub piece: usize,
     pub number: usize,
@@ -190,54 +202,44 @@ pub struct Fault {
 
 pub fn fault_of(place: &Place) -> Fault {
     Fault {
-        piece: place[PIECE],
-        number: place[NUMBER],
+        piece: place.counts[PIECE],
+        number: place.counts[NUMBER],
         byte: byte_at(place),
-        wanted: place[WANTED],
-        bound: place[BOUND],
+        wanted: place.counts[WANTED],
+        bound: place.counts[BOUND],
         found: found(place),
-        odd: place[ODD],
-    }
-}
-
-fn descriptor_of(place: &Place) -> i32 {
-    let source = place[SOURCE];
-    if source < DESCRIPTORS {
-        source as i32
-    } else {
-        -1
+        odd: place.counts[ODD],
     }
 }
 
 fn refill(input: &mut Input, place: &mut Place) {
     let bytes: &mut [u8] = input;
-    let got = libc::read(descriptor_of(place), bytes);
-    place[BEFORE] = wrapping_add_usize(place[BEFORE], place[FILLED]);
-    place[AT] = 0;
-    place[FILLED] = io::count(got, bytes);
-    if got < 0 {
-        place[STATE] = FAILED;
-    }
-    if got == 0 {
-        place[STATE] = ENDED;
+    let got = read(&mut place.source, bytes);
+    place.counts[BEFORE] = wrapping_add_usize(place.counts[BEFORE], place.counts[FILLED]);
+    place.counts[AT] = 0;
+    place.counts[FILLED] = got.count;
+    if got.is_failed {
+        place.counts[STATE] = FAILED;
+    } else if got.count == 0 {
+        place.counts[STATE] = ENDED;
     }
 }
 
 // Nothing is carried from call to call about how much is filled, so the end of the buffer is tested too.
 pub fn next_byte(input: &mut Input, place: &mut Place) -> Next {
-    if place[STATE] == READING && is_used_up(place) {
+    if place.counts[STATE] == READING && is_used_up(place) {
         refill(input, place);
     }
-    let at = place[AT];
+    let at = place.counts[AT];
     if !is_good(place) {
         return Next::End;
     }
-    if at >= place[FILLED] {
+    if at >= place.counts[FILLED] {
         return Next::End;
     }
     if at >= INPUT {
         return Next::End;
     }
-    place[AT] = at + 1;
+    place.counts[AT] = at + 1;
     Next::Byte(input[at])
 }

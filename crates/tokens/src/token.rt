@@ -6,7 +6,7 @@ use crate::input::{Input, Next, Place, begin_number, next_byte, note};
 
 // A token as far as it has been read. It is a number so far if every byte may stand where it stands and the magnitude is at most
 // 2^64 - 1: a larger one fits no field.
-#[derive(Drop)]
+#[derive(Clone, Copy)]
 pub struct Token {
     pub is_begun: bool,
     pub is_negative: bool,
@@ -35,7 +35,7 @@ fn is_separator(byte: u8) -> bool
     byte == b' ' || byte == b'\n'
 }
 
-fn is_digit_lem(byte: u8) -> bool
+fn is_digit(byte: u8) -> bool
     ensures { result ≡ is_digit byte }
 {
     b'0' <= byte && byte <= b'9'
@@ -54,7 +54,7 @@ fn has_room(magnitude: u64, digit: u64) -> bool
     magnitude <= (u64::MAX - digit) / 10
 }
 
-fn no_number_lem(token: Token) -> Token
+fn no_number(token: Token) -> Token
     ensures { result ≡ no_number token }
 {
     let mut t = token;
@@ -68,7 +68,7 @@ fn with_digit(token: Token, digit: u64) -> Token
 {
     let magnitude = token.magnitude;
     if !has_room(magnitude, digit) {
-        return no_number_lem(token);
+        return no_number(token);
     }
     let mut t = token;
     t.is_begun = true;
@@ -81,7 +81,7 @@ fn with_minus(token: Token) -> Token
     ensures { result ≡ with_minus token }
 {
     if token.is_begun {
-        return no_number_lem(token);
+        return no_number(token);
     }
     let mut t = token;
     t.is_begun = true;
@@ -92,13 +92,13 @@ fn with_minus(token: Token) -> Token
 fn with_byte(token: Token, byte: u8) -> Token
     ensures { result ≡ with_byte token byte }
 {
-    if is_digit_lem(byte) {
+    if is_digit(byte) {
         return with_digit(token, wide(byte - b'0'));
     }
     if byte == b'-' {
         return with_minus(token);
     }
-    no_number_lem(token)
+    no_number(token)
 }
 
 // Whether the byte stands in no number.

@@ -2,6 +2,8 @@
 // walks made again and again, to time them; and the date of a time. Each is read, and its answer written in numbers.
 // Nothing is refused but what can not be read.
 // The page of the case format decides.
+#![tactic(auto)]
+
 use expiries::asked::EXPIRY;
 use file_cases::export::EXPORT;
 use file_cases::import::IMPORT;

@@ -7,6 +7,7 @@ use plaintext::text::say;
 use records::capacities::OFFERS;
 use slot_bounds::{lent, with_slots};
 use tokens::output::Output;
+use tokens::source::{Source, read as read_next};
 
 // How many bytes are held, and the room for them and for a part behind them.
 const HELD: usize = 131072;
@@ -23,17 +24,17 @@ const NO_LIST: u8 = 255;
 
 // One more part: an empty one at the end of the file, and where it can not be read.
 fn read_part(
-    descriptor: i32,
+    source: &mut Source,
     part: &mut [u8],
     length: &mut usize,
     reader: Reader,
     offers: &mut [u8; OFFERS],
 ) -> Reader {
     let before = reader.before;
-    let got = libc::read(descriptor, part);
-    let count = io::count(got, part);
+    let got = read_next(source, part);
+    let count = got.count;
     *length = before;
-    if got < 0 {
+    if got.is_failed {
         *length = UNREAD;
         return reader;
     }
@@ -46,7 +47,7 @@ fn read_part(
 
 // The parts are counted since nothing says that a file ends.
 fn read_parts(
-    descriptor: i32,
+    source: &mut Source,
     text: &mut [u8],
     length: &mut usize,
     offers: &mut [u8; OFFERS],
@@ -57,7 +58,7 @@ fn read_parts(
         let before = reader.before;
         let from = with_slots(with_slots(before, HELD), text.len());
         left -= 1;
-        reader = read_part(descriptor, &mut text[from..], length, reader, offers);
+        reader = read_part(source, &mut text[from..], length, reader, offers);
         if *length == before || *length == UNREAD {
             left = 0;
         }
@@ -67,7 +68,7 @@ fn read_parts(
 
 // The list, or its refusal, which is told: where it is, and why.
 pub fn read(
-    descriptor: i32,
+    source: &mut Source,
     name: &[u8],
     offers: &mut [u8; OFFERS],
     output: &mut Output,
@@ -75,7 +76,7 @@ pub fn read(
 ) -> Answer {
     let mut text = [0u8; ROOM];
     let mut length = 0;
-    let mut answer = read_parts(descriptor, &mut text, &mut length, offers);
+    let mut answer = read_parts(source, &mut text, &mut length, offers);
     let number = answer.number as usize;
     if length == UNREAD {
         answer.number = NO_LIST;

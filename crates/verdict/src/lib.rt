@@ -1,5 +1,7 @@
 // The auditor's first question: whether a stored log leads from a starting metadata to an ending one, and if not, what stands in the way.
 // Nothing is refused: any metadata, log, terms, limit text, offers and ending get a verdict.
+#![tactic(auto)]
+
 ghost use Rattle.std.specs.Prelude.{◌≡◌};
 ghost use Rattle.verdict.specs.Judged.{judged, leads_there, verdict};
 
@@ -10,7 +12,7 @@ use records::run::{Answer, RunTerms};
 use records::update::UpdateList;
 
 // The number and the place of the run's answer, and where its metadata first differs from the ending one; a refused run's is not compared.
-#[derive(Drop)]
+#[derive(Clone, Copy)]
 pub struct Verdict {
     pub number: u8,
     pub place: usize,

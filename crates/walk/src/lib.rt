@@ -1,6 +1,8 @@
 // Ancestor walks: the ids from a snapshot to its oldest held ancestor, or to an excluded one, written to a lent buffer.
 // Refuses bad lists with 1, a snapshot met twice with 24 and a short buffer with 25; nothing is written then.
 // Document 01 decides, as the crate `rules` writes it in Walk.
+#![tactic(auto)]
+
 ghost use Rattle.std.specs.Prelude.{◌≡◌, length};
 ghost use Rattle.rules.specs.Layout.{given};
 ghost use Rattle.rules.specs.Walk.{Listed, ancestors, walk_buffer};
@@ -15,7 +17,7 @@ mod lists;
 mod step;
 
 // The number is 0, 1, 24 or 25; the count is that of the ids written.
-#[derive(Drop)]
+#[derive(Clone, Copy)]
 pub struct Walked {
     pub number: u8,
     pub count: usize,

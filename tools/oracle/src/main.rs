@@ -33,8 +33,11 @@ oracle pick --count K < CASES
 oracle differences [--cases]
 oracle bench [--kinds] [--program PROGRAM]";
 
-/// The program, where `rt check soritauba` puts it.
-const PROGRAM: &str = concat!(env!("CARGO_MANIFEST_DIR"), "/../../target/bin/soritauba");
+/// The program, where `rt run` puts it.
+const PROGRAM: &str = concat!(
+    env!("CARGO_MANIFEST_DIR"),
+    "/../../crates/soritauba/out/soritauba"
+);
 
 fn main() -> ExitCode {
     published::number::quiet_attempts();

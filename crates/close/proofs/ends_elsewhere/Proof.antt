@@ -45,16 +45,14 @@ pub ends_elsewhere_spec : {M : Type 1} → statement M
 ends_elsewhere_spec =
     tie.close
     (tie.spec
-    (λ c. let a = c.before.before.before.args in
-    sym (not_rebuilt a.h a.f c.if1.true))
-    (λ c. let a = c.before.before.before.before.args in
-    sym (none_current a.h a.f c.before.if1.false c.if2.true))
-    (λ c. let s = c.before.before.before.before.before in
-    sym (by_last s.args.h s.args.f c.before.before.if1.false none c.before.if2.false (none_last (entries s.args.h s.args.f) (read_length (tidy_snapshot_log s.requires) ∙ c.if3.true))))
+    (λ c. let a = c.args in
+    sym (not_rebuilt a.h a.f c.if-not-rebuilt.true-raw))
+    (λ c. let a = c.args in
+    sym (none_current a.h a.f c.if-not-rebuilt.false-raw c.if-not-set.true-raw))
+    (λ c. sym (by_last c.args.h c.args.f c.if-not-rebuilt.false-raw none c.if-not-set.false-raw (none_last (entries c.args.h c.args.f) (read_length (tidy_snapshot_log c.requires) ∙ c.if-n-eq0.true))))
     (λ c. search rules)
-    (λ c. omega (arith, within (tidy_snapshot_log c.before.before.before.before.before.requires)))
-    (λ c. omega (arith, within (tidy_snapshot_log c.before.before.before.before.before.requires)))
+    (λ c. omega (arith, within (tidy_snapshot_log c.requires)))
+    (λ c. omega (arith, within (tidy_snapshot_log c.requires)))
     (λ c κs. search rules)
     (λ c. let k = c.before.before.before in
-    let s = k.before.before.before.before.before in
-    ap not c.same-snapshot.ensures ∙ sym (by_last s.args.h s.args.f k.before.before.if1.false _ k.before.if2.false (last_read (tidy_snapshot_log s.requires) _ (omega arith)))))
+    ap not c.same_snapshot.ensures ∙ sym (by_last k.args.h k.args.f k.if-not-rebuilt.false-raw _ k.if-not-set.false-raw (last_read (tidy_snapshot_log k.requires) _ (omega arith)))))

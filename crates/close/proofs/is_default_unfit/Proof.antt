@@ -11,8 +11,8 @@ is_default_unfit_spec =
     tie.close
     (tie.spec
     (λ c κs. (c.requires.1.0, c.requires.1.1))
-    (λ c κs. (c.get.ensures.1, c.before.requires.0))
-    (λ c p q r o. c.is-unfit.ensures
+    (λ c κs. (c.get-o.ensures.1, c.requires.0))
+    (λ c p q r o. c.is_unfit.ensures
     ∙ unfit_is p _ _
     r
-    ((λ i. first (has_order (sym q i).default_order) (sym o i)) ∙ c.before.get.ensures.0)))
+    ((λ i. first (has_order (sym q i).default_order) (sym o i)) ∙ c.get-o.ensures.0)))

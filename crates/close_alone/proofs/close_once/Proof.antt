@@ -47,41 +47,41 @@ module _ (c : tie.Start) where
         removes = cases second (λ t. rw t) (λ f. rw f);
       }
 
-module _ (c : tie.After-surplus) where
+module _ (c : tie.After-surplus-gone) where
   abbrev start : tie.Start
-  start = c.before.before.before.before.before.before.before
+  start = c.before.before.before.before.before.before.before.before
 
-  gone_within : c.surplus.result ≤ start.args.m.metadata_log.count
-  gone_within = gone_fits (E start) c.before.limit.ensures c.surplus.ensures
+  gone_within : c.surplus-gone.result ≤ start.args.m.metadata_log.count
+  gone_within = gone_fits (E start) c.limit-most.ensures c.surplus-gone.ensures
 
-module _ (c : tie.After-close-number) where
-  abbrev filing : tie.After-surplus
-  filing = c.before.before.before
+module _ (c : tie.After-close_number-number) where
+  abbrev filing : tie.After-surplus-gone
+  filing = c.before.before.before.before.before.before.before.before
 
-  numbered : c.close-number.result ≡ first_of (checks (E (start filing)))
+  numbered : c.close_number-number.result ≡ first_of (checks (E (start filing)))
   numbered =
       let s = start filing in
       let e = E s in
-      c.close-number.ensures (terms_of (asked s.args.m s.args.terms s.args.text.now)) (log s) (now_state s).metadata (filing.before.before.close-log.ensures.0 (log s) (now_state s).metadata (told s)) (handed e c.before.get.result (current_is e c.before.get.result c.before.get.ensures.0))
-      (overfull_is e filing.before.limit.ensures filing.surplus.ensures c.before.before.is-overfull.ensures)
+      c.close_number-number.ensures (terms_of (asked s.args.m s.args.terms s.args.text.now)) (log s) (now_state s).metadata (filing.close_log-history.ensures.0 (log s) (now_state s).metadata (told s)) (handed e c.get-schema.result (current_is e c.get-schema.result c.get-schema.ensures.0))
+      (overfull_is e filing.limit-most.ensures filing.surplus-gone.ensures c.is_overfull-overfull.ensures)
 
 pub close_once_spec : {M : Type 1} → statement M
 close_once_spec =
     tie.close
     (tie.spec
     (λ c κs. search rules)
-    (λ c κs. let s = c.before.before.before.before in (laid_log (E s), rw s.requires.1.0 (ids_ascend (read_snapshots s.args.m.snapshots) (snapshots_ascend (E s)))))
+    (λ c κs. let s = c.before.before.before.before.before in (laid_log (E s), rw s.requires.1.0 (ids_ascend (read_snapshots s.args.m.snapshots) (snapshots_ascend (E s)))))
     (λ c κs. search rules)
-    (λ c κs. files_fit (E c.before.before.before.before.before.before))
+    (λ c κs. files_fit (E c.before.before.before.before.before.before.before))
     (λ c κs. (files_fit (E (start c)), gone_within c))
-    (λ c κs. let e = E (start c.before) in (laid_schemas_lem e, schema_held e))
-    (λ c κs. let e = E (start c.before.before) in (c.before.before.before.before.close-log.ensures.1, (laid_refs_lem e, (c.get.ensures.1, (laid_orders e, (order_held e, (laid_specs e, spec_held e)))))))
+    (λ c κs. let e = E (start c.before.before.before) in (laid_schemas_lem e, schema_held e))
+    (λ c κs. let e = E (start c.before.before.before.before.before.before.before) in (c.close_log-history.ensures.1, (laid_refs_lem e, (c.get-schema.ensures.1, (laid_orders e, (order_held e, (laid_specs e, spec_held e)))))))
     (λ c κs. search rules)
     (λ c. search rules)
-    (λ c κs. let f = filing c.before in (files_laid (E (start f)), (search rules, gone_within f)))
-    (λ c κs. let n = c.before.before in
+    (λ c κs. let f = filing c.before.before in (files_laid (E (start f)), (search rules, gone_within f)))
+    (λ c κs. let n = c.before.before.before.before.before in
     let f = filing n in
-    (files_laid (E (start f)), (gone_within f, joins_fit (E (start f)) f.before.limit.ensures f.surplus.ensures (sym (numbered n) ∙ c.before.if1.false))))
+    (files_laid (E (start f)), (gone_within f, joins_fit (E (start f)) f.limit-most.ensures f.surplus-gone.ensures (sym (numbered n) ∙ c.if-number-ne-ACCEPTED.false))))
     (λ c κs. search rules)
     (λ c κs. search rules)
     (λ c. search rules))

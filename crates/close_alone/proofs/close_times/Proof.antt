@@ -13,24 +13,24 @@ use Rattle.close_alone.proofs.Before.{asked}
 use Rattle.close_alone.proofs.close_times.Statement.{statement}
 use Rattle.close_alone.proofs.close_times.Tie as tie
 
-abbrev invariant_loop : tie.invariant_loop
+abbrev invariant_loop : tie.invariant-loop-left
 invariant_loop times m terms text held ids none closed₀ left₀ closed left = Unit {0}
 
-abbrev decreases_loop : tie.decreases_loop
+abbrev decreases_loop : tie.decreases-loop-left
 decreases_loop times m terms text held ids none closed₀ left₀ closed left = left
 
-module _ (c : tie.After-ids-of invariant_loop decreases_loop) where
+module _ (c : tie.After-ids_of-ids invariant_loop decreases_loop) where
   abbrev start : tie.Start invariant_loop decreases_loop
-  start = c.before.before
+  start = c.before.before.before
 
   abbrev held : List plain.Snapshot
   held = read_snapshots start.args.m.snapshots
 
   table : LaidSnapshots start.args.m.snapshots
-  table = start_snapshots (asked start.args.m start.args.terms start.args.text.now) start.pre
+  table = start_snapshots (asked start.args.m start.args.terms start.args.text.now) start.requires
 
-  ids : c.ids-of.result ≡ pad 64 (pos 0) (ids_of held)
-  ids = c.ids-of.ensures table
+  ids : c.ids_of-ids.result ≡ pad 64 (pos 0) (ids_of held)
+  ids = c.ids_of-ids.ensures table
 
 pub close_times_spec : {M : Type 1} → statement M
 close_times_spec =
@@ -41,7 +41,7 @@ close_times_spec =
     (λ c κs. search rules)
     (λ c κs. search rules)
     (λ c. tt)
-    (λ c. let t = c.before.before.before in lent_within (held t) (sym (table t).back) (ids t) (table t).ranges)
+    (λ c. let t = c.before.before.before in lent_within (held t) (sym (table t).back) (ids t) (table t).fits)
     (λ c. let t = c.before.before.before.before in lent_slice (held t) (sym (table t).back) (ids t))
     (λ c. search rules)
     (λ c. search rules)

@@ -27,25 +27,24 @@ first_difference_spec =
     (λ c κs. search rules)
     (λ c κs. search rules)
     (λ c κs. search rules)
-    (λ c. let l = c.before.before.before.before.before in let o = l.before.before in let s = o.before.before in let p = s.before.before in
-    rw (
-      c.compare-fields.ensures,
-      c.before.compare-snapshots.ensures,
-      c.before.before.compare-refs.ensures,
-      c.before.before.before.compare-snapshot-log.ensures,
-      c.before.before.before.before.compare-metadata-log.ensures,
-      l.compare-schemas.ensures,
-      l.before.unless4.ensures,
-      o.compare-sort-orders.ensures,
-      o.before.unless3.ensures,
-      s.compare-statistics2.ensures,
-      s.before.compare-statistics.ensures,
+    (λ c. let l = c.before.before.before.before.before in let o = l.before.before in let s = o.before.before in rw (
+      c.compare_fields.ensures,
+      c.compare_snapshots-from_snapshots.ensures,
+      c.compare_refs-from_refs.ensures,
+      c.compare_snapshot_log-from_log.ensures,
+      c.compare_metadata_log-from_files.ensures,
+      l.compare_schemas-from_schemas.ensures,
+      l.unless-from_schema.ensures,
+      o.compare_sort_orders-from_orders.ensures,
+      o.unless-from_order.ensures,
+      s.compare_statistics-from_statistics.ensures,
+      s.compare_statistics-from_partition.ensures,
     ) (rw (
-      p.compare-partition-specs.ensures,
-      p.before.unless2.ensures,
-      p.before.before.unless.ensures,
-      p.before.before.before.same-schema.ensures,
-      p.before.before.before.before.same-order.ensures,
-      p.before.before.before.before.before.same_spec.ensures,
-      p.before.before.before.before.before.before.same-field.ensures,
+      s.compare_partition_specs-from_specs.ensures,
+      s.unless-from_spec.ensures,
+      s.unless-from_last_partition.ensures,
+      s.same_schema-schema.ensures,
+      s.same_order-order.ensures,
+      s.same_spec-spec.ensures,
+      s.same_field-last_partition.ensures,
     ))))

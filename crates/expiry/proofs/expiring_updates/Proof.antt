@@ -34,8 +34,8 @@ unfolding laid_expiry
 accepted_with e q i = record { number = accepted; updates = (e ∙ ap laid_updates q) i }
 
 -- where the first checks pass
-module _ (c : tie.Else1) where
-  abbrev k : tie.After-start-number
+module _ (c : tie.Else-number-ne-ACCEPTED) where
+  abbrev k : tie.After-start_number-number
   k = c.before
 
   abbrev a : tie.Start
@@ -48,17 +48,17 @@ module _ (c : tie.Else1) where
   p = a.args.policy
 
   formed : (is_tidy_metadata m && metadata_formed (read_metadata m)) ≡ true
-  formed = passed_first m p k.before.is-formed.ensures k.start-number.ensures c.if1.false
+  formed = passed_first m p k.is_formed.ensures k.start_number-number.ensures c.if-number-ne-ACCEPTED.false
 
 -- and it is asked what is found
-module _ (c : tie.After-findings) where
-  abbrev o : tie.Else1
+module _ (c : tie.After-findings-found) where
+  abbrev o : tie.Else-number-ne-ACCEPTED
   o = c.before
 
-  found : c.findings.result ≡ found_of (read_policy (p o)) (read_metadata (m o))
-  found = c.findings.ensures (read_metadata (m o)) (record { named = refl; held = refl; history = refl })
+  found : c.findings-found.result ≡ found_of (read_policy (p o)) (read_metadata (m o))
+  found = c.findings-found.ensures (read_metadata (m o)) (record { named = refl; held = refl; history = refl })
 
-  cycles : c.findings.result.cyclic ≡ is_cyclic (read_policy (p o)) (read_metadata (m o))
+  cycles : c.findings-found.result.cyclic ≡ is_cyclic (read_policy (p o)) (read_metadata (m o))
   cycles = found_cyclic (read_policy (p o)) (read_metadata (m o)) found
 
 pub expiring_updates_spec : {M : Type 1} → statement M
@@ -69,14 +69,13 @@ expiring_updates_spec =
     (λ c κs. search rules)
     (λ c κs. search rules)
     (λ c. let k = c.before.before in
-    let a = k.before.before.before.before.before in
-    answered a.args.metadata a.args.policy c.refused.ensures (refused_first a.args.metadata a.args.policy k.before.is-formed.ensures k.start-number.ensures c.before.if1.true))
+    answered k.args.metadata k.args.policy c.refused.ensures (refused_first k.args.metadata k.args.policy k.is_formed.ensures k.start_number-number.ensures c.if-number-ne-ACCEPTED.true))
     (λ c κs. (refs_laid (m c) (formed c), (snapshots_laid (m c) (formed c), (snapshots_ascend (m c) (formed c), log_laid (m c) (formed c)))))
     (λ c κs. search rules)
     (λ c. let f = c.before.before in
-    answered (m (o f)) (p (o f)) c.refused2.ensures (refused_last (m (o f)) (p (o f)) (k (o f)).before.is-formed.ensures (k (o f)).start-number.ensures (o f).if1.false (sym (cycles f) ∙ c.before.if2.true)))
-    (λ c κs. let b = o c.before in (refs_laid (m b) (formed b), snapshots_laid (m b) (formed b)))
-    (λ c. let f = c.before.before in
+    answered (m (o f)) (p (o f)) c.refused-then-found.ensures (refused_last (m (o f)) (p (o f)) (k (o f)).is_formed.ensures (k (o f)).start_number-number.ensures (o f).if-number-ne-ACCEPTED.false (sym (cycles f) ∙ c.if-found.true)))
+    (λ c κs. let b = o c.before.before in (refs_laid (m b) (formed b), snapshots_laid (m b) (formed b)))
+    (λ c. let f = c.before.before.before in
     let q = ap (λ (r : Reasons). list_of (refs_going r.goes (read_refs (m (o f)).refs)) (snapshot_ids (snapshots_going r.stays (read_snapshots (m (o f)).snapshots)))) (found_reasons (read_policy (p (o f))) (read_metadata (m (o f))) (found f)) in
-    answered (m (o f)) (p (o f)) (accepted_with c.list-of.ensures (q ∙ list_so (read_policy (p (o f))) (read_metadata (m (o f)))))
-    (not_refused (m (o f)) (p (o f)) (k (o f)).before.is-formed.ensures (k (o f)).start-number.ensures (o f).if1.false (sym (cycles f) ∙ c.before.if2.false))))
+    answered (m (o f)) (p (o f)) (accepted_with c.list_of-updates.ensures (q ∙ list_so (read_policy (p (o f))) (read_metadata (m (o f)))))
+    (not_refused (m (o f)) (p (o f)) (k (o f)).is_formed.ensures (k (o f)).start_number-number.ensures (o f).if-number-ne-ACCEPTED.false (sym (cycles f) ∙ c.if-found.false))))

@@ -29,8 +29,8 @@ module _ (m : TableMetadata) (p : Policy) {x : made.Expiry} (q : ruled m p ≡ x
   all_given_lem f h = h ∙ sym (rw (q, eq-eqb x.number accepted f))
 
 -- where the first checks pass
-module _ (c : tie.Else1) where
-  abbrev k : tie.After-start-number
+module _ (c : tie.Else-number-ne-ACCEPTED) where
+  abbrev k : tie.After-start_number-number
   k = c.before
 
   abbrev a : tie.Start
@@ -43,17 +43,17 @@ module _ (c : tie.Else1) where
   p = a.args.policy
 
   formed : (is_tidy_metadata m && metadata_formed (read_metadata m)) ≡ true
-  formed = passed_first m p k.before.is-formed.ensures k.start-number.ensures c.if1.false
+  formed = passed_first m p k.is_formed.ensures k.start_number-number.ensures c.if-number-ne-ACCEPTED.false
 
 -- and it is asked what is found
-module _ (c : tie.After-findings) where
-  abbrev o : tie.Else1
+module _ (c : tie.After-findings-found) where
+  abbrev o : tie.Else-number-ne-ACCEPTED
   o = c.before
 
-  found : c.findings.result ≡ found_of (read_policy (p o)) (read_metadata (m o))
-  found = c.findings.ensures (read_metadata (m o)) (record { named = refl; held = refl; history = refl })
+  found : c.findings-found.result ≡ found_of (read_policy (p o)) (read_metadata (m o))
+  found = c.findings-found.ensures (read_metadata (m o)) (record { named = refl; held = refl; history = refl })
 
-  cycles : c.findings.result.cyclic ≡ is_cyclic (read_policy (p o)) (read_metadata (m o))
+  cycles : c.findings-found.result.cyclic ≡ is_cyclic (read_policy (p o)) (read_metadata (m o))
   cycles = found_cyclic (read_policy (p o)) (read_metadata (m o)) found
 
 pub reasons_spec : {M : Type 1} → statement M
@@ -64,11 +64,10 @@ reasons_spec =
     (λ c κs. search rules)
     (λ c κs. search rules)
     (λ c. let k = c.before.before in
-    let a = k.before.before.before.before.before in
-    none_given a.args.metadata a.args.policy (refused_first a.args.metadata a.args.policy k.before.is-formed.ensures k.start-number.ensures c.before.if1.true) c.before.if1.true c.blank.ensures)
+    none_given k.args.metadata k.args.policy (refused_first k.args.metadata k.args.policy k.is_formed.ensures k.start_number-number.ensures c.if-number-ne-ACCEPTED.true) c.if-number-ne-ACCEPTED.true c.blank.ensures)
     (λ c κs. (refs_laid (m c) (formed c), (snapshots_laid (m c) (formed c), (snapshots_ascend (m c) (formed c), log_laid (m c) (formed c)))))
     (λ c κs. search rules)
     (λ c. let f = c.before.before in
-    none_given (m (o f)) (p (o f)) (refused_last (m (o f)) (p (o f)) (k (o f)).before.is-formed.ensures (k (o f)).start-number.ensures (o f).if1.false (sym (cycles f) ∙ c.before.if2.true)) (λ z. omega (arith, z)) c.blank2.ensures)
+    none_given (m (o f)) (p (o f)) (refused_last (m (o f)) (p (o f)) (k (o f)).is_formed.ensures (k (o f)).start_number-number.ensures (o f).if-number-ne-ACCEPTED.false (sym (cycles f) ∙ c.if-found.true)) (λ z. omega (arith, z)) c.blank-then-found.ensures)
     (λ c. let f = c.before.before in
-    all_given_lem (m (o f)) (p (o f)) (not_refused (m (o f)) (p (o f)) (k (o f)).before.is-formed.ensures (k (o f)).start-number.ensures (o f).if1.false (sym (cycles f) ∙ c.before.if2.false)) refl (found_reasons (read_policy (p (o f))) (read_metadata (m (o f))) (found f))))
+    all_given_lem (m (o f)) (p (o f)) (not_refused (m (o f)) (p (o f)) (k (o f)).is_formed.ensures (k (o f)).start_number-number.ensures (o f).if-number-ne-ACCEPTED.false (sym (cycles f) ∙ c.if-found.false)) refl (found_reasons (read_policy (p (o f))) (read_metadata (m (o f))) (found f))))

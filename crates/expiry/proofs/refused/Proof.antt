@@ -8,7 +8,7 @@ use Rattle.expiry.proofs.refused.Tie as tie
 
 returns : tie.Need-returns
 unfolding laid_expiry laid_updates no_updates
-returns c = rw c.blank.ensures
+returns c = rw c.blank-updates.ensures
 
 pub refused_spec : {M : Type 1} → statement M
 refused_spec = tie.close (tie.spec (λ c κs. search rules) returns)

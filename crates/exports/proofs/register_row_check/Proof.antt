@@ -14,4 +14,4 @@ plain r = record { number = r.number; next = r.next.0 }
 
 pub register_row_check_spec : {M : Type 1} → statement M
 unfolding rows_checked row_check
-register_row_check_spec = tie.close (tie.spec (λ c κs. search rules) (λ c. ap plain c.before.check-rows.ensures))
+register_row_check_spec = tie.close (tie.spec (λ c κs. search rules) (λ c. ap plain c.check_rows-checked.ensures))

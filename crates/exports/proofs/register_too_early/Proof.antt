@@ -9,4 +9,4 @@ register_too_early_spec =
     tie.close
     (tie.spec
     (λ c κs. search rules)
-    (λ c. rw (to_z-of_z c.before.ranges.time, to_z-of_z c.before.ranges.last, to_z-of_z c.before.ranges.tolerance) at c.is-before.ensures))
+    (λ c. rw (to_z-of_z c.ranges.time, to_z-of_z c.ranges.last, to_z-of_z c.ranges.tolerance) at c.is_before.ensures))

@@ -17,14 +17,14 @@ fine : (c : tie.Start) → FineParts c.args.m
 fine c = fine_parts c.args.m c.requires
 
 -- the keys are those of the table of snapshots
-held : (c : tie.After-refs-held) → let m = c.before.before.before.args.m in c.refs-held.result ≡ all (points_in (read_snapshots m.snapshots)) (read_refs m.refs)
+held : (c : tie.After-refs_held-held) → let m = c.args.m in c.refs_held-held.result ≡ all (points_in (read_snapshots m.snapshots)) (read_refs m.refs)
 unfolding snapshots_formed
 held c =
-    let s = c.before.before.before in
-    let k = c.before.snapshot-keys.ensures in
+    let s = c.before.before.before.before.before in
+    let k = c.snapshot_keys-snapshots.ensures in
     let f = (fine s).snapshots in
-    let t : c.before.snapshot-keys.result.formed ≡ true = k.order ∙ both f.0 f.1 in
-    c.refs-held.ensures ∙ ap (λ (q : plain.NamedRef → Bool). all q (read_refs s.args.m.refs)) (λ i x. found_in k t x.reference.snapshot i)
+    let t : c.snapshot_keys-snapshots.result.formed ≡ true = k.order ∙ both f.0 f.1 in
+    c.refs_held-held.ensures ∙ ap (λ (q : plain.NamedRef → Bool). all q (read_refs s.args.m.refs)) (λ i x. found_in k t x.reference.snapshot i)
 
 pub agreement_fault_spec : {M : Type 1} → statement M
 unfolding agreement_faults refs_held main_agrees current_schema_held default_order_held default_spec_held
@@ -32,11 +32,11 @@ agreement_fault_spec =
     tie.close
     (tie.spec
     (λ c κs. search rules)
-    (λ c κs. (refs_laid (fine c.before.before), c.snapshot-keys.ensures.few))
-    (λ c κs. refs_laid (fine c.before.before.before))
-    (λ c κs. schemas_laid (fine c.before.before.before.before))
-    (λ c κs. orders_laid (fine c.before.before.before.before.before))
-    (λ c κs. specs_laid (fine c.before.before.before.before.before.before))
+    (λ c κs. (refs_laid (fine c.before.before.before.before), c.snapshot_keys-snapshots.ensures.few))
+    (λ c κs. refs_laid (fine c.before.before.before.before.before.before))
+    (λ c κs. schemas_laid (fine c.before.before.before.before.before.before.before.before.before))
+    (λ c κs. orders_laid (fine c.before.before.before.before.before.before.before.before.before.before.before.before))
+    (λ c κs. specs_laid (fine c.before.before.before.before.before.before.before.before.before.before.before.before.before.before.before))
     (λ c κs. search rules)
     (λ c κs. search rules)
     (λ c κs. search rules)
@@ -44,14 +44,14 @@ agreement_fault_spec =
     (λ c κs. search rules)
     (λ c. let u = c.before.before.before.before.before in
     rw (
-      c.unless5.ensures,
-      c.before.unless4.ensures,
-      c.before.before.unless3.ensures,
-      c.before.before.before.unless2.ensures,
-      c.before.before.before.before.unless.ensures,
-      u.holds3.ensures,
-      u.before.holds2.ensures,
-      u.before.before.holds.ensures,
-      u.before.before.before.main-agrees.ensures,
-      held u.before.before.before.before,
+      c.unless.ensures,
+      c.unless-from_main.ensures,
+      c.unless-from_schema.ensures,
+      c.unless-from_order.ensures,
+      c.unless-from_spec.ensures,
+      u.holds-spec.ensures,
+      u.holds-order.ensures,
+      u.holds-schema.ensures,
+      u.main_agrees-agrees.ensures,
+      held u.before.before.before.before.before.before.before.before.before.before.before,
     )))

@@ -14,8 +14,8 @@ metadata_fault_spec =
     tie.close
     (tie.spec
     (λ c κs. search rules)
-    (λ c. let p = c.before.part-fault in let m = c.before.before.args.m in
-    p.ensures ∙ sym (first_before (part_faults m) (agreement_faults (read_metadata m)) (λ z. c.if1.true (p.ensures ∙ z))))
+    (λ c. let p = c.part_fault-own in let m = c.args.m in
+    p.ensures ∙ sym (first_before (part_faults m) (agreement_faults (read_metadata m)) (λ z. c.if-own-ne-NONE.true (p.ensures ∙ z))))
     (λ c κs. search rules)
-    (λ c. let p = c.before.before.part-fault in let m = c.before.before.before.args.m in
-    c.agreement-fault.ensures ∙ sym (first_after (part_faults m) (agreement_faults (read_metadata m)) (parts_numbered m) (sym p.ensures ∙ c.before.if1.false))))
+    (λ c. let p = c.part_fault-own in let m = c.args.m in
+    c.agreement_fault.ensures ∙ sym (first_after (part_faults m) (agreement_faults (read_metadata m)) (parts_numbered m) (sym p.ensures ∙ c.if-own-ne-NONE.false))))

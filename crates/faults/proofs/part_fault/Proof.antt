@@ -18,27 +18,26 @@ returns c =
     let t = o.before.before in
     let q = t.before.before in
     let p = q.before.before in
-    let u = p.before.before in
-    let m = u.before.args.m in
-    join (field_faults m.fields) (from_snapshots m) refl c.before.fields-fault.ensures
-    (join (snapshot_faults m.snapshots) (from_refs m) refl r.before.snapshots-fault.ensures
-    (join (ref_faults m.refs) (from_snapshot_log m) refl l.before.refs-fault.ensures
-    (join (snapshot_log_faults m.snapshot_log) (from_metadata_log m) refl g.before.snapshot-log-fault.ensures
-    (join (metadata_log_faults m.metadata_log) (from_schemas m) refl s.before.metadata-log-fault.ensures
-    (join (schema_faults m.schemas) (from_orders m) refl o.before.schemas-fault.ensures
-    (join (order_faults m.sort_orders) (from_statistics m) refl t.before.orders-fault.ensures
-    (join (statistics_faults 22 m.statistics) (from_partition m) refl q.before.statistics-fault2.ensures
-    (join (statistics_faults 25 m.partition_statistics) (from_specs m) refl p.before.statistics-fault.ensures
-    u.specs-fault.ensures
-    p.or_later.ensures)
-    q.or-later2.ensures)
-    t.or-later3.ensures)
-    o.or-later4.ensures)
-    s.or-later5.ensures)
-    g.or-later6.ensures)
-    l.or-later7.ensures)
-    r.or-later8.ensures)
-    c.or-later9.ensures
+    let m = p.args.m in
+    join (field_faults m.fields) (from_snapshots m) refl c.fields_fault.ensures
+    (join (snapshot_faults m.snapshots) (from_refs m) refl r.snapshots_fault.ensures
+    (join (ref_faults m.refs) (from_snapshot_log m) refl l.refs_fault.ensures
+    (join (snapshot_log_faults m.snapshot_log) (from_metadata_log m) refl g.snapshot_log_fault.ensures
+    (join (metadata_log_faults m.metadata_log) (from_schemas m) refl s.metadata_log_fault.ensures
+    (join (schema_faults m.schemas) (from_orders m) refl o.schemas_fault.ensures
+    (join (order_faults m.sort_orders) (from_statistics m) refl t.orders_fault.ensures
+    (join (statistics_faults 22 m.statistics) (from_partition m) refl q.statistics_fault-2.ensures
+    (join (statistics_faults 25 m.partition_statistics) (from_specs m) refl p.statistics_fault.ensures
+    p.specs_fault-specs.ensures
+    p.or_later-partition.ensures)
+    q.or_later-statistics.ensures)
+    t.or_later-orders.ensures)
+    o.or_later-schemas.ensures)
+    s.or_later-files.ensures)
+    g.or_later-log.ensures)
+    l.or_later-refs.ensures)
+    r.or_later-snapshots.ensures)
+    c.or_later.ensures
 
 pub part_fault_spec : {M : Type 1} → statement M
 part_fault_spec =

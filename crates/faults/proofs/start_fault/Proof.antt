@@ -28,7 +28,7 @@ start_fault_spec =
     (λ c κs. search rules)
     (λ c κs. search rules)
     (λ c κs. search rules)
-    (λ c. let u = c.before.before in let a = u.before.before.args in
-    join (metadata_faults a.m) (file_faults a.terms) (all_numbered a.m) c.before.metadata-fault.ensures
-    (u.unless.ensures ∙ ap (λ (b : Bool). cond (not b) 36 0) (name_fits a.terms.has_file a.terms.file))
+    (λ c. let a = c.args in
+    join (metadata_faults a.m) (file_faults a.terms) (all_numbered a.m) c.metadata_fault.ensures
+    (c.unless-from_file.ensures ∙ ap (λ (b : Bool). cond (not b) 36 0) (name_fits a.terms.has_file a.terms.file))
     c.or_later.ensures))

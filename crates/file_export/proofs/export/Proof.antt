@@ -13,24 +13,21 @@ export_spec =
     (tie.spec
     (λ c κs. search rules)
     (λ c. let k = c.before in
-    let b = k.before.before in
-    let a = b.args in
-    let r = refused_first a.metadata a.buffer.now (sym k.is-formed.ensures ∙ not-true _ c.if1.true) in
-    (r.0, (r.1, metadata_fits_lem a.metadata _ b.well-formed.0)))
+    let a = k.args in
+    let r = refused_first a.metadata a.buffer.now (sym k.is_formed.ensures ∙ not-true _ c.if-not-is_formed.true-raw) in
+    (r.0, (r.1, metadata_fits_lem a.metadata _ k.well_formed.0)))
     (λ c κs. search rules)
     (λ c. let s = c.before in
     let k = s.before.before in
-    let b = k.before.before in
-    let a = b.args in
-    let r = refused_then a.metadata a.buffer.now (sym k.is-formed.ensures ∙ not-false _ s.before.if1.false) (sym s.is-shown.ensures ∙ not-true _ c.if2.true) in
-    (r.0, (r.1, metadata_fits_lem a.metadata _ b.well-formed.0)))
+    let a = k.args in
+    let r = refused_then a.metadata a.buffer.now (sym k.is_formed.ensures ∙ not-false _ s.if-not-is_formed.false-raw) (sym s.is_shown.ensures ∙ not-true _ c.if-not-is_shown.true-raw) in
+    (r.0, (r.1, metadata_fits_lem a.metadata _ k.well_formed.0)))
     (λ c κs. search rules)
     (λ c. search rules)
     (λ c. let w = c.before.before in
     let o = w.before.before in
     let s = o.before in
     let k = s.before.before in
-    let b = k.before.before in
-    let a = b.args in
-    let r = put a.metadata a.buffer.now (sym k.is-formed.ensures ∙ not-false _ s.before.if1.false) (sym s.is-shown.ensures ∙ not-false _ o.if2.false) w.write.ensures.0 w.write.ensures.1 in
-    (r.0, (r.1, metadata_fits_lem a.metadata _ b.well-formed.0))))
+    let a = k.args in
+    let r = put a.metadata a.buffer.now (sym k.is_formed.ensures ∙ not-false _ s.if-not-is_formed.false-raw) (sym s.is_shown.ensures ∙ not-false _ o.if-not-is_shown.false-raw) w.write.ensures.0 w.write.ensures.1 in
+    (r.0, (r.1, metadata_fits_lem a.metadata _ k.well_formed.0))))

@@ -7,7 +7,7 @@ use Rattle.file_import.proofs.refused.Statement.{statement}
 use Rattle.file_import.proofs.refused.Tie as tie
 
 returns : tie.Need-returns
-returns c = let a = c.before.args in ap (λ (m : TableMetadata). record { number = a.number; place = a.place; skipped = 0; metadata = m }) c.blank.ensures
+returns c = let a = c.args in ap (λ (m : TableMetadata). record { number = a.number; place = a.place; skipped = 0; metadata = m }) c.blank-metadata.ensures
 
 pub refused_spec : {M : Type 1} → statement M
 refused_spec = tie.close (tie.spec (λ c κs. search rules) returns)

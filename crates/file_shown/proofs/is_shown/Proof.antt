@@ -14,4 +14,4 @@ is_shown_spec =
     (λ c κs. search rules)
     (λ c κs. search rules)
     (λ c κs. search rules)
-    (λ c. both (both (both c.before.before.before.sequences-shown.ensures c.before.before.rows-shown.ensures) c.before.owners-shown.ensures) c.texts-shown.ensures))
+    (λ c. both (both (both c.sequences_shown.ensures c.rows_shown.ensures) c.owners_shown.ensures) c.texts_shown.ensures))

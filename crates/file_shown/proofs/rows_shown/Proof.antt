@@ -11,6 +11,6 @@ pub rows_shown_spec : {M : Type 1} → statement M
 rows_shown_spec =
     tie.close
     (tie.spec
-    (λ c. rw (le-leb _ _ c.if1.true))
+    (λ c. rw (le-leb _ _ c.if-version-ge3.true))
     (λ c κs. search rules)
-    (λ c. rw (lt-leb _ _ c.before.if1.false) (both {a = eqb c.before.before.args.next.0 0} refl c.rows_none.ensures)))
+    (λ c. rw (lt-leb _ _ c.if-version-ge3.false) (both {a = eqb c.args.next.0 0} refl c.rows_none.ensures)))

@@ -9,7 +9,7 @@ pub sequences_shown_spec : {M : Type 1} → statement M
 sequences_shown_spec =
     tie.close
     (tie.spec
-    (λ c. rw (le-leb _ _ c.if1.true))
+    (λ c. rw (le-leb _ _ c.if-version-ge2.true))
     (λ c κs. search rules)
     (λ c κs. search rules)
-    (λ c. rw (lt-leb _ _ c.before.before.if1.false) (both c.before.same-sequence.ensures c.sequences-zero.ensures)))
+    (λ c. rw (lt-leb _ _ c.if-version-ge2.false) (both c.same_sequence.ensures c.sequences_zero.ensures)))

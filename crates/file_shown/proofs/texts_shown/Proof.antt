@@ -17,4 +17,4 @@ texts_shown_spec =
     (λ c κs. search rules)
     (λ c κs. search rules)
     (λ c κs. search rules)
-    (λ c. both (both (both (both (both (both c.before.before.before.before.before.before.text-is-utf8.ensures c.before.before.before.before.before.refs-named.ensures) c.before.before.before.before.log-named.ensures) c.before.before.before.schemas-named.ensures) c.before.before.specs-named.ensures) c.before.files-named.ensures) c.files-named2.ensures))
+    (λ c. both (both (both (both (both (both c.text_is_utf8.ensures c.refs_named.ensures) c.log_named.ensures) c.schemas_named.ensures) c.specs_named.ensures) c.files_named.ensures) c.files_named-2.ensures))

@@ -10,10 +10,9 @@ write_spec =
     tie.close
     (tie.spec
     (λ c κs. search rules)
-    (λ c. let a = c.before.before.before.args in refused a.metadata a.buffer.now c.before.length-of.ensures c.if1.true)
+    (λ c. let a = c.args in refused a.metadata a.buffer.now c.length_of.ensures c.if-buffer-length_of.true)
     (λ c κs. search rules)
     (λ c. search rules)
     (λ c. let k = c.before.before in
-    let l = k.before.before.before in
-    let a = l.before.before.args in
-    written a.metadata a.buffer.now l.length-of.ensures k.put-file.ensures k.before.before.if1.false (omega arith)))
+    let a = k.args in
+    written a.metadata a.buffer.now k.length_of.ensures k.put_file-length.ensures k.if-buffer-length_of.false (omega arith)))

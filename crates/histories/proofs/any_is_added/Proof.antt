@@ -24,10 +24,10 @@ use Rattle.histories.proofs.any_is_added.Tie as tie
 abbrev is_added : UpdateList → SnapshotId → Bool
 is_added changes id = logs_addition (read_updates changes) id.0
 
-abbrev invariant_loop : tie.invariant_loop
+abbrev invariant_loop : tie.invariant-loop-i
 invariant_loop changes ids count n zero none₀ i₀ none i = (length ids.items ≡ removal_room) × Taken (λ (id : SnapshotId). not (is_added changes id)) n ids.items 0 i true none
 
-abbrev decreases_loop : tie.decreases_loop
+abbrev decreases_loop : tie.decreases-loop-i
 decreases_loop changes ids count n zero none₀ i₀ none i = n - i
 
 pub any_is_added_spec : {M : Type 1} → statement M
@@ -38,17 +38,16 @@ any_is_added_spec =
     decreases_loop
     (λ c κs. search rules)
     (λ c κs. search rules)
-    (λ c. (search (rules, slots), taken_start removal_room (search (rules, slots)) (with_slots c.before.before.args.t2.count removal_room c.before.with-slot.ensures)))
-    (λ c. let w = c.before.before.before in omega (arith, with_slots w.before.args.t2.count removal_room w.with-slot.ensures))
-    (λ c. let w = c.before.before.before in omega (arith, with_slots w.before.args.t2.count removal_room w.with-slot.ensures))
+    (λ c. (search (rules, slots), taken_start removal_room (search (rules, slots)) (with_slots c.args.ids.count removal_room c.with_slot-n.ensures)))
+    (λ c. omega (arith, with_slots c.args.ids.count removal_room c.with_slot-n.ensures))
+    (λ c. omega (arith, with_slots c.args.ids.count removal_room c.with_slot-n.ensures))
     (λ c κs. search rules)
-    (λ c. let w = c.before.before.before.before.before in omega (arith, with_slots w.before.args.t2.count removal_room w.with-slot.ensures))
+    (λ c. omega (arith, with_slots c.args.ids.count removal_room c.with_slot-n.ensures))
     (λ c. search rules)
-    (λ c. let l = c.before.before.before in (l.loop.invariant.0, taken_on l.loop.invariant.1 _ c.before.before.loop-test.true (ap not c.logs-addition2.ensures)))
-    (λ c. let l = c.before in
-    let z = l.before.logs-addition in
-    let w = l.before.before.with-slot in
-    let a = l.before.before.before.args in
+    (λ c. (c.loop-i.invariant.0, taken_on c.loop-i.invariant.1 _ c.loop-i-test.true (ap not c.logs_addition.ensures)))
+    (λ c. let z = c.logs_addition-zero in
+    let w = c.with_slot-n in
+    let a = c.args in
     let q = is_added a.changes in
-    ap₂ ◌||◌ (scanned q l.loop.invariant.1 c.loop-test.false) (ap (λ (b : Bool). ltb removal_room a.t2.count && b) z.ensures)
-    ∙ sym (any_map (logs_addition (read_updates a.changes)) (λ (i : SnapshotId). i.0) (counted no_snapshot_id a.t2.items a.t2.count) ∙ any_counted q no_snapshot_id a.t2.items a.t2.count removal_room l.loop.invariant.0 w.ensures)))
+    ap₂ ◌||◌ (scanned q c.loop-i.invariant.1 c.loop-i-test.false) (ap (λ (b : Bool). ltb removal_room a.ids.count && b) z.ensures)
+    ∙ sym (any_map (logs_addition (read_updates a.changes)) (λ (i : SnapshotId). i.0) (counted no_snapshot_id a.ids.items a.ids.count) ∙ any_counted q no_snapshot_id a.ids.items a.ids.count removal_room c.loop-i.invariant.0 w.ensures)))

@@ -24,7 +24,7 @@ is_addition_spec =
     (tie.spec
     (λ c κs. search rules)
     (λ c κs. search rules)
-    (λ c. let t = c.before.before in let a = t.before.before.before.args in
-    adds a.id.0 a.u t.if1.true c.before.is-tidy.ensures c.same-snapshot.ensures)
-    (λ c. let a = c.before.before.before.args in
-    sym (other_kind (is_addition a.id.0) (λ n. refl) add_snapshot_kind a.u refl c.if1.false)))
+    (λ c. let a = c.args in
+    adds a.id.0 a.u c.if-kind-eq-ADD_SNAPSHOT.true c.is_tidy.ensures c.same_snapshot.ensures)
+    (λ c. let a = c.args in
+    sym (other_kind (is_addition a.id.0) (λ n. refl) add_snapshot_kind a.u refl c.if-kind-eq-ADD_SNAPSHOT.false)))

@@ -51,7 +51,7 @@ is_whole_spec =
     tie.close
     (tie.spec
     (λ c κs. search rules)
-    (λ c. rw (sym c.before.is-formed.ensures ∙ not-true _ c.if1.true))
-    (λ c κs. let a = c.before.before.before.before.args in let f = sym c.before.is-formed.ensures ∙ not-false _ c.if1.false in (entries a.m f, laid a.m f))
-    (λ c. let k = c.before in let a = k.before.before.before.before.args in
-    whole_is a.m (sym k.before.is-formed.ensures ∙ not-false _ k.if1.false) c.names-held.ensures))
+    (λ c. rw (sym c.is_formed.ensures ∙ not-true _ c.if-not-is_formed.true-raw))
+    (λ c κs. let a = c.args in let f = sym c.is_formed.ensures ∙ not-false _ c.if-not-is_formed.false-raw in (entries a.m f, laid a.m f))
+    (λ c. let a = c.args in
+    whole_is a.m (sym c.is_formed.ensures ∙ not-false _ c.if-not-is_formed.false-raw) c.names_held.ensures))

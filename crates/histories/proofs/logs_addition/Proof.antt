@@ -16,10 +16,10 @@ use Rattle.histories.proofs.OfKind.{of_no_kind}
 use Rattle.histories.proofs.logs_addition.Statement.{statement}
 use Rattle.histories.proofs.logs_addition.Tie as tie
 
-abbrev invariant_loop : tie.invariant_loop
+abbrev invariant_loop : tie.invariant-loop-i
 invariant_loop id changes n none₀ i₀ none i = (length changes.items ≡ list_room) × Taken (λ (u : TableUpdate). not (is_addition id.0 (read_update u))) n changes.items 0 i true none
 
-abbrev decreases_loop : tie.decreases_loop
+abbrev decreases_loop : tie.decreases-loop-i
 decreases_loop id changes n none₀ i₀ none i = n - i
 
 pub logs_addition_spec : {M : Type 1} → statement M
@@ -30,15 +30,14 @@ logs_addition_spec =
     invariant_loop
     decreases_loop
     (λ c κs. search rules)
-    (λ c. (search (rules, slots), taken_start list_room (search (rules, slots)) (with_slots c.before.args.t1.count list_room c.with-slot.ensures)))
-    (λ c. let w = c.before.before in omega (arith, with_slots w.before.args.t1.count list_room w.with-slot.ensures))
-    (λ c. let w = c.before.before in omega (arith, with_slots w.before.args.t1.count list_room w.with-slot.ensures))
+    (λ c. (search (rules, slots), taken_start list_room (search (rules, slots)) (with_slots c.args.changes.count list_room c.with_slot-n.ensures)))
+    (λ c. omega (arith, with_slots c.args.changes.count list_room c.with_slot-n.ensures))
+    (λ c. omega (arith, with_slots c.args.changes.count list_room c.with_slot-n.ensures))
     (λ c κs. search rules)
-    (λ c. let w = c.before.before.before.before in omega (arith, with_slots w.before.args.t1.count list_room w.with-slot.ensures))
+    (λ c. omega (arith, with_slots c.args.changes.count list_room c.with_slot-n.ensures))
     (λ c. search rules)
-    (λ c. let l = c.before.before.before in (l.loop.invariant.0, taken_on l.loop.invariant.1 _ c.before.before.loop-test.true (ap not c.is-addition.ensures)))
-    (λ c. let l = c.before in
-    let a = l.before.before.args in
+    (λ c. (c.loop-i.invariant.0, taken_on c.loop-i.invariant.1 _ c.loop-i-test.true (ap not c.is_addition.ensures)))
+    (λ c. let a = c.args in
     let f = is_addition a.id.0 in
-    scanned (λ (u : TableUpdate). f (read_update u)) l.loop.invariant.1 c.loop-test.false
-    ∙ sym (any_update f a.t1 (of_no_kind f (λ n. refl)) l.loop.invariant.0 l.before.with-slot.ensures)))
+    scanned (λ (u : TableUpdate). f (read_update u)) c.loop-i.invariant.1 c.loop-i-test.false
+    ∙ sym (any_update f a.changes (of_no_kind f (λ n. refl)) c.loop-i.invariant.0 c.with_slot-n.ensures)))

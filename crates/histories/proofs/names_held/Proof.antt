@@ -19,15 +19,15 @@ use Rattle.formed.proofs.Counted.{Taken, taken_start, taken_on, taken_end, all_c
 use Rattle.histories.proofs.names_held.Statement.{statement}
 use Rattle.histories.proofs.names_held.Tie as tie
 
-abbrev invariant_loop : tie.invariant_loop
+abbrev invariant_loop : tie.invariant-loop-i
 invariant_loop log n held ids ok₀ i₀ ok i = Taken (λ (x : SnapshotLogEntry). is_in (take held ids) (read_log_entry x).snapshot) log.count log.items 0 i true ok
 
-abbrev decreases_loop : tie.decreases_loop
+abbrev decreases_loop : tie.decreases-loop-i
 decreases_loop log n held ids ok₀ i₀ ok i = n - i
 
 -- the ids tell which snapshots are held
-told : (c : tie.After-ids-of invariant_loop decreases_loop) → let s = c.before in ◌≡◌ {A = SnapshotLogEntry → Bool} (λ x. is_in (take s.args.t.count c.ids-of.result) (read_log_entry x).snapshot) (λ x. holds_snapshot (read_snapshots s.args.t) (read_log_entry x).snapshot)
-told c = let s = c.before in λ i x. lent_in (tidy_snapshots s.requires.1) (λ y. y.id) (c.ids-of.ensures s.requires.1) (read_log_entry x).snapshot i
+told : (c : tie.After-ids_of-ids invariant_loop decreases_loop) → let s = c.before in ◌≡◌ {A = SnapshotLogEntry → Bool} (λ x. is_in (take s.args.t.count c.ids_of-ids.result) (read_log_entry x).snapshot) (λ x. holds_snapshot (read_snapshots s.args.t) (read_log_entry x).snapshot)
+told c = λ i x. lent_in (tidy_snapshots c.requires.1) (λ y. y.id) (c.ids_of-ids.ensures c.requires.1) (read_log_entry x).snapshot i
 
 pub names_held_spec : {M : Type 1} → statement M
 names_held_spec =
@@ -36,18 +36,17 @@ names_held_spec =
     invariant_loop
     decreases_loop
     (λ c κs. search rules)
-    (λ c. taken_start snapshot_log_room (search (rules, slots)) c.before.requires.0)
-    (λ c. omega (arith, c.before.before.before.requires.0))
-    (λ c. omega (arith, c.before.before.before.requires.0))
+    (λ c. taken_start snapshot_log_room (search (rules, slots)) c.requires.0)
+    (λ c. omega (arith, c.requires.0))
+    (λ c. omega (arith, c.requires.0))
     (λ c κs. search rules)
-    (λ c. let g = c.before.before.before.before in lent_within (tidy_snapshots g.before.requires.1) (λ y. y.id) (g.ids-of.ensures g.before.requires.1))
-    (λ c. let g = c.before.before.before.before.before in lent_slice (tidy_snapshots g.before.requires.1) (λ y. y.id) (g.ids-of.ensures g.before.requires.1))
+    (λ c. lent_within (tidy_snapshots c.requires.1) (λ y. y.id) (c.ids_of-ids.ensures c.requires.1))
+    (λ c. lent_slice (tidy_snapshots c.requires.1) (λ y. y.id) (c.ids_of-ids.ensures c.requires.1))
     (λ c κs. search rules)
-    (λ c. omega (arith, c.before.before.before.before.before.before.before.requires.0))
+    (λ c. omega (arith, c.requires.0))
     (λ c. search rules)
-    (λ c. let b = c.before.before.before.before in
-    taken_on b.before.loop.invariant _ b.loop-test.true (rw c.before.before.snapshot-key.ensures at c.is-in.ensures))
-    (λ c. let l = c.before.loop.invariant in
+    (λ c. taken_on c.loop-i.invariant _ c.loop-i-test.true (rw c.snapshot_key-k.ensures at c.is_in-ok.ensures))
+    (λ c. let l = c.loop-i.invariant in
     let g = c.before.before in
-    let a = g.before.args in
-    taken_end l c.loop-test.false ∙ ap (λ (q : SnapshotLogEntry → Bool). all q (take a.t1.count a.t1.items)) (told g) ∙ sym (all_counted read_log_entry no_log_entry a.t1.items a.t1.count (λ (e : plain.LogEntry). holds_snapshot (read_snapshots a.t) e.snapshot) l.fits)))
+    let a = g.args in
+    taken_end l c.loop-i-test.false ∙ ap (λ (q : SnapshotLogEntry → Bool). all q (take a.log.count a.log.items)) (told g) ∙ sym (all_counted read_log_entry no_log_entry a.log.items a.log.count (λ (e : plain.LogEntry). holds_snapshot (read_snapshots a.t) e.snapshot) l.fits)))

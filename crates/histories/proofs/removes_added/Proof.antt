@@ -26,7 +26,7 @@ removes_added_spec =
     (tie.spec
     (λ c κs. search rules)
     (λ c κs. search rules)
-    (λ c. let t = c.before.before in let a = t.before.before.args in
-    removes (logs_addition (read_updates a.changes)) a.u t.if1.true c.before.is-tidy.ensures c.any-is-added.ensures)
-    (λ c. let a = c.before.before.args in
-    sym (other_kind (λ (x : Update). any (logs_addition (read_updates a.changes)) (removed_ids x)) (λ n. refl) remove_snapshots_kind a.u refl c.if1.false)))
+    (λ c. let a = c.args in
+    removes (logs_addition (read_updates a.changes)) a.u c.if-kind-eq-REMOVE_SNAPSHOTS.true c.is_tidy.ensures c.any_is_added.ensures)
+    (λ c. let a = c.args in
+    sym (other_kind (λ (x : Update). any (logs_addition (read_updates a.changes)) (removed_ids x)) (λ n. refl) remove_snapshots_kind a.u refl c.if-kind-eq-REMOVE_SNAPSHOTS.false)))

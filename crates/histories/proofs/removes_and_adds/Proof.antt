@@ -32,10 +32,10 @@ removed_each q (u ∷ l) = any_append q (removed_ids u) (logs_removed l) ∙ ap 
 abbrev removes_added : UpdateList → Update → Bool
 removes_added changes u = any (logs_addition (read_updates changes)) (removed_ids u)
 
-abbrev invariant_loop : tie.invariant_loop
+abbrev invariant_loop : tie.invariant-loop-i
 invariant_loop changes n none₀ i₀ none i = (length changes.items ≡ list_room) × Taken (λ (u : TableUpdate). not (removes_added changes (read_update u))) n changes.items 0 i true none
 
-abbrev decreases_loop : tie.decreases_loop
+abbrev decreases_loop : tie.decreases-loop-i
 decreases_loop changes n none₀ i₀ none i = n - i
 
 pub removes_and_adds_spec : {M : Type 1} → statement M
@@ -46,16 +46,15 @@ removes_and_adds_spec =
     invariant_loop
     decreases_loop
     (λ c κs. search rules)
-    (λ c. (search (rules, slots), taken_start list_room (search (rules, slots)) (with_slots c.before.args.t1.count list_room c.with-slot.ensures)))
-    (λ c. let w = c.before.before in omega (arith, with_slots w.before.args.t1.count list_room w.with-slot.ensures))
-    (λ c. let w = c.before.before in omega (arith, with_slots w.before.args.t1.count list_room w.with-slot.ensures))
+    (λ c. (search (rules, slots), taken_start list_room (search (rules, slots)) (with_slots c.args.changes.count list_room c.with_slot-n.ensures)))
+    (λ c. omega (arith, with_slots c.args.changes.count list_room c.with_slot-n.ensures))
+    (λ c. omega (arith, with_slots c.args.changes.count list_room c.with_slot-n.ensures))
     (λ c κs. search rules)
-    (λ c. let w = c.before.before.before.before in omega (arith, with_slots w.before.args.t1.count list_room w.with-slot.ensures))
+    (λ c. omega (arith, with_slots c.args.changes.count list_room c.with_slot-n.ensures))
     (λ c. search rules)
-    (λ c. let l = c.before.before.before in (l.loop.invariant.0, taken_on l.loop.invariant.1 _ c.before.before.loop-test.true (ap not c.removes-added.ensures)))
-    (λ c. let l = c.before in
-    let changes = l.before.before.args.t1 in
+    (λ c. (c.loop-i.invariant.0, taken_on c.loop-i.invariant.1 _ c.loop-i-test.true (ap not c.removes_added.ensures)))
+    (λ c. let changes = c.args.changes in
     let f = removes_added changes in
-    scanned (λ (u : TableUpdate). f (read_update u)) l.loop.invariant.1 c.loop-test.false
-    ∙ sym (any_update f changes (of_no_kind f (λ n. refl)) l.loop.invariant.0 l.before.with-slot.ensures)
+    scanned (λ (u : TableUpdate). f (read_update u)) c.loop-i.invariant.1 c.loop-i-test.false
+    ∙ sym (any_update f changes (of_no_kind f (λ n. refl)) c.loop-i.invariant.0 c.with_slot-n.ensures)
     ∙ sym (removed_each (logs_addition (read_updates changes)) (read_updates changes))))

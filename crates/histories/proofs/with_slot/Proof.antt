@@ -7,5 +7,5 @@ pub with_slot_spec : {M : Type 1} → statement M
 with_slot_spec =
     tie.close
     (tie.spec
-    (λ c. rw (le-leb c.before.args.count c.before.args.slots c.if1.true))
-    (λ c. rw (lt-leb c.before.args.count c.before.args.slots c.if1.false)))
+    (λ c. rw (le-leb c.args.count c.args.slots c.if-count-slots.true))
+    (λ c. rw (lt-leb c.args.count c.args.slots c.if-count-slots.false)))

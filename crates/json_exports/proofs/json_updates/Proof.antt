@@ -5,10 +5,10 @@ use borrow.Author.Rules.{rules}
 use Rattle.json_exports.proofs.json_updates.Statement.{statement}
 use Rattle.json_exports.proofs.json_updates.Tie as tie
 
-abbrev invariant_loop : tie.invariant_loop
+abbrev invariant_loop : tie.invariant-loop-at
 invariant_loop text part offers₀ reader₀ at₀ offers reader at = at ≤ length text
 
-abbrev decreases_loop : tie.decreases_loop
+abbrev decreases_loop : tie.decreases-loop-at
 decreases_loop text part offers₀ reader₀ at₀ offers reader at = length text - at
 
 pub json_updates_spec : {M : Type 1} → statement M

@@ -9,4 +9,4 @@ length_of_spec =
     (tie.spec
     (λ c. search rules)
     (λ c κs. search rules)
-    (λ c. c.before.put-log.ensures.ends))
+    (λ c. c.put_log.ensures.ends))

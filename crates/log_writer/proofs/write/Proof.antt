@@ -10,7 +10,7 @@ write_spec =
     tie.close
     (tie.spec
     (λ c κs. search rules)
-    (λ c. let a = c.before.before.before.before.args in short a.updates a.offers.now a.buffer.now c.before.length-of.ensures c.if1.true)
+    (λ c. let a = c.args in short a.updates a.offers.now a.buffer.now c.length_of.ensures c.if-buffer-length_of.true)
     (λ c κs. search rules)
     (λ c. search rules)
-    (λ c. let a = c.before.before.before.before.before.before.before.before.args in written a.updates a.offers.now a.buffer.now c.before.before.before.before.before.length-of.ensures c.before.before.put-log.ensures c.before.before.before.before.if1.false (omega arith)))
+    (λ c. let a = c.args in written a.updates a.offers.now a.buffer.now c.length_of.ensures c.put_log-length.ensures c.if-buffer-length_of.false (omega arith)))

@@ -13,16 +13,14 @@ write_log_spec =
     (tie.spec
     (λ c κs. search rules)
     (λ c. let k = c.before in
-    let b = k.before.before.before in
-    let a = b.args in
-    let r = not_carried a.updates a.offers.now a.buffer.now (sym k.is_Carried.ensures ∙ not-true _ c.if1.true) in
-    (r.0, (r.1, updates_fit a.updates _ b.well-formed.0)))
+    let a = k.args in
+    let r = not_carried a.updates a.offers.now a.buffer.now (sym k.is_carried.ensures ∙ not-true _ c.if-not-is_carried.true-raw) in
+    (r.0, (r.1, updates_fit a.updates _ k.well_formed.0)))
     (λ c κs. search rules)
     (λ c. search rules)
     (λ c. let w = c.before.before in
     let o = w.before.before in
     let k = o.before in
-    let b = k.before.before.before in
-    let a = b.args in
-    let r = carried a.updates a.offers.now a.buffer.now (sym k.is_Carried.ensures ∙ not-false _ o.if1.false) w.write.ensures.0 w.write.ensures.1 in
-    (r.0, (r.1, updates_fit a.updates _ b.well-formed.0))))
+    let a = k.args in
+    let r = carried a.updates a.offers.now a.buffer.now (sym k.is_carried.ensures ∙ not-false _ o.if-not-is_carried.false-raw) w.write.ensures.0 w.write.ensures.1 in
+    (r.0, (r.1, updates_fit a.updates _ k.well_formed.0))))

@@ -14,13 +14,13 @@ use Rattle.moment.proofs.answers_within.Statement.{statement}
 use Rattle.moment.proofs.answers_within.Tie as tie
 
 module _ (c : tie.Start) where
-  here : c.args.at < length (read_snapshot_log c.args.t1)
-  here = omega (arith, read_length c.args.t1, c.requires)
+  here : c.args.at < length (read_snapshot_log c.args.log)
+  here = omega (arith, read_length c.args.log, c.requires)
 
-  slot : entry_at (read_snapshot_log c.args.t1) c.args.at ≡ read_log_entry (get_or c.args.t1.items c.args.at no_log_entry)
+  slot : entry_at (read_snapshot_log c.args.log) c.args.at ≡ read_log_entry (get_or c.args.log.items c.args.at no_log_entry)
   slot =
-      let room : length c.args.t1.items ≡ 128 = search (rules, slots) in
-      read_at c.args.t1 c.args.at c.requires.0 (omega (arith, c.requires))
+      let room : length c.args.log.items ≡ 128 = search (rules, slots) in
+      read_at c.args.log c.args.at c.requires.0 (omega (arith, c.requires))
 
 pub answers_within_spec : {M : Type 1} → statement M
 answers_within_spec =
@@ -30,13 +30,13 @@ answers_within_spec =
     (λ c. search rules)
     (λ c κs. search rules)
     (λ c. let s = c.before.before.before.before in
-    too_early s.args.first.0 s.args.last.0 (read_snapshot_log s.args.t1) s.args.at (here s) (slot s) (sym c.before.is-by.ensures ∙ c.if1.true))
+    too_early s.args.first.0 s.args.last.0 (read_snapshot_log s.args.log) s.args.at (here s) (slot s) (sym c.is_by.ensures ∙ c.if-is_by.true))
     (λ c κs. search rules)
     (λ c. let s = c.before.before.before.before.before.before in
-    too_late s.args.first.0 s.args.last.0 (read_snapshot_log s.args.t1) s.args.at (here s) (slot s) (sym c.before.before.before.is-by.ensures ∙ c.before.before.if1.false)
-    (sym c.before.is-by2.ensures ∙ not-true _ c.if2.true))
+    too_late s.args.first.0 s.args.last.0 (read_snapshot_log s.args.log) s.args.at (here s) (slot s) (sym c.is_by.ensures ∙ c.if-is_by.false)
+    (sym c.is_by-2.ensures ∙ not-true _ c.if-not-is_by.true-raw))
     (λ c κs. search rules)
     (λ c. search rules)
     (λ c. let s = c.before.before.before.before.before.before.before in
-    decided s.args.first.0 s.args.last.0 (read_snapshot_log s.args.t1) s.args.at (here s) (slot s) (sym c.before.before.before.before.is-by.ensures ∙ c.before.before.before.if1.false)
-    (sym c.before.before.is-by2.ensures ∙ not-false _ c.before.if2.false) c.behind-last.ensures))
+    decided s.args.first.0 s.args.last.0 (read_snapshot_log s.args.log) s.args.at (here s) (slot s) (sym c.is_by.ensures ∙ c.if-is_by.false)
+    (sym c.is_by-2.ensures ∙ not-false _ c.if-not-is_by.false-raw) c.behind_last.ensures))

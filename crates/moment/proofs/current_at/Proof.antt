@@ -12,12 +12,12 @@ current_at_spec =
     tie.close
     (tie.spec
     (λ c κs. search rules)
-    (λ c. c.no-entry.ensures ∙ sym (refused _ _ c.before.if1.true))
+    (λ c. c.no_entry.ensures ∙ sym (refused _ _ c.if-n-gt-SNAPSHOT_LOG.true))
     (λ c κs. search rules)
     (λ c κs. search rules)
-    (λ c. c.no-entry2.ensures ∙ sym (none_found _ _ c.before.before.before.if1.false c.before.before.behind-last.ensures c.before.if2.true))
+    (λ c. c.no_entry-then-k-eq0.ensures ∙ sym (none_found _ _ c.if-n-gt-SNAPSHOT_LOG.false c.behind_last-k.ensures c.if-k-eq0.true))
     (λ c. search rules)
-    (λ c. omega (arith, read_length c.before.before.before.args.t1))
-    (λ c. omega (arith, read_length c.before.before.before.args.t1))
-    (λ c. omega (arith, read_length c.before.before.before.before.args.t1))
-    (λ c. sym (found _ _ c.before.before.before.if1.false c.before.before.behind-last.ensures (search (rules, slots)) _ (omega arith))))
+    (λ c. omega (arith, read_length c.args.log))
+    (λ c. omega (arith, read_length c.args.log))
+    (λ c. omega (arith, read_length c.args.log))
+    (λ c. sym (found _ _ c.if-n-gt-SNAPSHOT_LOG.false c.behind_last-k.ensures (search (rules, slots)) _ (omega arith))))

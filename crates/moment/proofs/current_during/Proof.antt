@@ -17,6 +17,6 @@ current_during_spec =
     (tie.spec
     (λ c κs. search rules)
     (λ c κs. search rules)
-    (λ c. ap₂ both c.before.before.current-at.ensures c.blank.ensures ∙ sym (during_refused _ _ _ c.before.if1.true))
+    (λ c. ap₂ both c.current_at-beginning.ensures c.blank-later.ensures ∙ sym (during_refused _ _ _ c.if-count-gt-SNAPSHOT_LOG.true))
     (λ c κs. search rules)
-    (λ c. ap₂ both c.before.before.current-at.ensures c.answered-within.ensures ∙ sym (during _ _ _ c.before.if1.false)))
+    (λ c. ap₂ both c.current_at-beginning.ensures c.answered_within-later.ensures ∙ sym (during _ _ _ c.if-count-gt-SNAPSHOT_LOG.false)))

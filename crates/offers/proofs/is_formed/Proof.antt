@@ -52,9 +52,9 @@ is_formed_spec =
     tie.close
     (tie.spec
     (λ c κs. search rules)
-    (λ c. let s = c.before.before.before in let u = s.args.u in λ terms e.
-    c.schema.ensures.formed ∙ ap (λ b. offer_formed b (read_schema_offer u.schemas.added)) (sym e) ∙ sym (a_schema terms u s.requires c.before.if1.true))
+    (λ c. let u = c.args.u in λ terms e.
+    c.schema-offered.ensures.formed ∙ ap (λ b. offer_formed b (read_schema_offer u.schemas.added)) (sym e) ∙ sym (a_schema terms u c.requires c.if-kind-eq-ADD_SCHEMA.true))
     (λ c κs. search rules)
-    (λ c. let s = c.before.before.before.before in let u = s.args.u in λ terms e.
-    c.spec.ensures.formed ∙ ap (λ b. spec_offer_formed b (read_spec_offer u.partition_specs.added)) (sym e) ∙ sym (a_spec terms u s.requires c.before.if2.true))
-    (λ c. let s = c.before.before.before in λ terms e. sym (no_offer terms s.args.u s.requires c.before.if1.false c.if2.false)))
+    (λ c. let u = c.args.u in λ terms e.
+    c.spec-offered.ensures.formed ∙ ap (λ b. spec_offer_formed b (read_spec_offer u.partition_specs.added)) (sym e) ∙ sym (a_spec terms u c.requires c.if-kind-eq-ADD_PARTITION_SPEC.true))
+    (λ c. λ terms e. sym (no_offer terms c.args.u c.requires c.if-kind-eq-ADD_SCHEMA.false c.if-kind-eq-ADD_PARTITION_SPEC.false)))

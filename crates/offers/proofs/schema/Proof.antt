@@ -13,21 +13,21 @@ schema_spec =
     (tie.spec
     (λ c κs. search rules)
     (λ c κs. search rules)
-    (λ c. let t = c.before.before in let a = t.before.before.args in
-    not_there a.bytes.now (read_schema_offer a.o) c.not-formed.ensures t.is-there.ensures c.before.if1.true)
-    (λ c κs. let t = c.before in let a = t.before.before.args in
-    (passed_there a.bytes.now (read_schema_offer a.o) t.is-there.ensures c.if1.false).1)
+    (λ c. let a = c.args in
+    not_there a.bytes.now (read_schema_offer a.o) c.not_formed.ensures c.is_there.ensures c.if-not-is_there.true-raw)
+    (λ c κs. let a = c.args in
+    (passed_there a.bytes.now (read_schema_offer a.o) c.is_there.ensures c.if-not-is_there.false-raw).1)
     (λ c κs. search rules)
-    (λ c. let d = c.before.before in let a = d.before.before.before.before.args in
-    not_tidy a.bytes.now (read_schema_offer a.o) c.not-formed2.ensures d.fields-tidy.ensures c.before.if2.true)
-    (λ c κs. let d = c.before in let t = d.before.before in let a = t.before.before.args in
-    let p = passed_there a.bytes.now (read_schema_offer a.o) t.is-there.ensures d.before.if1.false in
-    (p.0, (p.1, sym d.fields-tidy.ensures ∙ not-false _ c.if2.false)))
-    (λ c κs. let g = c.before in let d = g.before in let t = d.before.before in let a = t.before.before.args in
-    tidy_offered a.bytes.now (read_schema_offer a.o) c.schema-of.ensures t.is-there.ensures d.before.if1.false d.fields-tidy.ensures g.if2.false)
+    (λ c. let a = c.args in
+    not_tidy a.bytes.now (read_schema_offer a.o) c.not_formed-then-not-fields_tidy.ensures c.fields_tidy.ensures c.if-not-fields_tidy.true-raw)
+    (λ c κs. let d = c.before in let a = d.args in
+    let p = passed_there a.bytes.now (read_schema_offer a.o) d.is_there.ensures d.if-not-is_there.false-raw in
+    (p.0, (p.1, sym d.fields_tidy.ensures ∙ not-false _ c.if-not-fields_tidy.false-raw)))
+    (λ c κs. let g = c.before in let d = g.before in let a = d.args in
+    tidy_offered a.bytes.now (read_schema_offer a.o) c.schema_of-s.ensures d.is_there.ensures d.if-not-is_there.false-raw d.fields_tidy.ensures g.if-not-fields_tidy.false-raw)
     (λ c κs. search rules)
-    (λ c. let f = c.before.before in let d = f.before.before.before in let a = d.before.before.before.before.args in
-    ill_formed a.bytes.now (read_schema_offer a.o) f.before.schema-of.ensures f.schema-formed.ensures c.not-formed3.ensures c.before.if3.true)
-    (λ c. let f = c.before in let g = f.before.before in let d = g.before in let t = d.before.before in let a = t.before.before.args in
-    offered a.bytes.now (read_schema_offer a.o) f.before.schema-of.ensures f.schema-formed.ensures
-    t.is-there.ensures d.before.if1.false d.fields-tidy.ensures g.if2.false c.if3.false))
+    (λ c. let f = c.before.before in let a = f.args in
+    ill_formed a.bytes.now (read_schema_offer a.o) f.schema_of-s.ensures f.schema_formed.ensures c.not_formed-then-not-schema_formed.ensures c.if-not-schema_formed.true-raw)
+    (λ c. let f = c.before in let g = f.before.before in let d = g.before in let a = d.args in
+    offered a.bytes.now (read_schema_offer a.o) f.schema_of-s.ensures f.schema_formed.ensures
+    d.is_there.ensures d.if-not-is_there.false-raw d.fields_tidy.ensures g.if-not-fields_tidy.false-raw c.if-not-schema_formed.false-raw))

@@ -14,10 +14,10 @@ use Rattle.offers.proofs.Fields.{FilledFields, fields_start, fields_on, fields_e
 use Rattle.offers.proofs.schema_of.Statement.{statement}
 use Rattle.offers.proofs.schema_of.Tie as tie
 
-abbrev invariant_loop : tie.invariant_loop
+abbrev invariant_loop : tie.invariant-loop-i
 invariant_loop bytes id at n r₀ i₀ r i = FilledFields (fields_of n (drop at bytes)) r.items i
 
-abbrev decreases_loop : tie.decreases_loop
+abbrev decreases_loop : tie.decreases-loop-i
 decreases_loop bytes id at n r₀ i₀ r i = n - i
 
 pub schema_of_spec : {M : Type 1} → statement M
@@ -27,24 +27,24 @@ schema_of_spec =
     invariant_loop
     decreases_loop
     (λ c κs. search rules)
-    (λ c. let s = c.before.before.before in let o = s.args.o in fields_start (fields_of o.count (drop o.at s.args.bytes.now)) c.blank.ensures)
+    (λ c. let o = c.args.o in fields_start (fields_of o.count (drop o.at c.args.bytes.now)) c.blank-r.ensures)
     (λ c. search rules)
     (λ c. search rules)
     (λ c. search rules)
     (λ c. search rules)
     (λ c. search rules)
     (λ c. search rules)
-    (λ c κs. let l = c.before.before in let s = l.before.before.before.before in let o = s.args.o in
-    let bs = s.args.bytes.now in let b = c.before.loop-test.true in let n = pieces_length field_bytes o.count (drop o.at bs) in (
-      part_length field_bytes bs o.at o.count l.loop.i s.requires.1.0 b,
-      ap is_tidy_field (part_piece field_bytes bs o.at o.count l.loop.i s.requires.1.0 b) ∙ all_at is_tidy_field [] (fields_of o.count (drop o.at bs)) s.requires.1.1 l.loop.i (omega (arith, b, n)),
+    (λ c κs. let l = c.before.before in let o = l.args.o in
+    let bs = l.args.bytes.now in let b = c.loop-i-test.true in let n = pieces_length field_bytes o.count (drop o.at bs) in (
+      part_length field_bytes bs o.at o.count l.loop-i.i l.requires.1.0 b,
+      ap is_tidy_field (part_piece field_bytes bs o.at o.count l.loop-i.i l.requires.1.0 b) ∙ all_at is_tidy_field [] (fields_of o.count (drop o.at bs)) l.requires.1.1 l.loop-i.i (omega (arith, b, n)),
     ))
     (λ c. search rules)
     (λ c. search rules)
     (λ c. search rules)
     (λ c. search rules)
-    (λ c. let l = c.before.before.before in let s = l.before.before.before.before in let o = s.args.o in
-    let bs = s.args.bytes.now in let b = c.before.before.loop-test.true in let n = pieces_length field_bytes o.count (drop o.at bs) in
-    fields_on (fields_of o.count (drop o.at bs)) l.loop.invariant (omega (arith, b, n)) (omega (arith, s.requires.0, n))
-    (c.field_of.ensures ∙ ap (λ (f : List ℕ). laid_schema_field (offered_field f)) (part_piece field_bytes bs o.at o.count l.loop.i s.requires.1.0 b)))
-    (λ c. let s = c.before.before.before.before.before in fields_end s.args.bytes.now s.args.o c.before.loop.invariant c.loop-test.false))
+    (λ c. let l = c.before.before.before in let o = l.args.o in
+    let bs = l.args.bytes.now in let b = c.loop-i-test.true in let n = pieces_length field_bytes o.count (drop o.at bs) in
+    fields_on (fields_of o.count (drop o.at bs)) l.loop-i.invariant (omega (arith, b, n)) (omega (arith, l.requires.0, n))
+    (c.field_of-f.ensures ∙ ap (λ (f : List ℕ). laid_schema_field (offered_field f)) (part_piece field_bytes bs o.at o.count l.loop-i.i l.requires.1.0 b)))
+    (λ c. fields_end c.args.bytes.now c.args.o c.loop-i.invariant c.loop-i-test.false))

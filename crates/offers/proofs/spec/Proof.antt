@@ -12,20 +12,20 @@ spec_spec =
     (tie.spec
     (λ c κs. search rules)
     (λ c κs. search rules)
-    (λ c. let t = c.before.before in let a = t.before.before.args in
-    not_there a.bytes.now a.o c.spec-not-formed.ensures t.are-there.ensures c.before.if1.true)
-    (λ c κs. let t = c.before in let a = t.before.before.args in
-    (passed_there a.bytes.now a.o t.are-there.ensures c.if1.false).1)
+    (λ c. let a = c.args in
+    not_there a.bytes.now a.o c.spec_not_formed.ensures c.are_there.ensures c.if-not-are_there.true-raw)
+    (λ c κs. let a = c.args in
+    (passed_there a.bytes.now a.o c.are_there.ensures c.if-not-are_there.false-raw).1)
     (λ c κs. search rules)
-    (λ c. let d = c.before.before in let a = d.before.before.before.before.args in
-    not_tidy a.bytes.now a.o c.spec-not-formed2.ensures d.are-tidy.ensures c.before.if2.true)
-    (λ c κs. let d = c.before in let t = d.before.before in let a = t.before.before.args in
-    let p = passed_there a.bytes.now a.o t.are-there.ensures d.before.if1.false in
-    (p.0, (p.1, sym d.are-tidy.ensures ∙ not-false _ c.if2.false)))
+    (λ c. let a = c.args in
+    not_tidy a.bytes.now a.o c.spec_not_formed-then-not-are_tidy.ensures c.are_tidy.ensures c.if-not-are_tidy.true-raw)
+    (λ c κs. let d = c.before in let a = d.args in
+    let p = passed_there a.bytes.now a.o d.are_there.ensures d.if-not-are_there.false-raw in
+    (p.0, (p.1, sym d.are_tidy.ensures ∙ not-false _ c.if-not-are_tidy.false-raw)))
     (λ c κs. search rules)
     (λ c κs. search rules)
-    (λ c. let f = c.before.before in let d = f.before.before.before in let a = d.before.before.before.before.args in
-    ill_formed a.bytes.now a.o f.before.spec-of.ensures f.offered-spec-formed.ensures c.spec-not-formed3.ensures c.before.if3.true)
-    (λ c. let f = c.before in let g = f.before.before in let d = g.before in let t = d.before.before in let a = t.before.before.args in
-    offered a.bytes.now a.o f.before.spec-of.ensures f.offered-spec-formed.ensures
-    t.are-there.ensures d.before.if1.false d.are-tidy.ensures g.if2.false c.if3.false))
+    (λ c. let f = c.before.before in let a = f.args in
+    ill_formed a.bytes.now a.o f.spec_of-s.ensures f.offered_spec_formed.ensures c.spec_not_formed-then-not-offered_spec_formed.ensures c.if-not-offered_spec_formed.true-raw)
+    (λ c. let f = c.before in let g = f.before.before in let d = g.before in let a = d.args in
+    offered a.bytes.now a.o f.spec_of-s.ensures f.offered_spec_formed.ensures
+    d.are_there.ensures d.if-not-are_there.false-raw d.are_tidy.ensures g.if-not-are_tidy.false-raw c.if-not-offered_spec_formed.false-raw))

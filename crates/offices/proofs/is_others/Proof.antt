@@ -12,12 +12,9 @@ pub is_others_spec : {M : Type 1} → statement M
 is_others_spec =
     tie.close
     (tie.spec
-    (λ c κs. let b = c.before in (name_laid b.args.update b.requires.1.1.1.1.1 c.if1.true, b.requires.0))
-    (λ c m w. let b = c.before.before in
-    c.names-others.ensures ∙ naming b.args.update b.args.office m b.requires.1.1.1.1.0 w.named c.before.if1.true)
-    (λ c κs. let b = c.before.before in (b.requires.0, (b.requires.1.0, (b.requires.1.1.0, (b.requires.1.1.1.0, b.requires.1.1.1.1.1.removed c.if2.true)))))
-    (λ c m w. let b = c.before.before.before in
-    c.removes-needed.ensures m w ∙ removing b.args.update b.args.office m b.requires.1.1.1.1.0 c.before.if2.true)
+    (λ c κs. (name_laid c.args.update c.requires.1.1.1.1.1 c.if-kind.true, c.requires.0))
+    (λ c m w. c.names_others.ensures ∙ naming c.args.update c.args.office m c.requires.1.1.1.1.0 w.named c.if-kind.true)
+    (λ c κs. (c.requires.0, (c.requires.1.0, (c.requires.1.1.0, (c.requires.1.1.1.0, c.requires.1.1.1.1.1.removed c.if-kind-eq-REMOVE_SNAPSHOTS.true)))))
+    (λ c m w. c.removes_needed.ensures m w ∙ removing c.args.update c.args.office m c.requires.1.1.1.1.0 c.if-kind-eq-REMOVE_SNAPSHOTS.true)
     (λ c κs. search rules)
-    (λ c m w. let b = c.before.before.before in
-    ap (λ (t : Bool). t && is_second b.args.office) c.is-kept.ensures ∙ kept_kind b.args.update b.args.office m b.requires.1.1.1.1.0 c.before.before.if1.false (ne_eqb _ _ c.before.if2.false)))
+    (λ c m w. ap (λ (t : Bool). t && is_second c.args.office) c.is_kept.ensures ∙ kept_kind c.args.update c.args.office m c.requires.1.1.1.1.0 c.if-kind.false (ne_eqb _ _ c.if-kind-eq-REMOVE_SNAPSHOTS.false)))

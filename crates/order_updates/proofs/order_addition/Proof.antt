@@ -128,27 +128,25 @@ module _ (b : TableMetadataBuilder) (t : SortOrders) (s : Schema) (o : SortOrder
           new = λ h. rw (g (accepted (eqb-true number 0 h)).0) (new_order_not_held (read_sort_order o) (read_sort_orders t) formed e);
         }
 
-returns : tie.Need-returns
+returns : tie.Need-returns-then-found
 returns c =
     let f = c.before.before.before in
-    let a = f.before in
-    let r = f.reuse-or-create-new-sort-id in
-    let yes = c.before.if1.true in
-    held a.args.b a.args.t a.args.s a.args.o a.requires.1.1.1 r.result.id (r.ensures.held yes) r.result.is_last (r.ensures.again yes)
+    let r = f.reuse_or_create_new_sort_id-x in
+    let yes = c.if-found.true in
+    held f.args.b f.args.t f.args.s f.args.o f.requires.1.1.1 r.result.id (r.ensures.held yes) r.result.is_last (r.ensures.again yes)
 
-returns_2 : tie.Need-returns-2
+returns_2 : tie.Need-returns
 returns_2 c =
     let u = c.before.before.before in
     let j = u.before in
     let f = j.before.before in
-    let a = f.before in
-    let r = f.reuse-or-create-new-sort-id in
-    let no = j.if1.false in
-    new a.args.b a.args.t a.args.s a.args.o a.requires.1.1.1 r.result.id (r.ensures.new no) a.requires.1.0
+    let r = f.reuse_or_create_new_sort_id-x in
+    let no = j.if-found.false in
+    new f.args.b f.args.t f.args.s f.args.o f.requires.1.1.1 r.result.id (r.ensures.new no) f.requires.1.0
     r.result.exhausted (r.ensures.over no) (r.ensures.gets no)
-    u.is-unfit.result u.is-unfit.ensures
-    c.choose3.result
-    (c.choose3.ensures ∙ ap (cond r.result.exhausted 18) (c.before.choose2.ensures ∙ ap (cond u.is-unfit.result 17) c.before.before.choose.ensures))
+    u.is_unfit-unfit.result u.is_unfit-unfit.ensures
+    c.choose-number.result
+    (c.choose-number.ensures ∙ ap (cond r.result.exhausted 18) (c.choose-rest.ensures ∙ ap (cond u.is_unfit-unfit.result 17) c.choose-later.ensures))
 
 pub order_addition_spec : {M : Type 1} → statement M
 order_addition_spec =

@@ -30,19 +30,18 @@ returns c st p q =
     let x = c.before.before.before in
     let k = x.before.before in
     let g = k.before.before.before in
-    let s = g.before.before in
-    let a = s.args in
+    let a = g.args in
     let last : Option ℤ = st.added.order in
     let current : ℤ = st.metadata.fields.default_order in
     let K =
-    chosen_as k.before.before.order-key.ensures
-    (ap (given a.b.has_order) k.before.order-key2.ensures ∙ ap (λ (b : TableMetadataBuilder). added_order b) p ∙ given_back last)
-    (k.order-key3.ensures ∙ ap (λ (b : TableMetadataBuilder). b.fields.default_sort_order_id.0) p)
-    (λ i z. (lent_in (tidy_sort_orders s.requires) (λ y. y.id) g.ids-of.ensures.0 z ∙ ap (λ (l : List plain.SortOrder). holds_order l z) (ap (λ (t : SortOrders). read_sort_orders t) q ∙ reread_sort_orders st.metadata.orders)) i)
-    x.choose-id.ensures in
+    chosen_as k.order_key-asked.ensures
+    (ap (given a.b.has_order) k.order_key-last.ensures ∙ ap (λ (b : TableMetadataBuilder). added_order b) p ∙ given_back last)
+    (k.order_key-current.ensures ∙ ap (λ (b : TableMetadataBuilder). b.fields.default_sort_order_id.0) p)
+    (λ i z. (lent_in (tidy_sort_orders g.requires) (λ y. y.id) g.ids_of-ids.ensures.0 z ∙ ap (λ (l : List plain.SortOrder). holds_order l z) (ap (λ (t : SortOrders). read_sort_orders t) q ∙ reread_sort_orders st.metadata.orders)) i)
+    x.choose_id-x.ensures in
     let y : ℤ = chosen a.id.0 last in
-    let new : c.before.before.order-id.result ≡ record { 0 = y } = λ i. record { 0 = (c.before.before.order-id.ensures ∙ K.takes) i } in
-    let put : c.before.order-id2.result ≡ record { 0 = choice_logged y last } = λ i. record { 0 = (c.before.order-id2.ensures ∙ K.logs) i } in (
+    let new : c.order_id-chosen.result ≡ record { 0 = y } = λ i. record { 0 = (c.order_id-chosen.ensures ∙ K.takes) i } in
+    let put : c.order_id-logged.result ≡ record { 0 = choice_logged y last } = λ i. record { 0 = (c.order_id-logged.ensures ∙ K.logs) i } in (
       K.checked,
       λ z. rw (K.unchanged, put, new, p) (stepped_unless (eq_z y current) st (on_fields (with_default_order y) st) (SetDefaultSortOrder (choice_logged y last)) _ _ refl refl refl),
     )
@@ -55,8 +54,8 @@ order_choice_spec =
     (λ c κs. search rules)
     (λ c κs. search rules)
     (λ c κs. search rules)
-    (λ c. let g = c.before.before.before in lent_within (tidy_sort_orders g.before.before.requires) (λ y. y.id) g.ids-of.ensures.0)
-    (λ c. let g = c.before.before.before.before in lent_slice (tidy_sort_orders g.before.before.requires) (λ y. y.id) g.ids-of.ensures.0)
+    (λ c. lent_within (tidy_sort_orders c.requires) (λ y. y.id) c.ids_of-ids.ensures.0)
+    (λ c. lent_slice (tidy_sort_orders c.requires) (λ y. y.id) c.ids_of-ids.ensures.0)
     (λ c κs. search rules)
     (λ c κs. search rules)
     (λ c κs. search rules)

@@ -29,16 +29,15 @@ counted_empty [] n e = eq-eqb n 0 (sym e)
 counted_empty (x ∷ l) n e = ne_eqb n 0 (λ q. omega arith)
 
 -- what an order with fields would get
-as_any : (c : tie.After-order-id) → let x = c.before in let s = x.before.before.before.before.before in let l = read_sort_orders s.args.t in let r = x.reuse-or-create-new-id.result in
-    Numbered (reused_order (read_sort_order s.args.o) l) (eq_z (highest (order_ids l)) largest_sort_order_id) (suc_ℤ (highest (order_ids l))) (given s.args.has_last s.args.last.0) r.found r.exhausted r.is_last c.order-id.result.0
+as_any : (c : tie.After-order_id-id) → let x = c.before in let s = x.before.before.before.before.before in let l = read_sort_orders s.args.t in let r = x.reuse_or_create_new_id-x.result in
+    Numbered (reused_order (read_sort_order s.args.o) l) (eq_z (highest (order_ids l)) largest_sort_order_id) (suc_ℤ (highest (order_ids l))) (given s.args.has_last s.args.last.0) r.found r.exhausted r.is_last c.order_id-id.result.0
 as_any c =
     let x = c.before in
     let k = x.before.before in
     let i = k.before.before in
-    let s = i.before in
-    let e = lent (tidy_sort_orders s.requires.0) (λ y. y.id) i.ids-of.ensures.0 in
-    numbered w64 (take_fits w64 s.args.t.count i.ids-of.result i.ids-of.ensures.1) x.reuse-or-create-new-id.ensures e (ap (given s.args.has_last) k.order-key.ensures) c.order-id.ensures
-    (reused_at (λ (y : plain.SortOrder). same_list same_sort_field y.fields (read_sort_order s.args.o).fields) (λ y. y.id) (read_sort_orders s.args.t) k.before.find-equal.ensures e)
+    let e = lent (tidy_sort_orders i.requires.0) (λ y. y.id) i.ids_of-ids.ensures.0 in
+    numbered w64 (take_fits w64 i.args.t.count i.ids_of-ids.result i.ids_of-ids.ensures.1) x.reuse_or_create_new_id-x.ensures e (ap (given i.args.has_last) k.order_key-k.ensures) c.order_id-id.ensures
+    (reused_at (λ (y : plain.SortOrder). same_list same_sort_field y.fields (read_sort_order i.args.o).fields) (λ y. y.id) (read_sort_orders i.args.t) k.find_equal-i.ensures e)
 
 -- a new one with no fields gets 0
 module _ {reused : Option ℤ} {over exhausted is_last : Bool} {next id : ℤ} {last : Option ℤ} where
@@ -54,18 +53,17 @@ module _ {reused : Option ℤ} {over exhausted is_last : Bool} {next id : ℤ} {
   as_it_is true false k e = absurd (true≢false e)
 
 -- whether there are fields is told by their count
-told : (c : tie.After-order-id) {t : Bool} → let x = c.before in let s = x.before.before.before.before.before in let found = x.reuse-or-create-new-id.result.found in
-    (not found && eqb s.args.o.count 0) ≡ t → (not found && is_empty (read_sort_order s.args.o).fields) ≡ t
+told : (c : tie.After-order_id-id) {t : Bool} → let x = c.before in let found = x.reuse_or_create_new_id-x.result.found in
+    (not found && eqb x.args.o.count 0) ≡ t → (not found && is_empty (read_sort_order x.args.o).fields) ≡ t
 told c e =
-    let x = c.before in
-    let o = x.before.before.before.before.before.args.o in
-    ap (λ (b : Bool). not x.reuse-or-create-new-id.result.found && b) (sym (counted_empty (read_sort_order o).fields o.count (listed_length sort_fields o))) ∙ e
+    let o = c.args.o in
+    ap (λ (b : Bool). not c.reuse_or_create_new_id-x.result.found && b) (sym (counted_empty (read_sort_order o).fields o.count (listed_length sort_fields o))) ∙ e
 
-returns : tie.Need-returns
-returns c = let y = c.before.before in zero _ y.before.reuse-or-create-new-id.result.found (as_any y) (told y c.if1.true)
+returns : tie.Need-returns-then-x-m
+returns c = let y = c.before.before in zero _ y.reuse_or_create_new_id-x.result.found (as_any y) (told y c.if-x-m.true)
 
-returns_2 : tie.Need-returns-2
-returns_2 c = let y = c.before.before in as_it_is _ y.before.reuse-or-create-new-id.result.found (as_any y) (told y c.if1.false)
+returns_2 : tie.Need-returns
+returns_2 c = let y = c.before.before in as_it_is _ y.reuse_or_create_new_id-x.result.found (as_any y) (told y c.if-x-m.false)
 
 pub reuse_or_create_new_sort_id_spec : {M : Type 1} → statement M
 reuse_or_create_new_sort_id_spec =
@@ -74,8 +72,8 @@ reuse_or_create_new_sort_id_spec =
     (λ c κs. search rules)
     (λ c κs. search rules)
     (λ c κs. search rules)
-    (λ c. let i = c.before.before in lent_within (tidy_sort_orders i.before.requires.0) (λ y. y.id) i.ids-of.ensures.0)
-    (λ c. let i = c.before.before.before in lent_slice (tidy_sort_orders i.before.requires.0) (λ y. y.id) i.ids-of.ensures.0)
+    (λ c. lent_within (tidy_sort_orders c.requires.0) (λ y. y.id) c.ids_of-ids.ensures.0)
+    (λ c. lent_slice (tidy_sort_orders c.requires.0) (λ y. y.id) c.ids_of-ids.ensures.0)
     (λ c κs. search rules)
     (λ c κs. search rules)
     returns

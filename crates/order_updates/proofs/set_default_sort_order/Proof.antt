@@ -13,9 +13,8 @@ returns : tie.Need-returns
 unfolding checks offers_formed effect
 returns c terms st p q =
     let x = c.before.before.before in
-    let s = x.before.before in
-    let u = s.args.u in
-    rw (c.decided.ensures, read_kind_lem u s.requires.1.0 13 s.requires.1.1) (entry_as (x.order-choice.ensures st p q) (ap (λ (y : TableUpdate). with_sort_orders_part (with_sort_order_id x.order-choice.result.order_id y.sort_orders) y) (of_kind_lem u s.requires.1.0 13 s.requires.1.1)))
+    let u = x.args.u in
+    rw (c.decided.ensures, read_kind_lem u x.requires.1.0 13 x.requires.1.1) (entry_as (x.order_choice-x.ensures st p q) (ap (λ (y : TableUpdate). with_sort_orders_part (with_sort_order_id x.order_choice-x.result.order_id y.sort_orders) y) (of_kind_lem u x.requires.1.0 13 x.requires.1.1)))
 
 pub set_default_sort_order_spec : {M : Type 1} → statement M
 set_default_sort_order_spec = tie.close (tie.spec (λ c κs. search rules) (λ c κs. search rules) returns)

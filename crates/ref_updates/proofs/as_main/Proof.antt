@@ -13,8 +13,8 @@ use Rattle.ref_updates.proofs.as_main.Tie as tie
 returns : tie.Need-returns
 unfolding laid_builder laid_fields
 returns c st e =
-    let a = c.before.before.args in
-    let t : c.before.own-or.result ≡ record { 0 = or_else st.own a.clock.0 } = λ i. record { 0 = (c.before.own-or.ensures ∙ ap (λ (o : Option ℤ). or_else o a.clock.0) (its_own st e)) i } in
+    let a = c.args in
+    let t : c.own_or-own.result ≡ record { 0 = or_else st.own a.clock.0 } = λ i. record { 0 = (c.own_or-own.ensures ∙ ap (λ (o : Option ℤ). or_else o a.clock.0) (its_own st e)) i } in
     rw (t, e)
 
 pub as_main_spec : {M : Type 1} → statement M

@@ -7,6 +7,6 @@ pub commits_on_tag_spec : {M : Type 1} → statement M
 commits_on_tag_spec =
     tie.close
     (tie.spec
-    (λ c κs. let s = c.before.before in (s.requires.0, s.requires.1 c.if1.true))
-    (λ c. rw (eq-eqb _ _ c.before.if1.true) c.is-tag.ensures)
-    (λ c. rw (ne_eqb _ _ c.if1.false)))
+    (λ c κs. (c.requires.0, c.requires.1 c.if-k-eq-SET_BRANCH_SNAPSHOT.true))
+    (λ c. rw (eq-eqb _ _ c.if-k-eq-SET_BRANCH_SNAPSHOT.true) c.is_tag.ensures)
+    (λ c. rw (ne_eqb _ _ c.if-k-eq-SET_BRANCH_SNAPSHOT.false)))

@@ -18,16 +18,15 @@ use Rattle.ref_updates.proofs.is_tag.Statement.{statement}
 use Rattle.ref_updates.proofs.is_tag.Tie as tie
 
 -- the rule's answer, by what stands at the place
-answer : (c : tie.After-find) (d : NamedRef) → let s = c.before in
-    is_tag (read_name s.args.name) (read_refs s.args.t1) ≡ some_with (λ (r : plain.NamedRef). eqb r.reference.kind tag) (given (ltb c.find.result s.args.t1.count) (read_ref (get_or s.args.t1.items c.find.result d)))
-answer c d = ap (some_with (λ (r : plain.NamedRef). eqb r.reference.kind tag)) (named c.before.requires.0 (read_name c.before.args.name) d c.find.ensures)
+answer : (c : tie.After-find-i) (d : NamedRef) → is_tag (read_name c.args.name) (read_refs c.args.t) ≡ some_with (λ (r : plain.NamedRef). eqb r.reference.kind tag) (given (ltb c.find-i.result c.args.t.count) (read_ref (get_or c.args.t.items c.find-i.result d)))
+answer c d = ap (some_with (λ (r : plain.NamedRef). eqb r.reference.kind tag)) (named c.requires.0 (read_name c.args.name) d c.find-i.ensures)
 
 pub is_tag_spec : {M : Type 1} → statement M
 is_tag_spec =
     tie.close
     (tie.spec
     (λ c κs. search rules)
-    (λ c. sym (rw (le-ltb _ _ c.if1.true) at (answer c.before no_ref)))
-    (λ c. omega (arith, named_within c.before.before.requires.0))
-    (λ c. omega (arith, named_within c.before.before.requires.0))
-    (λ c. sym (answer c.before.before.before _ ∙ of_set (λ (r : plain.NamedRef). eqb r.reference.kind tag) _ (lt-ltb _ _ c.before.before.if1.false))))
+    (λ c. sym (rw (le-ltb _ _ c.if-i-n.true) at (answer c.before no_ref)))
+    (λ c. omega (arith, named_within c.requires.0))
+    (λ c. omega (arith, named_within c.requires.0))
+    (λ c. sym (answer c.before.before.before _ ∙ of_set (λ (r : plain.NamedRef). eqb r.reference.kind tag) _ (lt-ltb _ _ c.if-i-n.false))))

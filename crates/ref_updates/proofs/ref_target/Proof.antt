@@ -21,5 +21,5 @@ pub ref_target_spec : {M : Type 1} → statement M
 ref_target_spec =
     tie.close
     (tie.spec
-    (λ c l. rw (eq-eqb _ _ c.before.if1.true))
-    (λ c l. rw (ne_eqb _ _ c.before.if1.false) (to_it _ _ l)))
+    (λ c l. rw (eq-eqb _ _ c.if-k-eq-SET_REF.true))
+    (λ c l. rw (ne_eqb _ _ c.if-k-eq-SET_REF.false) (to_it _ _ l)))

@@ -46,29 +46,28 @@ module _ (s : tie.Start) where
 
   entry : s.args.u ≡ laid_update (RemoveRef (read_name s.args.u.refs.name))
   unfolding laid_update
-  entry = of_kind_lem s.args.u s.pre.1.1.0 8 s.pre.1.1.1 ∙ rw s.pre.1.0.back
+  entry = of_kind_lem s.args.u s.requires.1.1.0 8 s.requires.1.1.1 ∙ rw s.requires.1.0.back
 
 -- the name is held exactly if the place is within the count
-is_named_lem : (c : tie.After-find) (st : State) → let s = c.before.before.before in
-    s.args.t ≡ laid_refs st.metadata.refs → is_some (ref_named (read_name s.args.u.refs.name) st.metadata.refs) ≡ ltb c.find.result s.args.t.count
+is_named_lem : (c : tie.After-find-at) (st : State) → let s = c.before.before.before in
+    s.args.t ≡ laid_refs st.metadata.refs → is_some (ref_named (read_name s.args.u.refs.name) st.metadata.refs) ≡ ltb c.find-at.result s.args.t.count
 is_named_lem c st r =
-    let s = c.before.before.before in
-    let n = read_name s.args.u.refs.name in
-    ap is_some (ap (ref_named n) (sym (ap (λ (t : Refs). read_refs t) r ∙ reread_refs st.metadata.refs)) ∙ named s.requires.0 n no_ref c.find.ensures) ∙ flag_given (ltb c.find.result s.args.t.count) (read_ref (get_or s.args.t.items c.find.result no_ref))
+    let n = read_name c.args.u.refs.name in
+    ap is_some (ap (ref_named n) (sym (ap (λ (t : Refs). read_refs t) r ∙ reread_refs st.metadata.refs)) ∙ named c.requires.0 n no_ref c.find-at.ensures) ∙ flag_given (ltb c.find-at.result c.args.t.count) (read_ref (get_or c.args.t.items c.find-at.result no_ref))
 
-returns : tie.Need-returns
+returns : tie.Need-returns-then-main
 unfolding offers_formed checks effect
 returns c terms st p q =
     let k = c.before.before.before in
     let s = k.before.before.before in
-    rw (c.decided.ensures, read s) (refl, λ z. main_gone (read_name s.args.u.refs.name) st (entry s) (sym k.before.is-main-name.ensures ∙ c.before.before.if1.true) (c.before.without-current.ensures st p))
+    rw (c.decided.ensures, read s) (refl, λ z. main_gone (read_name s.args.u.refs.name) st (entry s) (sym k.is_main_name-main.ensures ∙ c.if-main.true) (c.without_current-c.ensures st p))
 
-returns_2 : tie.Need-returns-2
+returns_2 : tie.Need-returns
 unfolding offers_formed checks effect
 returns_2 c terms st p q =
     let k = c.before.before in
     let s = k.before.before.before in
-    rw (c.decided2.ensures, read s) (refl, λ z. other_gone (read_name s.args.u.refs.name) st (entry s) (sym k.before.is-main-name.ensures ∙ c.before.if1.false) (ltb k.find.result s.args.t.count) (is_named_lem k st q) p)
+    rw (c.decided-2.ensures, read s) (refl, λ z. other_gone (read_name s.args.u.refs.name) st (entry s) (sym k.is_main_name-main.ensures ∙ c.if-main.false) (ltb k.find-at.result s.args.t.count) (is_named_lem k st q) p)
 
 pub remove_ref_spec : {M : Type 1} → statement M
 remove_ref_spec =

@@ -14,5 +14,5 @@ set_ref_builder_spec =
     (tie.spec
     (λ c κs. search rules)
     (λ c κs. search rules)
-    (λ c st own e o. rw c.before.if1.true (c.as-main.ensures (with_own own st) (c.before.before.with-own.ensures st e ∙ ap (λ (x : Option ℤ). laid_builder (with_own x st)) o)))
-    (λ c st own e o. rw c.if1.false (c.before.with-own.ensures st e ∙ ap (λ (x : Option ℤ). laid_builder (with_own x st)) o)))
+    (λ c st own e o. rw c.if-main.true (c.as_main.ensures (with_own own st) (c.with_own-c.ensures st e ∙ ap (λ (x : Option ℤ). laid_builder (with_own x st)) o)))
+    (λ c st own e o. rw c.if-main.false (c.with_own-c.ensures st e ∙ ap (λ (x : Option ℤ). laid_builder (with_own x st)) o)))

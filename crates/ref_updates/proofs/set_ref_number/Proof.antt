@@ -12,4 +12,4 @@ set_ref_number_spec =
     (λ c κs. search rules)
     (λ c κs. search rules)
     (λ c κs. search rules)
-    (λ c. rw (c.choose3.ensures, c.before.choose2.ensures, c.before.before.choose.ensures, c.before.before.before.is-full2.ensures, c.before.before.before.before.is-full.ensures)))
+    (λ c. rw (c.choose.ensures, c.choose-m19.ensures, c.choose-n19.ensures, c.is_full-refs_full.ensures, c.is_full-log_full.ensures)))

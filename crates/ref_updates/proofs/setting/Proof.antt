@@ -5,4 +5,4 @@ use Rattle.ref_updates.proofs.setting.Statement.{statement}
 use Rattle.ref_updates.proofs.setting.Tie as tie
 
 pub setting_spec : {M : Type 1} → statement M
-setting_spec = tie.close (tie.spec (λ c κs. search rules) (λ c k e h b. let s = c.before.before in rw c.before.blank.ensures (set s.args.u e s.args.r h b k)))
+setting_spec = tie.close (tie.spec (λ c κs. search rules) (λ c k e h b. rw c.blank-none.ensures (set c.args.u e c.args.r h b k)))

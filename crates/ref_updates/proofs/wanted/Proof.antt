@@ -10,7 +10,7 @@ unfolding wanted_ref
 wanted_spec =
     tie.close
     (tie.spec
-    (λ c. rw (eq-eqb _ _ c.before.if1.true))
-    (λ c. rw (ne_eqb _ _ c.before.before.if1.false, c.before.if2.true))
+    (λ c. rw (eq-eqb _ _ c.if-k-eq-SET_REF.true))
+    (λ c. rw (ne_eqb _ _ c.if-k-eq-SET_REF.false, c.if-held.true))
     (λ c κs. search rules)
-    (λ c. rw (ne_eqb _ _ c.before.before.if1.false, c.before.if2.false, c.blank.ensures)))
+    (λ c. rw (ne_eqb _ _ c.if-k-eq-SET_REF.false, c.if-held.false, c.blank-r.ensures)))

@@ -23,10 +23,10 @@ disjoint_from i l = each_pair rows_disjoint l
 disjoint_on : {l : List plain.Snapshot} {i : ℕ} {ok : Bool} → Scanned disjoint_from l 0 i true ok → (d : plain.Snapshot) {z : Bool} → i < length l → z ≡ all (rows_disjoint (get_or l i d)) (drop (i + 1) l) → Scanned disjoint_from l 0 (i + 1) true (ok && z)
 disjoint_on {l} {i} s d {z} h e = scan_on s d z h (ap (λ (b : Bool). b && each_pair rows_disjoint (drop (i + 1) l)) (sym e))
 
-abbrev invariant_loop : tie.invariant_loop
+abbrev invariant_loop : tie.invariant-loop-i
 invariant_loop t n ok₀ i₀ ok i = (i ≤ n) × Scanned disjoint_from (read_snapshots t) 0 i true ok
 
-abbrev decreases_loop : tie.decreases_loop
+abbrev decreases_loop : tie.decreases-loop-i
 decreases_loop t n ok₀ i₀ ok i = n - i
 
 pub all_disjoint_spec : {M : Type 1} → statement M
@@ -36,13 +36,12 @@ all_disjoint_spec =
     invariant_loop
     decreases_loop
     (λ c. (search rules, scan_start))
-    (λ c. omega (arith, within (tidy_snapshots c.before.before.requires)))
-    (λ c. omega (arith, within (tidy_snapshots c.before.before.requires)))
+    (λ c. omega (arith, within (tidy_snapshots c.requires)))
+    (λ c. omega (arith, within (tidy_snapshots c.requires)))
     (λ c. search rules)
-    (λ c κs. (c.before.before.before.requires, omega arith))
+    (λ c κs. (c.requires, omega arith))
     (λ c. search rules)
-    (λ c. let l = c.before.before.before in
-    let h = tidy_snapshots l.before.requires in
-    let t = read_snapshots l.before.args.t1 in
-    (omega arith, disjoint_on l.loop.invariant.1 _ (omega (arith, read_length h)) (c.disjoint-from.ensures ∙ ap (λ (x : plain.Snapshot). all (rows_disjoint x) (drop (l.loop.i + 1) t)) (sym (at h l.loop.i _ (omega arith))))))
-    (λ c. scan_end c.before.loop.invariant.1 (omega (arith, read_length (tidy_snapshots c.before.before.requires))) refl))
+    (λ c. let h = tidy_snapshots c.requires in
+    let t = read_snapshots c.args.t in
+    (omega arith, disjoint_on c.loop-i.invariant.1 _ (omega (arith, read_length h)) (c.disjoint_from-ok.ensures ∙ ap (λ (x : plain.Snapshot). all (rows_disjoint x) (drop (c.loop-i.i + 1) t)) (sym (at h c.loop-i.i _ (omega arith))))))
+    (λ c. scan_end c.loop-i.invariant.1 (omega (arith, read_length (tidy_snapshots c.requires))) refl))

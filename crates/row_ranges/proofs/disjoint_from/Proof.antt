@@ -13,10 +13,10 @@ use Rattle.formed.proofs.Scans.{Scanned, scan_start, each, each_on, each_end}
 use Rattle.row_ranges.proofs.disjoint_from.Statement.{statement}
 use Rattle.row_ranges.proofs.disjoint_from.Tie as tie
 
-abbrev invariant_loop : tie.invariant_loop
+abbrev invariant_loop : tie.invariant-loop-i
 invariant_loop a from t n ok₀ i₀ ok i = (i ≤ n) × Scanned (each (rows_disjoint (read_snapshot a))) (read_snapshots t) from i true ok
 
-abbrev decreases_loop : tie.decreases_loop
+abbrev decreases_loop : tie.decreases-loop-i
 decreases_loop a from t n ok₀ i₀ ok i = n - i
 
 pub disjoint_from_spec : {M : Type 1} → statement M
@@ -26,12 +26,11 @@ disjoint_from_spec =
     invariant_loop
     decreases_loop
     (λ c. (search rules, scan_start))
-    (λ c. omega (arith, within (tidy_snapshots c.before.before.requires.0)))
-    (λ c. omega (arith, within (tidy_snapshots c.before.before.requires.0)))
+    (λ c. omega (arith, within (tidy_snapshots c.requires.0)))
+    (λ c. omega (arith, within (tidy_snapshots c.requires.0)))
     (λ c κs. search rules)
     (λ c. search rules)
     (λ c. search rules)
-    (λ c. let l = c.before.before.before in
-    let h = tidy_snapshots l.before.requires.0 in
-    (omega arith, each_on l.loop.invariant.1 _ (omega (arith, read_length h)) (c.rows-disjoint.ensures ∙ ap (rows_disjoint (read_snapshot l.before.args.a)) (sym (at h l.loop.i _ (omega arith))))))
-    (λ c. each_end c.before.loop.invariant.1 (omega (arith, read_length (tidy_snapshots c.before.before.requires.0)))))
+    (λ c. let h = tidy_snapshots c.requires.0 in
+    (omega arith, each_on (rows_disjoint (read_snapshot c.args.a)) c.loop-i.invariant.1 _ (omega (arith, read_length h)) (c.rows_disjoint-ok.ensures ∙ ap (rows_disjoint (read_snapshot c.args.a)) (sym (at h c.loop-i.i _ (omega arith))))))
+    (λ c. each_end (rows_disjoint (read_snapshot c.args.a)) c.loop-i.invariant.1 (omega (arith, read_length (tidy_snapshots c.requires.0)))))

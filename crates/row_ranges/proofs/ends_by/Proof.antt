@@ -18,5 +18,5 @@ pub ends_by_spec : {M : Type 1} → statement M
 ends_by_spec =
     tie.close
     (tie.spec
-    (λ c. let a = c.before.before.before.args in sym (lt-leb (a.first.0 + a.added) a.bound.0 (omega arith)))
-    (λ c. let a = c.before.before.before.before.before.args in room_left a.first.0 a.added a.bound.0 (omega arith)))
+    (λ c. let a = c.args in sym (lt-leb (a.first.0 + a.added) a.bound.0 (omega arith)))
+    (λ c. let a = c.args in room_left a.first.0 a.added a.bound.0 (omega arith)))

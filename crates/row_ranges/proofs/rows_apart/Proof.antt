@@ -39,7 +39,7 @@ rows_apart_spec =
     tie.close
     (tie.spec
     (λ c κs. search rules)
-    (λ c. rw (sym c.before.is-formed.ensures ∙ not-true _ c.if1.true))
-    (λ c κs. laid c.before.before.before.before.before.args.m (sym c.before.is-formed.ensures ∙ not-false _ c.if1.false))
-    (λ c κs. laid c.before.before.before.before.before.before.args.m (sym c.before.before.is-formed.ensures ∙ not-false _ c.before.if1.false))
-    (λ c. apart_is c.before.before.before.before.before.before.before.args.m (sym c.before.before.before.is-formed.ensures ∙ not-false _ c.before.before.if1.false) c.before.all-disjoint.ensures c.all-end-by.ensures))
+    (λ c. rw (sym c.is_formed.ensures ∙ not-true _ c.if-not-is_formed.true-raw))
+    (λ c κs. laid c.args.m (sym c.is_formed.ensures ∙ not-false _ c.if-not-is_formed.false-raw))
+    (λ c κs. laid c.args.m (sym c.is_formed.ensures ∙ not-false _ c.if-not-is_formed.false-raw))
+    (λ c. apart_is c.args.m (sym c.is_formed.ensures ∙ not-false _ c.if-not-is_formed.false-raw) c.all_disjoint.ensures c.all_end_by.ensures))

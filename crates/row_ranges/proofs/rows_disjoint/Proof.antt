@@ -21,4 +21,4 @@ both : (a b : Snapshot) {x y : Bool} → x ≡ leb (range_end a.first_row_id a.a
 both a b e k = cases a.has_rows (λ t. cases b.has_rows (λ u. rw (t, u, e, k) (four (eqb a.added_rows 0) (eqb b.added_rows 0) _ _)) (λ f. rw (t, f))) (λ f. rw f)
 
 pub rows_disjoint_spec : {M : Type 1} → statement M
-rows_disjoint_spec = tie.close (tie.spec (λ c κs. search rules) (λ c κs. search rules) (λ c. let a = c.before.before.before.before.before.before.before.before.args in both a.a a.b c.before.ends_by.ensures c.ends-by2.ensures))
+rows_disjoint_spec = tie.close (tie.spec (λ c κs. search rules) (λ c κs. search rules) (λ c. let a = c.args in both a.a a.b c.ends_by-before.ensures c.ends_by-after.ensures))

@@ -16,4 +16,4 @@ ended : (s : Snapshot) (next : ℕ) {z : Bool} → z ≡ leb (range_end s.first_
 ended s next e = cases s.has_rows (λ t. rw t e) (λ f. rw f)
 
 pub rows_end_by_spec : {M : Type 1} → statement M
-rows_end_by_spec = tie.close (tie.spec (λ c κs. search rules) (λ c. let a = c.before.before.before.args in ended a.s a.next.0 c.ends_by.ensures))
+rows_end_by_spec = tie.close (tie.spec (λ c κs. search rules) (λ c. let a = c.args in ended a.s a.next.0 c.ends_by.ensures))

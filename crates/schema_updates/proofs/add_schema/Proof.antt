@@ -32,10 +32,10 @@ module _ (s : tie.Start) where
   offer = read_schema_offer s.args.u.schemas.added
 
   as_kind : s.args.u ≡ by_kind 9 s.args.u
-  as_kind = of_kind_lem s.args.u s.pre.1.1.0 9 s.pre.1.1.1
+  as_kind = of_kind_lem s.args.u s.requires.1.1.0 9 s.requires.1.1.1
 
   read : read_update s.args.u ≡ AddSchema offer
-  read = read_kind_lem s.args.u s.pre.1.1.0 9 s.pre.1.1.1
+  read = read_kind_lem s.args.u s.requires.1.1.0 9 s.requires.1.1.1
 
   abbrev Told : State → Type 0
   Told st = Sought st.metadata (read_schema s.args.offered.schema) s.args.keys s.args.equal s.args.taken
@@ -59,35 +59,35 @@ module _ (s : tie.Start) where
     unfolding laid_schema offered_schema
     named = sym (ap (λ (t : Schema). t.schema_id.0) (f.says w))
 
-returns : tie.Need-returns
+returns : tie.Need-returns-then-not-offered
 unfolding checks offers_formed
 returns c =
     let s = c.before.before.before in
-    let n : s.args.offered.formed ≡ false = not-true s.args.offered.formed c.before.if1.true in
+    let n : s.args.offered.formed ≡ false = not-true s.args.offered.formed c.if-not-offered.true in
     refused s c.decided.result 3 (λ (e : ◌≡◌ {A = ℕ} 3 0). omega arith)
     (ap (λ (x : Decision). x.number) c.decided.ensures)
     (ap (λ (x : Decision). x.grows) c.decided.ensures)
     (λ terms st f q. rw (sym f.formed ∙ n))
 
-returns_2 : tie.Need-returns-2
+returns_2 : tie.Need-returns-then-taken
 unfolding checks offers_formed add_schema_checks
 returns_2 c =
     let s = c.before.before.before.before in
-    let w : s.args.offered.formed ≡ true = not-false s.args.offered.formed c.before.before.if1.false in
-    refused s c.decided2.result 31 (λ (e : ◌≡◌ {A = ℕ} 31 0). omega arith)
-    (ap (λ (x : Decision). x.number) c.decided2.ensures)
-    (ap (λ (x : Decision). x.grows) c.decided2.ensures)
-    (λ terms st f q. rw (sym f.formed ∙ w, ← (said s w terms f), ← q.clash, c.before.if2.true))
+    let w : s.args.offered.formed ≡ true = not-false s.args.offered.formed c.if-not-offered.false in
+    refused s c.decided-then-taken.result 31 (λ (e : ◌≡◌ {A = ℕ} 31 0). omega arith)
+    (ap (λ (x : Decision). x.number) c.decided-then-taken.ensures)
+    (ap (λ (x : Decision). x.grows) c.decided-then-taken.ensures)
+    (λ terms st f q. rw (sym f.formed ∙ w, ← (said s w terms f), ← q.clash, c.if-taken.true))
 
-returns_3 : tie.Need-returns-3
+returns_3 : tie.Need-returns
 unfolding checks offers_formed effect
 returns_3 c =
     let x = c.before.before.before.before in
-    let s = x.before.before.before.before in
-    let a = x.schema-addition in
-    let w : s.args.offered.formed ≡ true = not-false s.args.offered.formed x.before.before.if1.false in
+    let s = x.before.before.before.before.before in
+    let a = x.schema_addition-x in
+    let w : s.args.offered.formed ≡ true = not-false s.args.offered.formed x.if-not-offered.false in
     let free : (st : State) → Told s st → Sought st.metadata (read_schema s.args.offered.schema) s.args.keys s.args.equal false =
-    λ st q. record { ids = q.ids; place = q.place; clash = sym x.before.if2.false ∙ q.clash } in
+    λ st q. record { ids = q.ids; place = q.place; clash = sym x.if-taken.false ∙ q.clash } in
     record {
       answers = λ terms st f p q. rw (read s, sym f.formed ∙ w) (entry_as (rw (said s w terms f) at (a.ensures.answers (offer s) st (named s w terms f) p (free st q))) (ap (λ (t : TableUpdate). with_schemas_part (with_schema_offer (laid_schema_offer (offered_as a.result.schema_id.0 (offer s))) t.schemas) t) (as_kind s)));
       table = λ terms st f q z. rw (read s, ← (said s w terms f)) (a.ensures.table (offer s) st (free st q) z);
@@ -95,4 +95,4 @@ returns_3 c =
     }
 
 pub add_schema_spec : {M : Type 1} → statement M
-add_schema_spec = tie.close (tie.spec (λ c κs. search rules) returns (λ c κs. search rules) returns_2 (λ c κs. let s = c.before.before.before in (s.requires.0, s.requires.1.0)) returns_3)
+add_schema_spec = tie.close (tie.spec (λ c κs. search rules) returns (λ c κs. search rules) returns_2 (λ c κs. (c.requires.0, c.requires.1.0)) returns_3)

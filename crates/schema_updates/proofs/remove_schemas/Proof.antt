@@ -45,17 +45,16 @@ unfolding checks offers_formed effect remove_schemas_checks remove_schemas laid_
 returns c terms st p q =
     let h = c.before in
     let r = h.before.before in
-    let s = r.before.before.before.before.before in
-    let u = s.args.u in
+    let u = r.args.u in
     let ids : List ℤ = read_schema_ids u.schemas.removed in
-    let k : read_update u ≡ RemoveSchemas ids = read_kind_lem u s.requires.1.0 11 s.requires.1.1.1 in
+    let k : read_update u ≡ RemoveSchemas ids = read_kind_lem u r.requires.1.0 11 r.requires.1.1.1 in
     let some : ltb 0 u.schemas.removed.count ≡ not (is_empty ids) = some_counted ids u.schemas.removed.count (length-map (counted no_schema_id u.schemas.removed.items u.schemas.removed.count) (λ (x : SchemaId). x.0) ∙ length_counted no_schema_id u.schemas.removed.items u.schemas.removed.count) in
-    let held : h.held.result ≡ laid_schema_ids (held_schemas ids st.metadata.schemas) = h.held.ensures ∙ ap laid_schema_ids (ap (keep (is_in ids)) (keys_lent st.metadata.schemas q) ∙ keep_map (is_in ids) (λ (x : plain.Schema). x.id) st.metadata.schemas) in
+    let held : h.held-logged.result ≡ laid_schema_ids (held_schemas ids st.metadata.schemas) = h.held-logged.ensures ∙ ap laid_schema_ids (ap (keep (is_in ids)) (keys_lent st.metadata.schemas q) ∙ keep_map (is_in ids) (λ (x : plain.Schema). x.id) st.metadata.schemas) in
     let left : List plain.Schema = keep (λ (x : plain.Schema). not (is_in ids x.id)) st.metadata.schemas in
-    let e : with_schemas_part (with_schema_ids h.held.result u.schemas) u ≡ laid_update (RemoveSchemas (held_schemas ids st.metadata.schemas)) =
-    ap (λ (y : TableUpdate). with_schemas_part (with_schema_ids h.held.result y.schemas) y) (of_kind_lem u s.requires.1.0 11 s.requires.1.1.1) ∙ rw held in
+    let e : with_schemas_part (with_schema_ids h.held-logged.result u.schemas) u ≡ laid_update (RemoveSchemas (held_schemas ids st.metadata.schemas)) =
+    ap (λ (y : TableUpdate). with_schemas_part (with_schema_ids h.held-logged.result y.schemas) y) (of_kind_lem u r.requires.1.0 11 r.requires.1.1.1) ∙ rw held in
     rw (c.decided.ensures, k, some) (
-      h.before.choose.ensures ∙ rw (r.has-schema.ensures, ap (λ (b : TableMetadataBuilder). b.fields.current_schema_id.0) p),
+      h.choose-number.ensures ∙ rw (r.has_schema-removed.ensures, ap (λ (b : TableMetadataBuilder). b.fields.current_schema_id.0) p),
       λ z. stepped_unless (is_empty ids) st (with_metadata (with_schemas left st.metadata) st) (RemoveSchemas (held_schemas ids st.metadata.schemas)) _ _ refl p e,
     )
 

@@ -22,10 +22,10 @@ fits c = take_fits w32 c.args.keys.count c.args.keys.items c.requires.narrow
 
 returns : tie.Need-returns
 returns c =
-    let x = c.before in
+    let x = c.before.before in
     let k = x.before.before in
     let s = k.before.before in
-    numbered w32 (fits s) x.reuse-or-create-new-id.ensures refl (ap (given s.args.has_last) k.schema-key.ensures.0) c.schema-id.ensures refl
+    numbered w32 (fits s) x.reuse_or_create_new_id-x.ensures refl (ap (given s.args.has_last) k.schema_key-k.ensures.0) c.schema_id-id.ensures refl
 
 pub reuse_or_create_new_schema_id_spec : {M : Type 1} → statement M
 reuse_or_create_new_schema_id_spec =
@@ -35,5 +35,5 @@ reuse_or_create_new_schema_id_spec =
     (λ c. let s = c.before.before in keys_within s.requires (long s))
     (λ c. let s = c.before.before.before in keys_slice s.requires (long s))
     (λ c κs. search rules)
-    (λ c κs. given_fits w32 (fits c.before.before.before.before) c.reuse-or-create-new-id.ensures)
+    (λ c κs. given_fits w32 (fits c.before.before.before.before.before) c.reuse_or_create_new_id-x.ensures)
     returns)

@@ -142,27 +142,25 @@ module _ (b : TableMetadataBuilder) (keys : SchemaKeys) (equal : ℕ) (s : Schem
           room = λ h. omega (arith, leb-false schema_room keys.count (accepted (eqb-true number 0 h)).1.0);
         }
 
-returns : tie.Need-returns
+returns : tie.Need-returns-then-found
 returns c =
     let f = c.before.before.before in
-    let a = f.before.before in
-    let r = f.reuse-or-create-new-schema-id in
-    let yes = c.before.if1.true in
-    held a.args.b a.args.keys a.args.equal a.args.s r.result.id (r.ensures.held yes) r.result.is_last (r.ensures.again yes)
+    let r = f.reuse_or_create_new_schema_id-x in
+    let yes = c.if-found.true in
+    held f.args.b f.args.keys f.args.equal f.args.s r.result.id (r.ensures.held yes) r.result.is_last (r.ensures.again yes)
 
-returns_2 : tie.Need-returns-2
+returns_2 : tie.Need-returns
 returns_2 c =
     let i = c.before.before in
     let j = i.before.before in
     let f = j.before.before in
-    let a = f.before.before in
-    let r = f.reuse-or-create-new-schema-id in
-    let no = j.if1.false in
-    new a.args.b a.args.keys a.args.equal a.args.s r.result.id (r.ensures.new no) r.result.exhausted (r.ensures.over no) (r.ensures.gets no)
-    i.choose2.result
-    (i.choose2.ensures ∙ ap (cond r.result.exhausted 18) i.before.choose.ensures)
-    c.last-column.result
-    c.last-column.ensures
+    let r = f.reuse_or_create_new_schema_id-x in
+    let no = j.if-found.false in
+    new f.args.b f.args.keys f.args.equal f.args.s r.result.id (r.ensures.new no) r.result.exhausted (r.ensures.over no) (r.ensures.gets no)
+    i.choose-number.result
+    (i.choose-number.ensures ∙ ap (cond r.result.exhausted 18) i.choose-later.ensures)
+    c.last_column-column.result
+    c.last_column-column.ensures
 
 pub schema_addition_spec : {M : Type 1} → statement M
 schema_addition_spec =

@@ -26,22 +26,21 @@ long c = search rules
 returns : tie.Need-returns
 unfolding set_current_schema_checks set_current_schema laid_builder laid_fields laid_update
 returns c st p q =
-    let x = c.before.before.before in
+    let x = c.before.before.before.before.before in
     let k = x.before.before in
-    let g = k.before.before.before in
-    let s = g.before.before in
-    let a = s.args in
+    let g = k.before.before.before.before.before in
+    let a = g.args in
     let last : Option ℤ = st.added.schema in
     let current : ℤ = st.metadata.fields.current_schema in
     let K =
-    chosen_as k.before.before.schema-key.ensures.0
-    (ap (given a.b.has_schema) k.before.schema-key2.ensures.0 ∙ ap (λ (b : TableMetadataBuilder). added_schema b) p ∙ given_back last)
-    (k.schema-key3.ensures.0 ∙ ap (λ (b : TableMetadataBuilder). b.fields.current_schema_id.0) p)
+    chosen_as k.schema_key-asked.ensures.0
+    (ap (given a.b.has_schema) k.schema_key-last.ensures.0 ∙ ap (λ (b : TableMetadataBuilder). added_schema b) p ∙ given_back last)
+    (k.schema_key-current.ensures.0 ∙ ap (λ (b : TableMetadataBuilder). b.fields.current_schema_id.0) p)
     (λ i z. keys_in st.metadata.schemas q z i)
-    x.choose-id.ensures in
+    x.choose_id-x.ensures in
     let y : ℤ = chosen a.id.0 last in
-    let new : c.before.before.schema-id.result ≡ record { 0 = y } = λ i. record { 0 = (c.before.before.schema-id.ensures ∙ K.takes) i } in
-    let put : c.before.schema-id2.result ≡ record { 0 = choice_logged y last } = λ i. record { 0 = (c.before.schema-id2.ensures ∙ K.logs) i } in (
+    let new : c.schema_id-chosen.result ≡ record { 0 = y } = λ i. record { 0 = (c.schema_id-chosen.ensures ∙ K.takes) i } in
+    let put : c.schema_id-logged.result ≡ record { 0 = choice_logged y last } = λ i. record { 0 = (c.schema_id-logged.ensures ∙ K.logs) i } in (
       K.checked,
       λ z. rw (K.unchanged, put, new, p) (stepped_unless (eq_z y current) st (on_fields (with_current_schema y) st) (SetCurrentSchema (choice_logged y last)) _ _ refl refl refl),
     )
@@ -53,9 +52,9 @@ schema_choice_spec =
     (λ c κs. search rules)
     (λ c κs. search rules)
     (λ c κs. search rules)
-    (λ c. let s = c.before.before.before.before.before in keys_within s.requires (long s))
-    (λ c. let s = c.before.before.before.before.before.before in keys_slice s.requires (long s))
+    (λ c. let s = c.before.before.before.before.before.before.before in keys_within s.requires (long s))
+    (λ c. let s = c.before.before.before.before.before.before.before.before in keys_slice s.requires (long s))
     (λ c κs. search rules)
-    (λ c κs. let k = c.before.before.before in takes_fits w32 k.before.before.before.before.args.b.has_schema k.schema-key2.result.0 c.choose-id.ensures k.before.schema-key.ensures.1 k.schema-key2.ensures.1)
-    (λ c κs. let k = c.before.before.before.before in logs_fits w32 k.before.before.before.before.args.b.has_schema k.schema-key2.result.0 c.before.choose-id.ensures k.before.schema-key.ensures.1 k.schema-key2.ensures.1)
+    (λ c κs. takes_fits w32 c.args.b.has_schema c.schema_key-last.result.0 c.choose_id-x.ensures c.schema_key-asked.ensures.1 c.schema_key-last.ensures.1)
+    (λ c κs. logs_fits w32 c.args.b.has_schema c.schema_key-last.result.0 c.choose_id-x.ensures c.schema_key-asked.ensures.1 c.schema_key-last.ensures.1)
     returns)

@@ -13,9 +13,8 @@ returns : tie.Need-returns
 unfolding checks offers_formed effect
 returns c terms st p q =
     let x = c.before.before.before in
-    let s = x.before.before in
-    let u = s.args.u in
-    rw (c.decided.ensures, read_kind_lem u s.requires.1.0 10 s.requires.1.1) (entry_as (x.schema-choice.ensures st p q) (ap (λ (y : TableUpdate). with_schemas_part (with_schema_id x.schema-choice.result.schema_id y.schemas) y) (of_kind_lem u s.requires.1.0 10 s.requires.1.1)))
+    let u = x.args.u in
+    rw (c.decided.ensures, read_kind_lem u x.requires.1.0 10 x.requires.1.1) (entry_as (x.schema_choice-x.ensures st p q) (ap (λ (y : TableUpdate). with_schemas_part (with_schema_id x.schema_choice-x.result.schema_id y.schemas) y) (of_kind_lem u x.requires.1.0 10 x.requires.1.1)))
 
 pub set_current_schema_spec : {M : Type 1} → statement M
 set_current_schema_spec = tie.close (tie.spec (λ c κs. search rules) (λ c κs. search rules) returns)

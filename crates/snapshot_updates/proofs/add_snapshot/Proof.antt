@@ -18,15 +18,14 @@ returns c st e ids entry =
     let B = c.before in
     let ch = B.before in
     let N = ch.before in
-    let s = N.before.before in
-    let k = N.add-snapshot-number.ensures st e ids entry in
-    let q = ch.choose.ensures in
+    let k = N.add_snapshot_number-fails.ensures st e ids entry in
+    let q = ch.choose-number.ensures in
     record {
       number = q ∙ rw k;
       logs = refl;
       grows = refl;
-      builder = λ z. B.add-snapshot-builder.ensures s.args.tolerance.0 st e (rw k at (not_tagged s.args.on-tag N.add-snapshot-number.result (rw q at z)));
-      entry = c.addition.ensures s.requires.1.0 s.requires.0;
+      builder = λ z. B.add_snapshot_builder-c.ensures N.args.tolerance.0 st e (rw k at (not_tagged N.args.on_tag N.add_snapshot_number-fails.result (rw q at z)));
+      entry = c.addition-e.ensures N.requires.1.0 N.requires.0;
     }
 
 pub add_snapshot_spec : {M : Type 1} → statement M

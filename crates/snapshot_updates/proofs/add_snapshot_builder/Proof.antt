@@ -15,9 +15,9 @@ use Rattle.snapshot_updates.proofs.add_snapshot_builder.Tie as tie
 returns : tie.Need-returns
 unfolding laid_builder laid_fields add_snapshot
 returns c tolerance st e z =
-    let s = read_snapshot c.before.before.before.before.args.s in
-    let n : c.next-row-after.result ≡ next_row_after s st.metadata.fields =
-    subst (λ (f : SingleFields). first_of (row_checks s f) ≡ 0 → c.next-row-after.result ≡ next_row_after s f) (its_fields st e) c.next-row-after.ensures (rows_passed tolerance s st z) in
+    let s = read_snapshot c.args.s in
+    let n : c.next_row_after-next.result ≡ next_row_after s st.metadata.fields =
+    subst (λ (f : SingleFields). first_of (row_checks s f) ≡ 0 → c.next_row_after-next.result ≡ next_row_after s f) (its_fields st e) c.next_row_after-next.ensures (rows_passed tolerance s st z) in
     rw (n, e)
 
 pub add_snapshot_builder_spec : {M : Type 1} → statement M

@@ -22,23 +22,22 @@ use Rattle.snapshot_updates.proofs.add_snapshot_number.Tie as tie
 returns : tie.Need-returns
 returns c st e ids entry =
     let k = c.before.before.before.before.before.before in
-    let p = k.before.before.before.before.before in
-    let a = p.before.before.before.before.before.args in
+    let a = k.args in
     let s = read_snapshot a.s in
-    let held : ltb p.position-ascending.result (length a.ids.now) ≡ holds_snapshot st.metadata.snapshots s.id =
-    rw (p.position-ascending.ensures, to_z-of_z (sfits_of p.before.struct_told.given.0.1), ids, length-map) (snapshot_found s.id st.metadata.snapshots) in
-    let late : k.before.is-before.result ≡ is_before a.tolerance.0 s.time (latest st) =
-    k.before.is-before.ensures
+    let held : ltb k.position_ascending-at.result (length a.ids.now) ≡ holds_snapshot st.metadata.snapshots s.id =
+    rw (k.position_ascending-at.ensures, to_z-of_z (sfits_of k.struct_told-1.given.0.1), ids, length-map) (snapshot_found s.id st.metadata.snapshots) in
+    let late : k.is_before-late.result ≡ is_before a.tolerance.0 s.time (latest st) =
+    k.is_before-late.ensures
     ∙ ap (is_before a.tolerance.0 s.time)
-    (k.before.before.latest.ensures
+    (k.latest-last.ensures
     ∙ ap₂ (λ (f : SingleFields) (o : Option ℤ). larger f.last_updated (or_else o (pos 0))) (its_fields st e) (its_own st e)) in
-    rw (c.choose6.ensures, c.before.choose5.ensures, c.before.before.choose4.ensures, c.before.before.before.choose3.ensures, c.before.before.before.before.choose2.ensures, c.before.before.before.before.before.choose.ensures)
+    rw (c.choose.ensures, c.choose-n6.ensures, c.choose-n7.ensures, c.choose-n8.ensures, c.choose-n10.ensures, c.choose-n19.ensures)
     (number a.tolerance.0 s st
     held
-    (k.before.before.before.before.too-low.ensures ∙ ap (too_low s) (its_fields st e))
-    (k.before.before.before.before-entry.ensures ∙ ap (some_with (is_before a.tolerance.0 s.time)) entry ∙ of_last (is_before a.tolerance.0 s.time) st.metadata.snapshot_log)
+    (k.too_low-low.ensures ∙ ap (too_low s) (its_fields st e))
+    (k.before_entry-early.ensures ∙ ap (some_with (is_before a.tolerance.0 s.time)) entry ∙ of_last (is_before a.tolerance.0 s.time) st.metadata.snapshot_log)
     late
-    (k.rows-number.ensures ∙ ap (λ (f : SingleFields). first_of (row_checks s f)) (its_fields st e))
+    (k.rows_number-rows.ensures ∙ ap (λ (f : SingleFields). first_of (row_checks s f)) (its_fields st e))
     (ap length ids ∙ length-map st.metadata.snapshots (λ (s : Snapshot). s.id)))
 
 pub add_snapshot_number_spec : {M : Type 1} → statement M

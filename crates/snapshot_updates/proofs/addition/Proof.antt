@@ -5,4 +5,4 @@ use Rattle.snapshot_updates.proofs.addition.Statement.{statement}
 use Rattle.snapshot_updates.proofs.addition.Tie as tie
 
 pub addition_spec : {M : Type 1} → statement M
-addition_spec = tie.close (tie.spec (λ c κs. search rules) (λ c k e. rw c.blank.ensures (added c.before.args.u e k)))
+addition_spec = tie.close (tie.spec (λ c κs. search rules) (λ c k e. rw c.blank-none.ensures (added c.args.u e k)))

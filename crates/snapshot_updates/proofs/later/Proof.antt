@@ -9,5 +9,5 @@ later_spec =
     tie.close
     (tie.spec
     (λ c κs. search rules)
-    (λ c. rw (sym c.before.is-earlier.ensures ∙ c.if1.true))
-    (λ c. rw (sym c.before.is-earlier.ensures ∙ c.if1.false)))
+    (λ c. rw (sym c.is_earlier.ensures ∙ c.if-is_earlier.true))
+    (λ c. rw (sym c.is_earlier.ensures ∙ c.if-is_earlier.false)))

@@ -5,4 +5,4 @@ use Rattle.snapshot_updates.proofs.latest.Statement.{statement}
 use Rattle.snapshot_updates.proofs.latest.Tie as tie
 
 pub latest_spec : {M : Type 1} → statement M
-latest_spec = tie.close (tie.spec (λ c κs. search rules) (λ c κs. search rules) (λ c. c.later.ensures ∙ rw c.before.own-or.ensures))
+latest_spec = tie.close (tie.spec (λ c κs. search rules) (λ c κs. search rules) (λ c. c.later.ensures ∙ rw c.own_or-o.ensures))

@@ -12,7 +12,7 @@ unfolding rows_checked
 next_row_after_spec =
     tie.close
     (tie.spec
-    (λ c z. let a = c.before.before.before.args in row_stays a.f a.s c.if1.true)
+    (λ c z. let a = c.args in row_stays a.f a.s c.if-v-ne3.true)
     (λ c κs. search rules)
-    (λ c z. let a = c.before.before.before.before.before.args in
-    ap (λ (r : RowsChecked). r.next) c.before.check-rows.ensures ∙ row_grows a.f a.s c.before.before.if1.false z))
+    (λ c z. let a = c.args in
+    ap (λ (r : RowsChecked). r.next) c.check_rows-r.ensures ∙ row_grows a.f a.s c.if-v-ne3.false z))

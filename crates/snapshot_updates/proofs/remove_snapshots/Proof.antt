@@ -18,19 +18,18 @@ returns : tie.Need-returns
 unfolding laid_update laid_snapshot_ids
 returns c st p q =
     let h = c.before.before in
-    let s = h.before.before in
-    let u = s.args.u in
+    let u = h.args.u in
     let asked = read_snapshot_ids u.snapshots.removed in
-    let l : read_snapshots s.args.t ≡ st.metadata.snapshots = ap (λ (t : Snapshots). read_snapshots t) q ∙ reread_snapshots st.metadata.snapshots in
-    let held : h.held.result ≡ laid_snapshot_ids (held_snapshots asked st.metadata.snapshots) = h.held.ensures ∙ ap (λ (x : List Snapshot). laid_snapshot_ids (held_snapshots asked x)) l in
+    let l : read_snapshots h.args.t ≡ st.metadata.snapshots = ap (λ (t : Snapshots). read_snapshots t) q ∙ reread_snapshots st.metadata.snapshots in
+    let held : h.held-held.result ≡ laid_snapshot_ids (held_snapshots asked st.metadata.snapshots) = h.held-held.ensures ∙ ap (λ (x : List Snapshot). laid_snapshot_ids (held_snapshots asked x)) l in
     rw c.decided.ensures (
     record {
       number = refl;
       logs = rw held (some_counted (held_snapshots asked st.metadata.snapshots) _ refl);
       builder = p;
-      entry = ap (λ (y : TableUpdate). with_snapshots_part (with_snapshot_ids h.held.result y.snapshots) y) (of_kind_lem u s.requires.1.1.1.0 6 s.requires.1.1.1.1) ∙ rw held;
+      entry = ap (λ (y : TableUpdate). with_snapshots_part (with_snapshot_ids h.held-held.result y.snapshots) y) (of_kind_lem u h.requires.1.1.1.0 6 h.requires.1.1.1.1) ∙ rw held;
     }
     )
 
 pub remove_snapshots_spec : {M : Type 1} → statement M
-remove_snapshots_spec = tie.close (tie.spec (λ c κs. let s = c.before in (s.requires.0, (s.requires.1.1.0, s.requires.1.0))) (λ c κs. search rules) returns)
+remove_snapshots_spec = tie.close (tie.spec (λ c κs. (c.requires.0, (c.requires.1.1.0, c.requires.1.0))) (λ c κs. search rules) returns)

@@ -13,8 +13,8 @@ unfolding rows_checked
 rows_number_spec =
     tie.close
     (tie.spec
-    (λ c. let a = c.before.before.before.args in sym (no_check a.f a.s c.if1.true))
-    (λ c. let a = c.before.before.before.before.args in sym (no_rows a.f a.s c.before.if1.false (not-true _ c.if2.true)))
+    (λ c. let a = c.args in sym (no_check a.f a.s c.if-v-ne3.true))
+    (λ c. let a = c.args in sym (no_rows a.f a.s c.if-v-ne3.false (not-true _ c.if-not-h.true-raw)))
     (λ c κs. search rules)
-    (λ c. let a = c.before.before.before.before.before.args in
-    ap (λ (r : RowsChecked). r.number) c.check-rows.ensures ∙ sym (with_rows_lem a.f a.s c.before.before.if1.false (not-false _ c.before.if2.false))))
+    (λ c. let a = c.args in
+    ap (λ (r : RowsChecked). r.number) c.check_rows-r.ensures ∙ sym (with_rows_lem a.f a.s c.if-v-ne3.false (not-false _ c.if-not-h.false-raw))))

@@ -11,6 +11,6 @@ too_low_spec =
     tie.close
     (tie.spec
     (λ c κs. search rules)
-    (λ c. rw (eq-eqb _ _ c.if1.true))
-    (λ c. rw (ne_eqb _ _ c.before.if1.false, sym c.before.before.at_most.ensures ∙ c.if2.true, flag_given))
-    (λ c. rw (ne_eqb _ _ c.before.if1.false, sym c.before.before.at_most.ensures ∙ c.if2.false)))
+    (λ c. rw (eq-eqb _ _ c.if-v-eq1.true))
+    (λ c. rw (ne_eqb _ _ c.if-v-eq1.false, sym c.at_most-low.ensures ∙ c.if-low.true, flag_given))
+    (λ c. rw (ne_eqb _ _ c.if-v-eq1.false, sym c.at_most-low.ensures ∙ c.if-low.false)))

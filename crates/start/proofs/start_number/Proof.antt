@@ -15,8 +15,8 @@ use Rattle.start.proofs.Started.{not_formed_lem, file_long, too_many, untolerate
 use Rattle.start.proofs.start_number.Statement.{statement}
 use Rattle.start.proofs.start_number.Tie as tie
 
-short : (c : tie.Else2) → c.before.before.before.before.before.args.terms.has_file ≡ true → c.before.before.before.before.before.args.terms.file.len ≤ 96
-short c e = ltb-false 96 c.before.before.before.before.before.args.terms.file.len (rw e at c.if2.false)
+short : (c : tie.Else-has_file-length) → c.args.terms.has_file ≡ true → c.args.terms.file.len ≤ 96
+short c e = ltb-false 96 c.args.terms.file.len (rw e at c.if-has_file-length.false)
 
 -- the count and the sum, of a list with them
 module _ (us : UpdateList) {count sum : ℕ} (n : us.count ≡ count) (s : count ≤ 64 → sum ≡ list_sum (read_updates us)) where
@@ -37,15 +37,15 @@ start_number_spec =
     (tie.spec
     (λ c κs. search rules)
     (λ c κs. search rules)
-    (λ c m us f n s. let a = c.before.before.before.before.args in
-    not_formed_lem m us a.terms (sym f ∙ not-true a.is-formed c.if1.true))
-    (λ c m us f n s. let a = c.before.before.before.before.before.args in
-    file_long m us a.terms (and_left a.terms.has_file (ltb 96 a.terms.file.len) c.if2.true) (ltb-true 96 a.terms.file.len (and_right a.terms.has_file (ltb 96 a.terms.file.len) c.if2.true)))
-    (λ c m us f n s. let a = c.before.before.before.before.before.before.args in
-    too_many m us a.terms (sym f ∙ not-false a.is-formed c.before.before.if1.false) (short c.before) (above us n s c.if3.true))
-    (λ c m us f n s. let k = c.before in let o = k.before.before.before.before in let a = o.before.before.args in
-    untolerated m us a.terms (sym f ∙ not-false a.is-formed k.before.before.if1.false) (short k.before) (most us n s k.if3.false) (sym o.is-outside.ensures ∙ c.if4.true))
-    (λ c m us f n s. let k = c.before.before in let g = k.before.before.before in let o = g.before in let a = o.before.before.args in
-    unknown m us a.terms (sym f ∙ not-false a.is-formed k.before.before.if1.false) (short k.before) (most us n s k.if3.false) (sym o.is-outside.ensures ∙ c.before.if4.false) (sym g.is-office.ensures ∙ not-true g.is-office.result c.if5.true))
-    (λ c m us f n s. let k = c.before.before in let g = k.before.before.before in let o = g.before in let a = o.before.before.args in
-    starts_0 m us a.terms (sym f ∙ not-false a.is-formed k.before.before.if1.false) (short k.before) (most us n s k.if3.false) (sym o.is-outside.ensures ∙ c.before.if4.false) (sym g.is-office.ensures ∙ not-false g.is-office.result c.if5.false)))
+    (λ c m us f n s. let a = c.args in
+    not_formed_lem m us a.terms (sym f ∙ not-true a.is_formed c.if-not-is_formed.true-raw))
+    (λ c m us f n s. let a = c.args in
+    file_long m us a.terms (and_left a.terms.has_file (ltb 96 a.terms.file.len) c.if-has_file-length.true) (ltb-true 96 a.terms.file.len (and_right a.terms.has_file (ltb 96 a.terms.file.len) c.if-has_file-length.true)))
+    (λ c m us f n s. let a = c.args in
+    too_many m us a.terms (sym f ∙ not-false a.is_formed c.if-not-is_formed.false-raw) (short c.before) (above us n s c.if-count-sum.true))
+    (λ c m us f n s. let k = c.before in let a = k.args in
+    untolerated m us a.terms (sym f ∙ not-false a.is_formed k.if-not-is_formed.false-raw) (short k.before) (most us n s k.if-count-sum.false) (sym k.is_outside-outside.ensures ∙ c.if-outside.true))
+    (λ c m us f n s. let k = c.before.before in let g = k.before.before.before in let a = g.args in
+    unknown m us a.terms (sym f ∙ not-false a.is_formed k.if-not-is_formed.false-raw) (short k.before) (most us n s k.if-count-sum.false) (sym g.is_outside-outside.ensures ∙ c.if-outside.false) (sym g.is_office-known.ensures ∙ not-true g.is_office-known.result c.if-not-known.true-raw))
+    (λ c m us f n s. let k = c.before.before in let g = k.before.before.before in let a = g.args in
+    starts_0 m us a.terms (sym f ∙ not-false a.is_formed k.if-not-is_formed.false-raw) (short k.before) (most us n s k.if-count-sum.false) (sym g.is_outside-outside.ensures ∙ c.if-outside.false) (sym g.is_office-known.ensures ∙ not-false g.is_office-known.result c.if-not-known.false-raw)))

@@ -15,12 +15,11 @@ returns : tie.Need-returns
 unfolding checks offers_formed effect
 returns c which terms st k p q =
     let h = c.before in
-    let s = h.before in
-    let u = s.args.u in
+    let u = h.args.u in
     let id = u.statistics.removed.0 in
-    rw (c.decided.ensures, remove_read u s.requires.1 which k) (
+    rw (c.decided.ensures, remove_read u h.requires.1 which k) (
       refl,
-      λ z. remove_steps which id st h.has-file-of.result (sym (h.has-file-of.ensures ∙ ap (λ (l : List plain.StatisticsFile). has_file_of l id) (read_statistics_lem which st q))) p (remove_laid u s.requires.1 which k),
+      λ z. remove_steps which id st h.has_file_of-held.result (sym (h.has_file_of-held.ensures ∙ ap (λ (l : List plain.StatisticsFile). has_file_of l id) (read_statistics_lem which st q))) p (remove_laid u h.requires.1 which k),
     )
 
 pub remove_statistics_spec : {M : Type 1} → statement M

@@ -27,19 +27,19 @@ unfolding checks offers_formed effect
 returns c =
     let F = c.before in
     let h = F.before in
-    let s = h.before.before in
+    let s = h.before.before.before in
     let u = s.args.u in
     let f = read_statistics_file u.statistics.file in
-    let n : c.choose.result ≡ first_of (one h.has-file-of.result s.args.t.count) = c.choose.ensures ∙ rw F.is-full.ensures in
+    let n : c.choose-number.result ≡ first_of (one h.has_file_of-held.result s.args.t.count) = c.choose-number.ensures ∙ rw F.is_full-full.ensures in
     record {
       answers = λ which terms st k p q.
           let l = read_statistics_lem which st q in
           rw (set_read u s.requires.1.0 which k) (
-            n ∙ number_is which f st (h.has-file-of.ensures ∙ ap (λ (x : List plain.StatisticsFile). has_file_of x f.snapshot) l) (sym (read_length (tidy_statistics s.requires.0)) ∙ ap length l),
+            n ∙ number_is which f st (h.has_file_of-held.ensures ∙ ap (λ (x : List plain.StatisticsFile). has_file_of x f.snapshot) l) (sym (read_length (tidy_statistics s.requires.0)) ∙ ap length l),
             λ z. set_steps which f st p (set_laid u s.requires.1.0 (offered s) which k),
           );
-      table = λ which terms st k z. rw (set_read u s.requires.1.0 which k, eq-eqb c.choose.result 0 z) (set_table which f st);
-      new = λ g. record { laid = offered s; room = λ e. has_room h.has-file-of.result s.args.t.count (sym n ∙ eqb-true c.choose.result 0 g) (h.has-file-of.ensures ∙ e) };
+      table = λ which terms st k z. rw (set_read u s.requires.1.0 which k, eq-eqb c.choose-number.result 0 z) (set_table which f st);
+      new = λ g. record { laid = offered s; room = λ e. has_room h.has_file_of-held.result s.args.t.count (sym n ∙ eqb-true c.choose-number.result 0 g) (h.has_file_of-held.ensures ∙ e) };
     }
 
 pub set_statistics_spec : {M : Type 1} → statement M

@@ -6,8 +6,7 @@ pub statistics_after_spec : {M : Type 1} → statement M
 statistics_after_spec =
     tie.close
     (tie.spec
-    (λ c κs. let s = c.before in
-    let n = s.requires.1.1 c.if1.true in
-    (s.requires.0, (n.laid, (n.room, s.requires.1.0))))
-    (λ c. rw c.before.if1.true c.put.ensures)
-    (λ c. rw c.if1.false))
+    (λ c κs. let n = c.requires.1.1 c.if-d.true in
+    (c.requires.0, (n.laid, (n.room, c.requires.1.0))))
+    (λ c. rw c.if-d.true c.put.ensures)
+    (λ c. rw c.if-d.false))

@@ -13,7 +13,7 @@ judge_spec =
     tie.close
     (tie.spec
     (λ c κs. search rules)
-    (λ c. let k = c.before.run in let ending = c.before.before.before.before.args.ending in refused k.result ending c.if1.true ∙ ap (λ (x : Answer). judged x ending) k.ensures)
+    (λ c. let k = c.run-answer in let ending = c.args.ending in refused k.result ending c.if-number-ne0.true ∙ ap (λ (x : Answer). judged x ending) k.ensures)
     (λ c κs. search rules)
-    (λ c. let k = c.before.before.run in let ending = c.before.before.before.before.before.args.ending in
-    rw c.first-difference.ensures (compared k.result ending c.before.if1.false ∙ ap (λ (x : Answer). judged x ending) k.ensures)))
+    (λ c. let k = c.run-answer in let ending = c.args.ending in
+    rw c.first_difference-difference.ensures (compared k.result ending c.if-number-ne0.false ∙ ap (λ (x : Answer). judged x ending) k.ensures)))

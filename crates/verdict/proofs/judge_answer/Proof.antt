@@ -8,6 +8,6 @@ pub judge_answer_spec : {M : Type 1} → statement M
 judge_answer_spec =
     tie.close
     (tie.spec
-    (λ c. refused c.before.args.a c.before.args.ending c.if1.true)
+    (λ c. refused c.args.a c.args.ending c.if-number-ne0.true)
     (λ c κs. search rules)
-    (λ c. rw c.first-difference.ensures (compared c.before.before.args.a c.before.before.args.ending c.before.if1.false)))
+    (λ c. rw c.first_difference-difference.ensures (compared c.args.a c.args.ending c.if-number-ne0.false)))

@@ -28,14 +28,14 @@ use Rattle.walk.proofs.Least.{NoneBelow, none_below, none_below_at, one_more_lis
 use Rattle.walk.proofs.ancestors.Statement.{statement}
 use Rattle.walk.proofs.ancestors.Tie as tie
 
-abbrev invariant_loop : tie.invariant_loop
+abbrev invariant_loop : tie.invariant-loop-j
 invariant_loop ids parents start has-excluded excluded out ascends path n id place least j₀ j =
     (j ≤ n) × (is_in (take n path) (to_z w64 id) ≡ is_in (drop j (take n path)) (to_z w64 id))
 
-abbrev decreases_loop : tie.decreases_loop
+abbrev decreases_loop : tie.decreases-loop-j
 decreases_loop ids parents start has-excluded excluded out ascends path n id place least j₀ j = n - j
 
-abbrev invariant_walk : tie.invariant_walk
+abbrev invariant_walk : tie.invariant-walk
 invariant_walk ids parents start has-excluded excluded out₀ ascends path₀ n₀ id₀ place₀ least₀ out path n id place least =
     (out ≡ out₀)
     × (length path ≡ 64)
@@ -45,7 +45,7 @@ invariant_walk ids parents start has-excluded excluded out₀ ascends path₀ n�
     × NoneBelow (to_z w64 least) (take n path)
     × Going ids parents (given has-excluded (to_z w64 excluded)) (to_z w64 start) (take n path) (to_z w64 id)
 
-abbrev decreases_walk : tie.decreases_walk
+abbrev decreases_walk : tie.decreases-walk
 decreases_walk ids parents start has-excluded excluded out₀ ascends path₀ n₀ id₀ place₀ least₀ out path n id place least = length ids - n
 
 -- at the head of the outer loop: what the walk was given, as the code reads it
@@ -63,66 +63,66 @@ module _ (c : tie.At-walk invariant_loop decreases_loop invariant_walk decreases
   start = to_z w64 (of_z w64 s.args.start)
 
   abbrev excluded : Option ℤ
-  excluded = given s.args.has-excluded (to_z w64 (of_z w64 s.args.excluded))
+  excluded = given s.args.has_excluded (to_z w64 (of_z w64 s.args.excluded))
 
   abbrev listed : List ℤ
   listed = take c.walk.n c.walk.path
 
   abbrev id : ℤ
-  id = to_z w64 c.walk.id
+  id = to_z w64 c.walk.id-bits
 
   abbrev going : Going ids parents excluded start listed id
   going = c.walk.invariant.6
 
   formed : lists_formed ids parents ≡ true
-  formed = sym c.before.before.lists-formed.ensures ∙ not-false _ c.before.if1.false
+  formed = sym c.lists_formed.ensures ∙ not-false _ c.if-not-lists_formed.false-raw
 
   long : length listed ≡ c.walk.n
   long = length-take-le c.walk.n c.walk.path (omega arith)
 
   -- the rule's walk, of the numbers themselves
-  meant : {w : Walk} → ancestors ids parents start excluded ≡ w → ancestors ids parents s.args.start (given s.args.has-excluded s.args.excluded) ≡ w
-  meant e = rw (to_z-of_z s.fits.start, to_z-of_z s.fits.excluded) at e
+  meant : {w : Walk} → ancestors ids parents start excluded ≡ w → ancestors ids parents s.args.start (given s.args.has_excluded s.args.excluded) ≡ w
+  meant e = rw (to_z-of_z s.ranges.start, to_z-of_z s.ranges.excluded) at e
 
 -- the answer is the rule's, and the buffer that the walk has is still the caller's
 answered : {w w' : Walk} {out out₀ last : List ℤ} {r : Walked} → w' ≡ w → out ≡ out₀ → (r ≡ walked (length out) w) × (last ≡ walk_buffer out w) → (r ≡ walked (length out₀) w') × (last ≡ walk_buffer out₀ w')
 answered e o h = rw (e, ← o) h
 
 -- where the walk ends
-module _ (c : tie.Then2 invariant_loop decreases_loop invariant_walk decreases_walk) where
+module _ (c : tie.Then-place-ids invariant_loop decreases_loop invariant_walk decreases_walk) where
   abbrev u : tie.At-walk invariant_loop decreases_loop invariant_walk decreases_walk
   u = c.before.before
 
   end : next_of (ids u) (parents u) (excluded u) (id u) ≡ none
-  end = step_none (ids u) (parents u) (excluded u) (id u) (sym c.before.step.ensures ∙ c.if2.true)
+  end = step_none (ids u) (parents u) (excluded u) (id u) (sym c.step-place.ensures ∙ c.if-place-ids.true)
 
 -- where it goes on
-module _ (c : tie.Else2 invariant_loop decreases_loop invariant_walk decreases_walk) where
+module _ (c : tie.Else-place-ids invariant_loop decreases_loop invariant_walk decreases_walk) where
   abbrev w : tie.At-walk invariant_loop decreases_loop invariant_walk decreases_walk
   w = c.before.before
 
   abbrev place : ℕ
-  place = c.before.step.result
+  place = c.step-place.result
 
   abbrev next : ℤ
   next = get_or (parents w) place (pos 0)
 
   held : place < length (ids w)
-  held = omega (arith, c.before.step.ensures, step_le (ids w) (parents w) (excluded w) (id w), c.if2.false)
+  held = omega (arith, c.step-place.ensures, step_le (ids w) (parents w) (excluded w) (id w), c.if-place-ids.false)
 
   to : next_of (ids w) (parents w) (excluded w) (id w) ≡ some next
-  to = step_to (ids w) (parents w) (excluded w) (id w) c.before.step.ensures (as_many (ids w) (parents w) (formed w)) held
+  to = step_to (ids w) (parents w) (excluded w) (id w) c.step-place.ensures (as_many (ids w) (parents w) (formed w)) held
 
 -- at a listed id
-module _ (c : tie.In-loop invariant_loop decreases_loop invariant_walk decreases_walk) where
-  abbrev k : tie.Else2 invariant_loop decreases_loop invariant_walk decreases_walk
+module _ (c : tie.In-loop-j invariant_loop decreases_loop invariant_walk decreases_walk) where
+  abbrev k : tie.Else-place-ids invariant_loop decreases_loop invariant_walk decreases_walk
   k = c.before.before
 
   abbrev j : ℕ
-  j = c.before.loop.j
+  j = c.loop-j.j
 
   counted : j < (w k).walk.n
-  counted = ltb-true j (w k).walk.n (and_left _ _ c.loop-test.true)
+  counted = ltb-true j (w k).walk.n (and_left _ _ c.loop-j-test.true)
 
   below : j < length (listed (w k))
   below = omega (arith, long (w k), counted)
@@ -131,12 +131,12 @@ module _ (c : tie.In-loop invariant_loop decreases_loop invariant_walk decreases
   seen = get_or-take (w k).walk.n (w k).walk.path j (pos 0) counted
 
 -- past the inner loop
-module _ (c : tie.After-loop invariant_loop decreases_loop invariant_walk decreases_walk) where
+module _ (c : tie.After-loop-j invariant_loop decreases_loop invariant_walk decreases_walk) where
   abbrev v : tie.At-walk invariant_loop decreases_loop invariant_walk decreases_walk
   v = w c.before.before
 
   not_listed : is_in (listed v) (id v) ≡ false
-  not_listed = unlisted (to_z w64 v.walk.least) (listed v) (id v) c.before.loop.j v.walk.n v.walk.inv.5 (long v) c.before.loop.invariant.1 c.loop-test.false
+  not_listed = unlisted (to_z w64 v.walk.least-bits) (listed v) (id v) c.loop-j.j v.walk.n v.walk.invariant.5 (long v) c.loop-j.invariant.1 c.loop-j-test.false
 
   fits : v.walk.n < length (ids v)
   fits = omega (arith, room (going v) (to c.before.before) not_listed, long v)
@@ -151,28 +151,26 @@ ancestors_spec =
     invariant_walk
     decreases_walk
     (λ c κs. search rules)
-    (λ c κs. c.ascend.ensures)
+    (λ c κs. c.ascend-ascends.ensures)
     (λ c κs. search rules)
-    (λ c. let l = c.before.before in
-    let a = l.before.before.args in
-    answered (refused a.ids.now a.parents.now (given a.has-excluded a.excluded) a.start (sym l.lists-formed.ensures ∙ not-true _ c.before.if1.true)) refl (c.refused.ensures, refl))
-    (λ c. let l = c.before in
-    (refl, refl, search rules, whole l.before.before.ranges.start, search rules, none_below _, begins _ _ _ _ (sym l.lists-formed.ensures ∙ not-false _ c.if1.false)))
-    (λ c κs. (apart (ids c) (parents c) (formed c), (c.before.before.before.ascend.ensures, c.walk.invariant.4)))
+    (λ c. let a = c.args in
+    answered (refused a.ids.now a.parents.now (given a.has_excluded a.excluded) a.start (sym c.lists_formed.ensures ∙ not-true _ c.if-not-lists_formed.true-raw)) refl (c.refused.ensures, refl))
+    (λ c. (refl, refl, search rules, whole c.ranges.start, search rules, none_below _, begins _ _ _ _ (sym c.lists_formed.ensures ∙ not-false _ c.if-not-lists_formed.false-raw)))
+    (λ c κs. (apart (ids c) (parents c) (formed c), (c.ascend-ascends.ensures, c.walk.invariant.4)))
     (λ c. search rules)
     (λ c. sym (long c.before.before.before))
     (λ c κs. search rules)
-    (λ c. c.before.listed.auto.1.0 ∙ ap length (u c.before.before.before.before).walk.inv.0)
+    (λ c. c.listed.auto.out ∙ ap length (u c.before.before.before.before).walk.invariant.0)
     (λ c. let e = c.before.before.before.before in
-    answered (meant (u e) (ends (going (u e)) (end e))) (u e).walk.invariant.0 c.before.listed.ensures)
+    answered (meant (u e) (ends (going (u e)) (end e))) (u e).walk.invariant.0 c.listed.ensures)
     (λ c. (search rules, refl))
     (λ c. search rules)
-    (λ c. omega (arith, counted c, (w (k c)).walk.inv.1))
+    (λ c. omega (arith, counted c, (w (k c)).walk.invariant.1))
     (λ c. omega (arith, counted c.before.before))
     (λ c. omega (arith, counted c.before.before))
     (λ c. let b = c.before.before in
     let y = w (k b) in
-    (omega (arith, counted b), b.before.loop.invariant.1 ∙ in_rest (listed y) (j b) (id y) (below b) (λ q. other y.walk.inv.3 c.if3.false (sym (seen b) ∙ q))))
+    (omega (arith, counted b), b.loop-j.invariant.1 ∙ in_rest (listed y) (j b) (id y) (below b) (λ q. other y.walk.invariant.3 c.if-path-j.false (sym (seen b) ∙ q))))
     (λ c. search rules)
     (λ c. omega (arith, fits c, (going (v c)).few_ids))
     (λ c. omega (arith, fits c, (going (v c)).few_ids))
@@ -183,21 +181,21 @@ ancestors_spec =
     (λ c. let a = c.before.before in
     let b = a.before.before in
     let y = w b in
-    let f : SFits w64 (next b) = sfits_of c.id.given in
-    let t = take-suc-set y.walk.path y.walk.n (id y) (omega (arith, fits a, (going y).few_ids, y.walk.inv.1)) in (
-      y.walk.inv.0,
-      length-set y.walk.path y.walk.n (id y) ∙ y.walk.inv.1,
+    let f : SFits w64 (next b) = sfits_of c.id-1.given in
+    let t = take-suc-set y.walk.path y.walk.n (id y) (omega (arith, fits a, (going y).few_ids, y.walk.invariant.1)) in (
+      y.walk.invariant.0,
+      length-set y.walk.path y.walk.n (id y) ∙ y.walk.invariant.1,
       omega (arith, fits a, (going y).few_ids),
       whole f,
       omega (arith, held b),
-      none_below_at (to_z-of_z (sfits_of c.before.lesser.type-inv) ∙ c.before.lesser.ensures) (rw add-one t) (one_more_listed (to_z w64 y.walk.least) (listed y) (id y) y.walk.inv.5),
+      none_below_at (to_z-of_z {w = w64} (sfits_of c.lesser-least.type_inv) ∙ c.lesser-least.ensures) (rw add-one t) (one_more_listed (to_z w64 y.walk.least-bits) (listed y) (id y) y.walk.invariant.5),
       going_at (rw add-one t) (to_z-of_z f) (goes_on_lem (going y) (to b) (not_listed a)),
     ))
     (λ c κs. search rules)
-    (λ c. ap length (w (k c.before.before.before)).walk.inv.0)
+    (λ c. ap length (w (k c.before.before.before)).walk.invariant.0)
     (λ c. let b = c.before.before.before in
     let y = w (k b) in
     answered
-    (meant y (meets (going y) (to (k b)) (b.before.loop.invariant.1 ∙ in_here (listed y) (j b) (id y) (below b) (seen b ∙ same (sfits_of c.before.before.if32.given) c.before.if3.true))))
-    y.walk.inv.0
-    (c.refused2.ensures, refl)))
+    (meant y (meets (going y) (to (k b)) (b.loop-j.invariant.1 ∙ in_here (listed y) (j b) (id y) (below b) (seen b ∙ same (sfits_of c.t28-1.given) c.if-path-j.true))))
+    y.walk.invariant.0
+    (c.refused-2.ensures, refl)))

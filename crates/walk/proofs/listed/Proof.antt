@@ -12,22 +12,22 @@ use Rattle.walk.proofs.Buffers.{one_more_lem, as_long, all_placed}
 use Rattle.walk.proofs.listed.Statement.{statement}
 use Rattle.walk.proofs.listed.Tie as tie
 
-abbrev invariant_loop : tie.invariant_loop
+abbrev invariant_loop : tie.invariant-loop-i
 invariant_loop path out₀ i₀ out i = (i ≤ length path) × (out ≡ take i path ++ drop i out₀)
 
-abbrev decreases_loop : tie.decreases_loop
+abbrev decreases_loop : tie.decreases-loop-i
 decreases_loop path out₀ i₀ out i = length path - i
 
-long : (c : tie.At-loop invariant_loop decreases_loop) → length c.loop.out ≡ length c.before.before.args.out.now
-long c = ap length c.loop.invariant.1 ∙ as_long c.before.before.args.path.now c.before.before.args.out.now c.loop.i (omega arith) (omega arith)
+long : (c : tie.At-loop-i invariant_loop decreases_loop) → length c.loop-i.out ≡ length c.args.out.now
+long c = ap length c.loop-i.invariant.1 ∙ as_long c.args.path.now c.args.out.now c.loop-i.i (omega arith) (omega arith)
 
-too_long : tie.Need-returns invariant_loop decreases_loop
+too_long : tie.Need-returns-then-path-out invariant_loop decreases_loop
 unfolding walked
-too_long c = rw (lt-leb _ _ c.before.if1.true) (c.refused.ensures, refl)
+too_long c = rw (lt-leb _ _ c.if-path-out.true) (c.refused.ensures, refl)
 
-placed : tie.Need-returns-2 invariant_loop decreases_loop
+placed : tie.Need-returns invariant_loop decreases_loop
 unfolding walked
-placed c = rw (le-leb _ _ c.before.before.if1.false) (refl, c.before.loop.invariant.1 ∙ all_placed _ _ c.before.loop.i (omega arith) (omega arith))
+placed c = rw (le-leb _ _ c.if-path-out.false) (refl, c.loop-i.invariant.1 ∙ all_placed _ _ c.loop-i.i (omega arith) (omega arith))
 
 pub listed_spec : {M : Type 1} → statement M
 listed_spec =
@@ -44,8 +44,7 @@ listed_spec =
     (λ c. omega (arith, long c.before.before))
     (λ c. search rules)
     (λ c. search rules)
-    (λ c. let l = c.before.before in
-    let a = l.before.before.args in
-    (search rules, rw (to_z-of_z (sfits_of c.out.given), l.loop.invariant.1) (one_more_lem a.path.now a.out.now l.loop.i (omega arith) (omega arith))))
+    (λ c. let a = c.args in
+    (search rules, rw (to_z-of_z (sfits_of c.out-1.given), c.loop-i.invariant.1) (one_more_lem a.path.now a.out.now c.loop-i.i (omega arith) (omega arith))))
     (λ c. long c.before)
     placed)

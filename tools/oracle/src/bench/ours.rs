@@ -30,7 +30,7 @@ impl Ours {
         };
         let found = program
             .canonicalize()
-            .map_err(said("`rt check soritauba` makes it"))?;
+            .map_err(said("`cd crates/soritauba && rt run -- help` makes it"))?;
         let mut trial = Command::new(&found);
         trial.stdin(Stdio::null()).stdout(Stdio::null());
         trial

@@ -13,11 +13,10 @@ returns c =
     let g = m.before in
     let s = g.before in
     let x = s.before in
-    let k = x.before in
-    let a = k.before.args in
+    let a = x.args in
     choice a.id.0 a.has_last a.last.0 refl refl refl
-    k.same.ensures (x.pick.ensures ∙ rw k.same.ensures (chosen_is a.has_last a.last.0 a.id.0)) s.same2.ensures g.is-in.ensures m.choose.ensures n.choose2.ensures
-    (c.pick2.ensures ∙ rw l.is-last-added.ensures)
+    x.same-asked.ensures (x.pick-x.ensures ∙ rw x.same-asked.ensures (chosen_is a.has_last a.last.0 a.id.0)) s.same-unchanged.ensures g.is_in-held.ensures m.choose-later.ensures n.choose-number.ensures
+    (c.pick-logged.ensures ∙ rw l.is_last_added-is_last.ensures)
 
 pub choose_id_spec : {M : Type 1} → statement M
 choose_id_spec =

@@ -10,4 +10,4 @@ is_last_added_spec =
     tie.close
     (tie.spec
     (λ c κs. search rules)
-    (λ c. let a = c.before.args in rw c.same.ensures (is_last a.has_last a.last.0 (eq_z a.id.0))))
+    (λ c. let a = c.args in rw c.same-equal.ensures (is_last a.has_last a.last.0 (eq_z a.id.0))))

@@ -14,22 +14,20 @@ reuse_or_create_new_id_spec =
     (λ c. search rules)
     (λ c. search rules)
     (λ c κs. search rules)
-    (λ c. let x = c.before in
-    let b = lt-ltb _ _ x.before.if1.true in
+    (λ c. let b = lt-ltb _ _ c.if-place-ids.true in
     record {
       stands = sym b;
       over = λ f. absurd (true≢false f);
-      again = λ t. c.is-last-added.ensures;
-      gets = rw (to_z-of_z (sfits_of x.x.given), b);
+      again = λ t. c.is_last_added-is_last.ensures;
+      gets = rw (to_z-of_z (sfits_of c.x-1.given), b);
     })
     (λ c κs. search rules)
     (λ c κs. search rules)
     (λ c κs. search rules)
-    (λ c. let h = c.before.before in
-    let b = le-ltb _ _ h.before.if1.false in
+    (λ c. let b = le-ltb _ _ c.if-place-ids.false in
     record {
       stands = sym b;
-      over = λ f. rw (c.before.is_below.ensures, h.highest.ensures);
+      over = λ f. rw (c.is_below-below.ensures, c.highest-h.ensures);
       again = λ t. absurd (false≢true t);
-      gets = c.next.ensures ∙ rw (b, h.highest.ensures);
+      gets = c.next-id.ensures ∙ rw (b, c.highest-h.ensures);
     }))

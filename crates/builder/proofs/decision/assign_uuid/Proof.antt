@@ -10,9 +10,8 @@ returns : tie.Need-returns
 unfolding offers_formed checks effect
 returns c terms st p =
     let x = c.before.before in
-    let s = x.before.before in
-    let u = s.args.u in
-    rw (c.decided.ensures, read_kind_lem u s.requires.0 1 s.requires.1) (entry_as (x.assign-uuid.ensures st p) (of_kind_lem u s.requires.0 1 s.requires.1))
+    let u = x.args.u in
+    rw (c.decided.ensures, read_kind_lem u x.requires.0 1 x.requires.1) (entry_as (x.assign_uuid-x.ensures st p) (of_kind_lem u x.requires.0 1 x.requires.1))
 
 pub assign_uuid_spec : {M : Type 1} → statement M
 assign_uuid_spec = tie.close (tie.spec (λ c κs. search rules) (λ c κs. search rules) returns)

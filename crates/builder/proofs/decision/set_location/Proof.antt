@@ -11,20 +11,18 @@ use Rattle.builder.proofs.Given.{given_location}
 use Rattle.builder.proofs.decision.set_location.Statement.{statement}
 use Rattle.builder.proofs.decision.set_location.Tie as tie
 
-fits : tie.Need-set-location-requires
+fits : tie.Need-set_location-x-requires
 unfolding update_formed
 fits c κs =
-    let s = c.before in
-    let u = s.args.u in
-    (s.requires.0, given_location u (formed_kind u s.requires.1.0 3 s.requires.1.1.1 s.requires.1.1.0))
+    let u = c.args.u in
+    (c.requires.0, given_location u (formed_kind u c.requires.1.0 3 c.requires.1.1.1 c.requires.1.1.0))
 
 returns : tie.Need-returns
 unfolding offers_formed checks effect
 returns c terms st p =
     let x = c.before.before.before in
-    let s = x.before.before in
-    let u = s.args.u in
-    rw (c.decided.ensures, read_kind_lem u s.requires.1.0 3 s.requires.1.1.1) (entry_as (x.set-location.ensures st p) (ap (λ (y : TableUpdate). with_fields_part (with_location x.set-location.result.location y.fields) y) (of_kind_lem u s.requires.1.0 3 s.requires.1.1.1)))
+    let u = x.args.u in
+    rw (c.decided.ensures, read_kind_lem u x.requires.1.0 3 x.requires.1.1.1) (entry_as (x.set_location-x.ensures st p) (ap (λ (y : TableUpdate). with_fields_part (with_location x.set_location-x.result.location y.fields) y) (of_kind_lem u x.requires.1.0 3 x.requires.1.1.1)))
 
 pub set_location_spec : {M : Type 1} → statement M
 set_location_spec = tie.close (tie.spec fits (λ c κs. search rules) returns)

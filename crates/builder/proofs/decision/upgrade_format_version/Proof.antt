@@ -10,9 +10,8 @@ returns : tie.Need-returns
 unfolding offers_formed checks effect
 returns c terms st p =
     let x = c.before.before in
-    let s = x.before in
-    let u = s.args.u in
-    rw (c.decided.ensures, read_kind_lem u s.requires.0 2 s.requires.1) (entry_as (x.upgrade-format-version.ensures st p) (of_kind_lem u s.requires.0 2 s.requires.1))
+    let u = x.args.u in
+    rw (c.decided.ensures, read_kind_lem u x.requires.0 2 x.requires.1) (entry_as (x.upgrade_format_version-x.ensures st p) (of_kind_lem u x.requires.0 2 x.requires.1))
 
 pub upgrade_format_version_spec : {M : Type 1} → statement M
 upgrade_format_version_spec = tie.close (tie.spec (λ c κs. search rules) (λ c κs. search rules) returns)

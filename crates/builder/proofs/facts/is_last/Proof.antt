@@ -20,9 +20,8 @@ pub is_last_spec : {M : Type 1} → statement M
 is_last_spec =
     tie.close
     (tie.spec
-    (λ c. sym (no_last c.before.args.ids.now c.before.args.id c.if1.true))
+    (λ c. sym (no_last c.args.ids.now c.args.id c.if-n-eq0.true))
     (λ c. search rules)
     (λ c. search rules)
     (λ c. search rules)
-    (λ c. let s = c.before.before in
-    rw (to_z-of_z (sfits_of c.result.given), to_z-of_z s.ranges.id, last_at (pos 0) s.args.ids.now c.before.if1.false)))
+    (λ c. rw (to_z-of_z (sfits_of c.result-1.given), to_z-of_z c.ranges.id, last_at (pos 0) c.args.ids.now c.if-n-eq0.false)))

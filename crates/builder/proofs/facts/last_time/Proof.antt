@@ -44,10 +44,10 @@ pub last_time_spec : {M : Type 1} → statement M
 last_time_spec =
     tie.close
     (tie.spec
-    (λ c h. let t = c.before.args.t1 in
-    let n : t.count ≡ 0 = by_either (eqb t.count 0) (ltb 128 t.count) (eqb-true t.count 0) (λ q. absurd (omega (arith, ltb-true 128 t.count q, within (tidy_snapshot_log h)))) c.if1.true in
+    (λ c h. let t = c.args.log in
+    let n : t.count ≡ 0 = by_either (eqb t.count 0) (ltb 128 t.count) (eqb-true t.count 0) (λ q. absurd (omega (arith, ltb-true 128 t.count q, within (tidy_snapshot_log h)))) c.if-n.true in
     rw (le-ltb 0 t.count (omega arith)) (none_last (read_snapshot_log t) (read_length (tidy_snapshot_log h) ∙ n)))
-    (λ c. omega (arith, (some_entry c.before.args.t1.count c.if1.false).0))
-    (λ c. omega (arith, (some_entry c.before.args.t1.count c.if1.false).1))
-    (λ c. omega (arith, (some_entry c.before.args.t1.count c.if1.false).1))
-    (λ c h. let s = c.before.before.before in last s.args.t1 h _ (some_entry s.args.t1.count c.before.before.if1.false).0))
+    (λ c. omega (arith, (some_entry c.args.log.count c.if-n.false).0))
+    (λ c. omega (arith, (some_entry c.args.log.count c.if-n.false).1))
+    (λ c. omega (arith, (some_entry c.args.log.count c.if-n.false).1))
+    (λ c h. last c.args.log h _ (some_entry c.args.log.count c.if-n.false).0))

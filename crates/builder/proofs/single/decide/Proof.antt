@@ -7,9 +7,9 @@ pub decide_spec : {M : Type 1} → statement M
 decide_spec =
     tie.close
     (tie.spec
-    (λ c κs. (c.before.requires.1.0, c.if1.true))
-    (λ c. c.assign-uuid.ensures)
-    (λ c κs. (c.before.before.requires.1.0, c.if2.true))
-    (λ c. c.upgrade-format-version.ensures)
-    (λ c κs. let s = c.before.before in (s.requires.0, (s.requires.1.0, (s.requires.1.1.0, omega (arith, s.requires.1.1.1.0, s.requires.1.1.1.1, c.before.if1.false, c.if2.false)))))
-    (λ c. c.set-location.ensures))
+    (λ c κs. (c.requires.1.0, c.if-kind-eq-ASSIGN_UUID.true))
+    (λ c. c.assign_uuid.ensures)
+    (λ c κs. (c.requires.1.0, c.if-kind-eq-UPGRADE_FORMAT_VERSION.true))
+    (λ c. c.upgrade_format_version.ensures)
+    (λ c κs. (c.requires.0, (c.requires.1.0, (c.requires.1.1.0, omega (arith, c.requires.1.1.1.0, c.requires.1.1.1.1, c.if-kind-eq-ASSIGN_UUID.false, c.if-kind-eq-UPGRADE_FORMAT_VERSION.false)))))
+    (λ c. c.set_location.ensures))

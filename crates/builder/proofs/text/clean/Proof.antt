@@ -19,6 +19,6 @@ clean_spec =
     (tie.spec
     (λ c. fits c.before)
     (λ c. sym (length-take-le _ _ (fits c.before.before)))
-    (λ c κs. rw (length-take-le _ _ (fits c.before.before)) c.before.before.requires)
+    (λ c κs. rw (length-take-le _ _ (fits c.before.before)) c.requires)
     (λ c. let s = c.before.before.before in
     c.text_of.ensures ∙ ap laid_text (sym (counted_take 0 s.args.text.bytes s.args.text.len (fits s)))))

@@ -15,14 +15,14 @@ use Rattle.builder.proofs.text.trimmed.Tie as tie
 fits : (c : tie.Start) → c.args.text.len ≤ length c.args.text.bytes
 fits c = let k : length c.args.text.bytes ≡ 96 = search rules in omega (arith, c.requires)
 
-bytes : (c : tie.After-trim) → c.trim.result.now ≡ trimmed (read_text c.before.before.before.args.text)
+bytes : (c : tie.After-trim) → c.trim.result.now ≡ trimmed (read_text c.args.text)
 bytes c =
     let s = c.before.before.before in
     c.trim.ensures.0 ∙ ap trimmed (sym (counted_take 0 s.args.text.bytes s.args.text.len (fits s)))
 
-text_of_requires : tie.Need-text-of-requires
+text_of_requires : tie.Need-text_of-requires
 unfolding laid_text
-text_of_requires c κs = let s = c.before.before.before in rw (bytes c) (trimmed_fits s.args.text s.requires)
+text_of_requires c κs = rw (bytes c) (trimmed_fits c.args.text c.requires)
 
 pub trimmed_spec : {M : Type 1} → statement M
 trimmed_spec =

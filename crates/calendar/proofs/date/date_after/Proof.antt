@@ -6,17 +6,16 @@ use Rattle.calendar.proofs.Dates.{found_is_date, found_back}
 use Rattle.calendar.proofs.date.date_after.Statement.{statement}
 use Rattle.calendar.proofs.date.date_after.Tie as tie
 
-month_at_requires : tie.Need-month-at-requires
+month_at_requires : tie.Need-month_at-month-requires
 month_at_requires c κs =
-    let y = c.before.before.year-at.result in
-    rw c.before.is-leap.ensures (omega (arith, year_length y (omega arith)))
+    let y = c.year_at-year.result in
+    rw c.is_leap-is_leap.ensures (omega (arith, year_length y (omega arith)))
 
 returns : tie.Need-returns
 returns c =
-    let k = c.before.before.before in
-    let s = k.before.before in (
-      found_is_date _ _ _ _ _ _ s.requires k.before.year-at.ensures k.is-leap.ensures c.before.before.days-before-year.ensures c.before.month-at.ensures c.days-before-month.ensures,
-      found_back _ _ _ _ _ _ s.requires k.before.year-at.ensures k.is-leap.ensures c.before.before.days-before-year.ensures c.before.month-at.ensures c.days-before-month.ensures,
+    let k = c.before.before.before in (
+      found_is_date _ _ _ _ _ _ k.requires k.year_at-year.ensures k.is_leap-is_leap.ensures c.days_before_year.ensures c.month_at-month.ensures c.days_before_month.ensures,
+      found_back _ _ _ _ _ _ k.requires k.year_at-year.ensures k.is_leap-is_leap.ensures c.days_before_year.ensures c.month_at-month.ensures c.days_before_month.ensures,
     )
 
 pub date_after_spec : {M : Type 1} → statement M

@@ -1,30 +1,28 @@
 -- The date that is found for the time counted from 0001-01-01 has that time.
 use mathlib.Core.Path.{sym, ◌∙◌}
-use mathlib.Core.Bool.{true, true≢false}
+use mathlib.Core.Bool.{true≢false}
 use borrow.Author.Rules.{rules}
 use borrow.Author.Tests.{not-true, not-false}
 use Rattle.calendar.proofs.Dates.{time_is}
 use Rattle.calendar.proofs.date.date_of.Statement.{statement}
 use Rattle.calendar.proofs.date.date_of.Tie as tie
 
-returns : tie.Need-returns
+returns : tie.Need-returns-then-not-since
 returns c =
-    let k = c.before.before.before in
     record {
-      flag = sym (not-true _ c.before.if1.true) ∙ k.since-year-one.ensures.flag;
-      is_date_lem = λ e. absurd (true≢false (sym e));
+      flag = sym (not-true _ c.if-not-since.true) ∙ c.since_year_one-since.ensures.flag;
+      is_date = λ e. absurd (true≢false (sym e));
       same = λ e. absurd (true≢false (sym e));
-      none = λ e. c.blank.ensures;
+      none = λ e. c.blank-date.ensures;
     }
 
-returns_2 : tie.Need-returns-2
+returns_2 : tie.Need-returns
 returns_2 c =
-    let k = c.before.before.before in
-    let within = not-false _ c.before.if1.false in
+    let within = not-false _ c.if-not-since.false in
     record {
-      flag = sym within ∙ k.since-year-one.ensures.flag;
-      is_date_lem = λ e. c.date-after.ensures.0;
-      same = λ e. time_is _ _ _ c.date-after.ensures.1 (k.since-year-one.ensures.same within);
+      flag = sym within ∙ c.since_year_one-since.ensures.flag;
+      is_date = λ e. c.date_after-date.ensures.0;
+      same = λ e. time_is _ _ _ c.date_after-date.ensures.1 (c.since_year_one-since.ensures.same within);
       none = λ e. absurd (true≢false e);
     }
 
@@ -35,5 +33,5 @@ date_of_spec =
     (λ c κs. search rules)
     (λ c κs. search rules)
     returns
-    (λ c κs. c.before.before.since-year-one.ensures.least (not-false _ c.if1.false))
+    (λ c κs. c.since_year_one-since.ensures.least (not-false _ c.if-not-since.false))
     returns_2)

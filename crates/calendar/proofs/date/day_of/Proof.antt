@@ -5,4 +5,4 @@ use Rattle.calendar.proofs.date.day_of.Statement.{statement}
 use Rattle.calendar.proofs.date.day_of.Tie as tie
 
 pub day_of_spec : {M : Type 1} → statement M
-day_of_spec = tie.close (tie.spec (λ c κs. search rules) (λ c κs. search rules) (λ c. day_is _ _ _ c.before.before.before.time-of.ensures c.before.before.time-of2.ensures))
+day_of_spec = tie.close (tie.spec (λ c κs. search rules) (λ c κs. search rules) (λ c. day_is _ _ _ c.time_of-first.ensures c.time_of-last.ensures))

@@ -7,21 +7,21 @@ use Rattle.calendar.proofs.Dates.{day_parts, day_within}
 use Rattle.calendar.proofs.date.days_before.Statement.{statement}
 use Rattle.calendar.proofs.date.days_before.Tie as tie
 
-module _ (c : tie.After-days-before-month) where
-  is_months : c.days-before-month.result ≡ days_before_month (is_leap c.before.before.before.args.year) c.before.before.before.args.month
-  is_months = rw c.before.is-leap.ensures at c.days-before-month.ensures
+module _ (c : tie.After-days_before_month) where
+  is_months : c.days_before_month.result ≡ days_before_month (is_leap c.args.year) c.args.month
+  is_months = rw c.is_leap.ensures at c.days_before_month.ensures
 
-add_result : tie.Need-overflow-add-result
+add_result : tie.Need-overflow_add-result
 unfolding days_before
-add_result c = let s = c.before.before.before in omega (arith, is_months c, day_within s.args.year s.args.month s.args.day s.requires)
+add_result c = omega (arith, is_months c, day_within c.args.year c.args.month c.args.day c.requires)
 
-add_result_2 : tie.Need-overflow-add-result-2
+add_result_2 : tie.Need-overflow_add-result-2
 unfolding days_before
-add_result_2 c = let s = c.before.before.before in omega (arith, is_months c, day_within s.args.year s.args.month s.args.day s.requires)
+add_result_2 c = omega (arith, is_months c, day_within c.args.year c.args.month c.args.day c.requires)
 
 returns : tie.Need-returns
 unfolding days_before
-returns c = let s = c.before.before.before in omega (arith, is_months c, day_within s.args.year s.args.month s.args.day s.requires)
+returns c = omega (arith, is_months c, day_within c.args.year c.args.month c.args.day c.requires)
 
 pub days_before_spec : {M : Type 1} → statement M
 days_before_spec =
@@ -29,8 +29,8 @@ days_before_spec =
     (tie.spec
     (λ c κs. omega (arith, day_parts c.args.year c.args.month c.args.day c.requires))
     (λ c κs. search rules)
-    (λ c κs. let s = c.before.before in omega (arith, day_parts s.args.year s.args.month s.args.day s.requires))
+    (λ c κs. omega (arith, day_parts c.args.year c.args.month c.args.day c.requires))
     add_result
-    (λ c. let s = c.before.before.before in omega (arith, day_parts s.args.year s.args.month s.args.day s.requires))
+    (λ c. omega (arith, day_parts c.args.year c.args.month c.args.day c.requires))
     add_result_2
     returns)

@@ -7,26 +7,24 @@ use Rattle.calendar.proofs.Dates.{from}
 use Rattle.calendar.proofs.date.is_day.Statement.{statement}
 use Rattle.calendar.proofs.date.is_day.Tie as tie
 
-returns : tie.Need-returns
+returns : tie.Need-returns-then-not-is_from
 unfolding is_day
-returns c = rw (sym c.before.is-from.ensures ∙ not-true _ c.if1.true)
+returns c = rw (sym c.is_from.ensures ∙ not-true _ c.if-not-is_from.true-raw)
 
-returns_2 : tie.Need-returns-2
+returns_2 : tie.Need-returns-then-not-is_from-2
 unfolding is_day
 returns_2 c =
-    let k = c.before.before in
-    rw (sym k.before.is-from.ensures ∙ not-false _ k.if1.false, sym c.before.is-from2.ensures ∙ not-true _ c.if2.true)
+    rw (sym c.is_from.ensures ∙ not-false _ c.if-not-is_from.false-raw, sym c.is_from-2.ensures ∙ not-true _ c.if-not-is_from-2.true-raw)
 
-month_length_requires : tie.Need-month-length-requires
-month_length_requires c κs = (from 1 12 _ (sym c.before.before.is-from2.ensures ∙ not-false _ c.before.if2.false)).at_most
+month_length_requires : tie.Need-month_length-requires
+month_length_requires c κs = (from 1 12 _ (sym c.is_from-2.ensures ∙ not-false _ c.if-not-is_from-2.false-raw)).at_most
 
-returns_3 : tie.Need-returns-3
+returns_3 : tie.Need-returns
 unfolding is_day
 returns_3 c =
     let k = c.before.before.before in
-    let l = k.before.before in
-    rw (sym l.before.is-from.ensures ∙ not-false _ l.if1.false, sym k.before.is-from2.ensures ∙ not-false _ k.if2.false)
-    (c.is-from3.ensures ∙ rw (c.before.month-length.ensures, c.before.before.is-leap.ensures))
+    rw (sym k.is_from.ensures ∙ not-false _ k.if-not-is_from.false-raw, sym k.is_from-2.ensures ∙ not-false _ k.if-not-is_from-2.false-raw)
+    (c.is_from-3.ensures ∙ rw (c.month_length.ensures, c.is_leap.ensures))
 
 pub is_day_spec : {M : Type 1} → statement M
 is_day_spec =

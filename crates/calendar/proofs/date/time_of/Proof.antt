@@ -11,21 +11,21 @@ use Rattle.calendar.proofs.Dates.{date_parts, time_is, timed_is}
 use Rattle.calendar.proofs.date.time_of.Statement.{statement}
 use Rattle.calendar.proofs.date.time_of.Tie as tie
 
-module _ (c : tie.Else1) where
-  is_date_lem : is_date c.before.before.args.date ≡ true
-  is_date_lem = sym c.before.is_date.ensures ∙ not-false _ c.if1.false
+module _ (c : tie.Else-not-is_date) where
+  is_date_lem : is_date c.args.date ≡ true
+  is_date_lem = sym c.is_date.ensures ∙ not-false _ c.if-not-is_date.false-raw
 
-returns : tie.Need-returns
+returns : tie.Need-returns-then-not-is_date
 unfolding timed
-returns c = rw (sym c.before.is_date.ensures ∙ not-true _ c.if1.true)
+returns c = rw (sym c.is_date.ensures ∙ not-true _ c.if-not-is_date.true-raw)
 
-returns_2 : tie.Need-returns-2
+returns_2 : tie.Need-returns
 unfolding milliseconds
 returns_2 c =
     let k = c.before.before.before in
-    let d = k.before.before.args.date in
-    timed_is d c.since-epoch.result (is_date_lem k)
-    (time_is d (c.before.before.days-before.result * 86400000 + c.before.since-midnight.result) _ (rw (sym c.before.before.days-before.ensures.0, sym c.before.since-midnight.ensures.0)) (sym c.since-epoch.ensures))
+    let d = k.args.date in
+    timed_is d c.since_epoch-time.result (is_date_lem k)
+    (time_is d (c.days_before-days.result * 86400000 + c.since_midnight-clock.result) _ (rw (sym c.days_before-days.ensures.0, sym c.since_midnight-clock.ensures.0)) (sym c.since_epoch-time.ensures))
 
 pub time_of_spec : {M : Type 1} → statement M
 time_of_spec =
@@ -36,6 +36,6 @@ time_of_spec =
     (λ c κs. (date_parts _ (is_date_lem c)).0)
     (λ c κs. (date_parts _ (is_date_lem c.before)).1)
     (λ c. search rules)
-    (λ c. omega (arith, c.before.days-before.ensures, c.since-midnight.ensures))
-    (λ c κs. omega (arith, c.before.days-before.ensures, c.since-midnight.ensures))
+    (λ c. omega (arith, c.days_before-days.ensures, c.since_midnight-clock.ensures))
+    (λ c κs. omega (arith, c.days_before-days.ensures, c.since_midnight-clock.ensures))
     returns_2)

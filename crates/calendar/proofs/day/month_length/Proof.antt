@@ -5,11 +5,11 @@ use Rattle.calendar.proofs.Days.{leap_february, plain_year, not_february}
 use Rattle.calendar.proofs.day.month_length.Statement.{statement}
 use Rattle.calendar.proofs.day.month_length.Tie as tie
 
-returns : tie.Need-returns
-returns c = leap_february _ _ c.if2.true c.before.if1.true
+returns : tie.Need-returns-then-is_leap
+returns c = leap_february _ _ c.if-is_leap.true c.if-month-eq2.true
 
-returns_2 : tie.Need-returns-2
-returns_2 c = ⊎_elim (λ u. plain_year _ _ u.1.left) (λ u. not_february _ _ u.left) c.if1.branch
+returns_2 : tie.Need-returns
+returns_2 c = ⊎_elim (λ u. plain_year _ _ u.if-is_leap.false) (λ u. not_february _ _ u.if-month-eq2.false) c.if-month-eq2.branch-raw
 
 pub month_length_spec : {M : Type 1} → statement M
 month_length_spec = tie.close (tie.spec returns (λ c. search rules) (λ c. search rules) returns_2)

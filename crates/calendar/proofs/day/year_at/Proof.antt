@@ -7,18 +7,18 @@ use Rattle.calendar.proofs.Days.{early, last_year}
 use Rattle.calendar.proofs.day.year_at.Statement.{statement}
 use Rattle.calendar.proofs.day.year_at.Tie as tie
 
-abbrev invariant_loop : tie.invariant_loop
+abbrev invariant_loop : tie.invariant-loop-year
 invariant_loop day year₀ year = (1 ≤ year) × (year ≤ 9999) × (days_before_year year ≤ day)
 
-abbrev decreases_loop : tie.decreases_loop
+abbrev decreases_loop : tie.decreases-loop-year
 decreases_loop day year₀ year = 10000 - year
 
-loop_holds : tie.Need-loop-init invariant_loop decreases_loop
+loop_holds : tie.Need-loop-year-init invariant_loop decreases_loop
 loop_holds c = omega (arith, early (c.args.day / 366))
 
-loop_again : tie.Need-loop-preserved invariant_loop decreases_loop
+loop_again : tie.Need-loop-year-preserved invariant_loop decreases_loop
 loop_again c =
-    let y = c.before.before.loop.year in
+    let y = c.loop-year.year in
     (omega arith, last_year (y + 1) (omega arith) (omega arith), omega arith)
 
 returns : tie.Need-returns invariant_loop decreases_loop

@@ -11,31 +11,31 @@ use Rattle.calendar.proofs.Shifts.{sum_fits, above, small, back}
 use Rattle.calendar.proofs.shift.since_year_one.Statement.{statement}
 use Rattle.calendar.proofs.shift.since_year_one.Tie as tie
 
-module _ (c : tie.After-struct-told) where
-  t_fits : SFits w64 c.before.args.time.0
-  t_fits = sfits_of c.struct_told.given.0.1
+module _ (c : tie.After-struct_told-1) where
+  t_fits : SFits w64 c.args.time.0
+  t_fits = sfits_of c.struct_told-1.given.0.1
 
-returns : tie.Need-returns
+returns : tie.Need-returns-then-time-lt-FIRST
 unfolding is_within
 returns c =
-    record { flag = rw (first_time, last_time_lem, rw (to_z-of_z (t_fits c.before)) at c.if1.true); least = λ e. absurd (true≢false (sym e)); same = λ e. absurd (true≢false (sym e)) }
+    record { flag = rw (first_time, last_time_lem, rw (to_z-of_z (t_fits c.before)) at c.if-time-lt-FIRST.true); least = λ e. absurd (true≢false (sym e)); same = λ e. absurd (true≢false (sym e)) }
 
-returns_2 : tie.Need-returns-2
+returns_2 : tie.Need-returns-then-time-gt-LAST
 unfolding is_within
 returns_2 c =
     let f = t_fits c.before.before in
     record {
-      flag = rw (first_time, last_time_lem, rw (to_z-of_z f) at c.before.if1.false, rw (to_z-of_z f) at c.if2.true);
+      flag = rw (first_time, last_time_lem, rw (to_z-of_z f) at c.if-time-lt-FIRST.false, rw (to_z-of_z f) at c.if-time-gt-LAST.true);
       least = λ e. absurd (true≢false (sym e));
       same = λ e. absurd (true≢false (sym e));
     }
 
-returns_3 : tie.Need-returns-3
+returns_3 : tie.Need-returns
 unfolding is_within
 returns_3 c =
     let f = t_fits c.before.before in
-    let e = c.before.if1.false in
-    let l = c.if2.false in
+    let e = c.if-time-lt-FIRST.false in
+    let l = c.if-time-gt-LAST.false in
     record {
       flag = rw (first_time, last_time_lem, rw (to_z-of_z f) at e, rw (to_z-of_z f) at l);
       least = λ t. small _ f e l;
@@ -48,6 +48,6 @@ since_year_one_spec =
     (tie.spec
     returns
     returns_2
-    (λ c. sum_fits _ (t_fits c.before.before) c.before.if1.false c.if2.false)
-    (λ c. above _ (t_fits c.before.before) c.before.if1.false c.if2.false)
+    (λ c. sum_fits _ (t_fits c.before.before) c.if-time-lt-FIRST.false c.if-time-gt-LAST.false)
+    (λ c. above _ (t_fits c.before.before) c.if-time-lt-FIRST.false c.if-time-gt-LAST.false)
     returns_3)

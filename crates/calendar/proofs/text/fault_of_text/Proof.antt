@@ -5,8 +5,8 @@ use lib.Seq.{length-take-le}
 use Rattle.calendar.proofs.text.fault_of_text.Statement.{statement}
 use Rattle.calendar.proofs.text.fault_of_text.Tie as tie
 
-slice : tie.Need-slice-aggregate-has-shape
-slice c = sym (length-take-le _ c.before.before.before.before.before.before.before.args.text.now c.before.before.before.offset-of.ensures.0)
+slice : tie.Need-slice_bounds-has_shape-end
+slice c = sym (length-take-le _ c.args.text.now c.offset_of-offset.ensures.0)
 
 pub fault_of_text_spec : {M : Type 1} → statement M
 fault_of_text_spec =

@@ -4,10 +4,10 @@ use borrow.Author.Rules.{rules}
 use Rattle.calendar.proofs.text.has_shape.Statement.{statement}
 use Rattle.calendar.proofs.text.has_shape.Tie as tie
 
-abbrev invariant_loop : tie.invariant_loop
+abbrev invariant_loop : tie.invariant-loop-i
 invariant_loop text n shape i₀ i = i ≤ n
 
-abbrev decreases_loop : tie.decreases_loop
+abbrev decreases_loop : tie.decreases-loop-i
 decreases_loop text n shape i₀ i = n - i
 
 pub has_shape_spec : {M : Type 1} → statement M

@@ -14,7 +14,7 @@ in_utc_spec =
     (λ c. search rules)
     (λ c κs. search rules)
     (λ c. search rules)
-    (λ c. omega (arith, c.before.before.before.before.since-year-one.ensures.least (not-false _ c.before.before.if1.false)))
+    (λ c. omega (arith, c.since_year_one-since.ensures.least (not-false _ c.if-not-since.false)))
     (λ c κs. search rules)
     (λ c. search rules)
     (λ c κs. search rules)

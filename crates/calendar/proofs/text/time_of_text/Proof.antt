@@ -5,8 +5,8 @@ use lib.Seq.{length-take-le}
 use Rattle.calendar.proofs.text.time_of_text.Statement.{statement}
 use Rattle.calendar.proofs.text.time_of_text.Tie as tie
 
-slice : tie.Need-slice-aggregate-time-of-date-text
-slice c = sym (length-take-le _ c.before.before.before.before.before.before.args.text.now c.before.before.offset-of.ensures.0)
+slice : tie.Need-slice_bounds-time_of_date_text-end
+slice c = sym (length-take-le _ c.args.text.now c.offset_of-offset.ensures.0)
 
 pub time_of_text_spec : {M : Type 1} → statement M
 time_of_text_spec =

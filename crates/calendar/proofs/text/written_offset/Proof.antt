@@ -7,8 +7,8 @@ use Rattle.calendar.proofs.Dates.{clock_parts}
 use Rattle.calendar.proofs.text.written_offset.Statement.{statement}
 use Rattle.calendar.proofs.text.written_offset.Tie as tie
 
-returns_2 : tie.Need-returns-2
-returns_2 c = (search rules, omega (arith, clock_parts _ _ _ _ (sym c.before.is-clock.ensures ∙ not-false _ c.if1.false)))
+returns_2 : tie.Need-returns
+returns_2 c = (search rules, omega (arith, clock_parts _ _ _ _ (sym c.is_clock.ensures ∙ not-false _ c.if-not-is_clock.false-raw)))
 
 pub written_offset_spec : {M : Type 1} → statement M
 written_offset_spec =

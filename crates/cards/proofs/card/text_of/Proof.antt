@@ -3,10 +3,10 @@ use Rattle.std.proofs.Common.{◌-◌, rules}
 use Rattle.cards.proofs.card.text_of.Statement.{statement}
 use Rattle.cards.proofs.card.text_of.Tie as tie
 
-abbrev invariant_loop : tie.invariant_loop
+abbrev invariant_loop : tie.invariant-loop-i
 invariant_loop slots len bytes₀ n i₀ bytes i = Unit {0}
 
-abbrev decreases_loop : tie.decreases_loop
+abbrev decreases_loop : tie.decreases-loop-i
 decreases_loop slots len bytes₀ n i₀ bytes i = n - i
 
 pub text_of_spec : {M : Type 1} → statement M

@@ -4,10 +4,10 @@ use Rattle.tokens.proofs.Digits.{at_most_20}
 use Rattle.cards.proofs.field.plain_name.Statement.{statement}
 use Rattle.cards.proofs.field.plain_name.Tie as tie
 
-abbrev invariant_loop : tie.invariant_loop
+abbrev invariant_loop : tie.invariant-loop-i
 invariant_loop id digits n bytes₀ len₀ i₀ bytes len i = (len ≡ len₀ + i) × (len₀ ≤ 1) × (i ≤ n) × (n ≤ 20)
 
-abbrev decreases_loop : tie.decreases_loop
+abbrev decreases_loop : tie.decreases-loop-i
 decreases_loop id digits n bytes₀ len₀ i₀ bytes len i = n - i
 
 pub plain_name_spec : {M : Type 1} → statement M
@@ -21,9 +21,8 @@ plain_name_spec =
     (λ c κs. search rules)
     (λ c. search rules)
     (λ c.
-    let d = c.before in
-    let few = at_most_20 d.before.before.absolute.result d.decimal.result (search rules) d.decimal.ensures.1.0 in
-    ⊎_elim (λ w. search rules) (λ w. search rules) c.if1.branch)
+    let few = at_most_20 c.absolute.result c.decimal-n.result (search rules) c.decimal-n.ensures.1.0 in
+    ⊎_elim (λ w. search rules) (λ w. search rules) c.if-id-lt0.branch-raw)
     (λ c. search rules)
     (λ c. search rules)
     (λ c. search rules)

@@ -3,10 +3,10 @@ use Rattle.std.proofs.Common.{◌-◌, rules}
 use Rattle.cards.proofs.offer.fields.Statement.{statement}
 use Rattle.cards.proofs.offer.fields.Tie as tie
 
-abbrev invariant_loop : tie.invariant_loop
+abbrev invariant_loop : tie.invariant-loop-i
 invariant_loop offer offers fields₀ i₀ fields i = Unit {0}
 
-abbrev decreases_loop : tie.decreases_loop
+abbrev decreases_loop : tie.decreases-loop-i
 decreases_loop offer offers fields₀ i₀ fields i = 32 - i
 
 pub fields_spec : {M : Type 1} → statement M

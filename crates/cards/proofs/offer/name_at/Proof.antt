@@ -3,10 +3,10 @@ use Rattle.std.proofs.Common.{◌-◌, rules}
 use Rattle.cards.proofs.offer.name_at.Statement.{statement}
 use Rattle.cards.proofs.offer.name_at.Tie as tie
 
-abbrev invariant_loop : tie.invariant_loop
+abbrev invariant_loop : tie.invariant-loop-i
 invariant_loop offers at bytes₀ i₀ bytes i = Unit {0}
 
-abbrev decreases_loop : tie.decreases_loop
+abbrev decreases_loop : tie.decreases-loop-i
 decreases_loop offers at bytes₀ i₀ bytes i = 32 - i
 
 pub name_at_spec : {M : Type 1} → statement M

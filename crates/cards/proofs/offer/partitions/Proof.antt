@@ -3,10 +3,10 @@ use Rattle.std.proofs.Common.{◌-◌, rules}
 use Rattle.cards.proofs.offer.partitions.Statement.{statement}
 use Rattle.cards.proofs.offer.partitions.Tie as tie
 
-abbrev invariant_loop : tie.invariant_loop
+abbrev invariant_loop : tie.invariant-loop-i
 invariant_loop offers offer fields₀ i₀ fields i = Unit {0}
 
-abbrev decreases_loop : tie.decreases_loop
+abbrev decreases_loop : tie.decreases-loop-i
 decreases_loop offers offer fields₀ i₀ fields i = 8 - i
 
 pub partitions_spec : {M : Type 1} → statement M

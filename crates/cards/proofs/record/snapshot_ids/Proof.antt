@@ -3,10 +3,10 @@ use Rattle.std.proofs.Common.{◌-◌, rules}
 use Rattle.cards.proofs.record.snapshot_ids.Statement.{statement}
 use Rattle.cards.proofs.record.snapshot_ids.Tie as tie
 
-abbrev invariant_loop : tie.invariant_loop
+abbrev invariant_loop : tie.invariant-loop-i
 invariant_loop ids numbers₀ count n i₀ numbers i = Unit {0}
 
-abbrev decreases_loop : tie.decreases_loop
+abbrev decreases_loop : tie.decreases-loop-i
 decreases_loop ids numbers₀ count n i₀ numbers i = n - i
 
 pub snapshot_ids_spec : {M : Type 1} → statement M

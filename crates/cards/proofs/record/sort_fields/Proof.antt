@@ -3,10 +3,10 @@ use Rattle.std.proofs.Common.{◌-◌, rules}
 use Rattle.cards.proofs.record.sort_fields.Statement.{statement}
 use Rattle.cards.proofs.record.sort_fields.Tie as tie
 
-abbrev invariant_loop : tie.invariant_loop
+abbrev invariant_loop : tie.invariant-loop-i
 invariant_loop order numbers₀ count n i₀ numbers i = Unit {0}
 
-abbrev decreases_loop : tie.decreases_loop
+abbrev decreases_loop : tie.decreases-loop-i
 decreases_loop order numbers₀ count n i₀ numbers i = n - i
 
 pub sort_fields_spec : {M : Type 1} → statement M

@@ -19,15 +19,15 @@ use Rattle.close.proofs.files.moved.Tie as tie
 abbrev slots_of : MetadataLog → List MetadataLogEntry
 slots_of log = map laid_metadata_log_entry (read_metadata_log log)
 
-abbrev invariant_loop : tie.invariant_loop
+abbrev invariant_loop : tie.invariant-loop-i
 invariant_loop gone log₀ n left i₀ log i = (i ≤ n) × Moved 128 no_metadata_log_entry (slots_of log₀) gone i log.items
 
-abbrev decreases_loop : tie.decreases_loop
+abbrev decreases_loop : tie.decreases-loop-i
 decreases_loop gone log₀ n left i₀ log i = n - i
 
 module _ (c : tie.Start invariant_loop decreases_loop) where
   abbrev log : MetadataLog
-  log = c.args.t1
+  log = c.args.log
 
   slots_length : length (slots_of log) ≡ log.count
   slots_length = length-map (read_metadata_log log) laid_metadata_log_entry ∙ read_length (tidy_metadata_log c.requires.0)
@@ -39,21 +39,21 @@ module _ (c : tie.Start invariant_loop decreases_loop) where
   room = within (tidy_metadata_log c.requires.0)
 
 -- what goes to the slot
-goes : (c : tie.Joined1 invariant_loop decreases_loop) → (d : MetadataLogEntry) → c.if1.e ≡ get_or (pad 128 no_metadata_log_entry (drop c.before.before.before.before.args.gone (slots_of c.before.before.before.before.args.t1))) c.before.before.before.loop.i d
+goes : (c : tie.Joined-i-left invariant_loop decreases_loop) → (d : MetadataLogEntry) → c.if-i-left.e ≡ get_or (pad 128 no_metadata_log_entry (drop c.args.gone (slots_of c.args.log))) c.loop-i.i d
 goes c d =
     let l = c.before.before.before in
     let s = l.before in
     ⊎_elim
-    (λ w. w.2 ∙ moved_here (slots_fit s) l.loop.invariant.1 _ (omega (arith, w.0.taken, slots_length s)) d)
-    (λ w. w.1 ∙ c.before.blank.ensures ∙ moved_none (slots_fit s) l.loop.invariant.1 (omega (arith, w.0.left, slots_length s)) (omega (arith, slots_length s, c.before.before.loop-test.true)) d)
-    c.if1.branch
+    (λ w. w.e-is ∙ moved_here (slots_fit s) l.loop-i.invariant.1 _ (omega (arith, w.if-i-left.true, slots_length s)) d)
+    (λ w. w.e-is ∙ c.blank-e.ensures ∙ moved_none (slots_fit s) l.loop-i.invariant.1 (omega (arith, w.if-i-left.false, slots_length s)) (omega (arith, slots_length s, c.loop-i-test.true)) d)
+    c.if-i-left.branch-raw
 
 returns : tie.Need-returns invariant_loop decreases_loop
 returns c =
     let l = c.before in
     let s = l.before in
     made_metadata_log.same
-    (moved_end (slots_fit s) l.loop.invariant.1 (omega (arith, slots_length s)) ∙ ap (pad 128 no_metadata_log_entry) (drop_map laid_metadata_log_entry s.args.gone (read_metadata_log (log s))) ∙ sym (made_metadata_log.laid_items _))
+    (moved_end (slots_fit s) l.loop-i.invariant.1 (omega (arith, slots_length s)) ∙ ap (pad 128 no_metadata_log_entry) (drop_map laid_metadata_log_entry s.args.gone (read_metadata_log (log s))) ∙ sym (made_metadata_log.laid_items _))
     (sym (made_metadata_log.laid_count _ ∙ length-drop s.args.gone (read_metadata_log (log s)) ∙ ap (λ (k : ℕ). k - s.args.gone) (read_length (tidy_metadata_log s.requires.0))))
 
 pub moved_spec : {M : Type 1} → statement M
@@ -73,5 +73,5 @@ moved_spec =
     (λ c. search rules)
     (λ c. search rules)
     (λ c. let b = c.before.before in let l = b.before in let s = l.before in
-    (omega arith, moved_on (slots_fit s) l.loop.invariant.1 c.if1.e (omega (arith, slots_length s, b.loop-test.true)) (goes c)))
+    (omega arith, moved_on (slots_fit s) l.loop-i.invariant.1 c.if-i-left.e (omega (arith, slots_length s, b.loop-i-test.true)) (goes c)))
     returns)

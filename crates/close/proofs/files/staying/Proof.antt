@@ -36,29 +36,29 @@ module _ (terms : RunTerms) (old : Time) {log : MetadataLog} (l : List FileEntry
       let b : laid_metadata_log_entry (read_metadata_log_entry (record { metadata_file = name; timestamp_ms = old })) ≡ record { metadata_file = name; timestamp_ms = old } = λ i. record { metadata_file = (ap laid_text w ∙ sym n) i; timestamp_ms = old } in
       pushed made_metadata_log _ e fits b refl refl ∙ ap (λ (y : List FileEntry). laid_metadata_log (l ++ y)) (λ i. cond (sym j i) (record { file = w i; time = old.0 } ∷ []) [])
 
-module _ (c : tie.Joined1) where
+module _ (c : tie.Joined-gone-gt0) where
   abbrev entries : List FileEntry
-  entries = read_metadata_log c.before.before.args.t1
+  entries = read_metadata_log c.args.log
 
   abbrev gone : ℕ
-  gone = c.before.before.args.gone
+  gone = c.args.gone
 
-  count_is : length entries ≡ c.before.before.args.t1.count
-  count_is = read_length (tidy_metadata_log c.before.before.requires.0)
+  count_is : length entries ≡ c.args.log.count
+  count_is = read_length (tidy_metadata_log c.requires.0)
 
-  left : c.if1.log ≡ laid_metadata_log (drop gone entries)
+  left : c.if-gone-gt0.log ≡ laid_metadata_log (drop gone entries)
   left =
       ⊎_elim
-      (λ w. w.2 ∙ w.1.ensures)
-      (λ w. let z : 0 ≡ gone = omega (arith, w.0.left) in
-      w.1 ∙ sym c.before.before.requires.0.back ∙ ap (λ (k : ℕ). laid_metadata_log (drop k entries)) z)
-      c.if1.branch
+      (λ w. w.log-is ∙ w.moved-log.ensures)
+      (λ w. let z : 0 ≡ gone = omega (arith, w.if-gone-gt0.false) in
+      w.log-is ∙ sym c.requires.0.back ∙ ap (λ (k : ℕ). laid_metadata_log (drop k entries)) z)
+      c.if-gone-gt0.branch-raw
 
-  module _ (j : c.before.before.args.terms.has_file ≡ true) where
+  module _ (j : c.args.terms.has_file ≡ true) where
     room : length (drop gone entries) < 128
-    room = simp length-drop (omega (arith, count_is, (c.before.before.requires.1.1 j).0))
+    room = simp length-drop (omega (arith, count_is, (c.requires.1.1 j).0))
 
-    place : c.if1.log.count < 128
+    place : c.if-gone-gt0.log.count < 128
     unfolding laid_metadata_log
     place = rw (ap (λ (x : MetadataLog). x.count) left) room
 
@@ -66,12 +66,12 @@ pub staying_spec : {M : Type 1} → statement M
 staying_spec =
     tie.close
     (tie.spec
-    (λ c κs. (c.before.before.requires.0, c.before.before.requires.1.0))
-    (λ c. left c.before ∙ alone c.before.before.before.args.terms c.before.before.before.args.old (drop (gone c.before) (entries c.before)) (not-true _ c.if2.true))
-    (λ c κs. (c.before.before.before.requires.1.1 (not-false _ c.if2.false)).1)
-    (λ c. omega (arith, place c.before.before (not-false _ c.before.if2.false)))
-    (λ c. omega (arith, place c.before.before (not-false _ c.before.if2.false)))
-    (λ c. omega (arith, place c.before.before (not-false _ c.before.if2.false)))
-    (λ c. let j = not-false _ c.before.if2.false in
-    let a = c.before.before.before.before.args in
-    joins a.terms a.old (drop (gone c.before.before) (entries c.before.before)) j (left c.before.before) (room c.before.before j) c.clean.ensures))
+    (λ c κs. (c.requires.0, c.requires.1.0))
+    (λ c. left c.before ∙ alone c.args.terms c.args.old (drop (gone c.before) (entries c.before)) (not-true _ c.if-not-joins.true-raw))
+    (λ c κs. (c.requires.1.1 (not-false _ c.if-not-joins.false-raw)).1)
+    (λ c. omega (arith, place c.before.before (not-false _ c.if-not-joins.false-raw)))
+    (λ c. omega (arith, place c.before.before (not-false _ c.if-not-joins.false-raw)))
+    (λ c. omega (arith, place c.before.before (not-false _ c.if-not-joins.false-raw)))
+    (λ c. let j = not-false _ c.if-not-joins.false-raw in
+    let a = c.args in
+    joins a.terms a.old (drop (gone c.before.before) (entries c.before.before)) j (left c.before.before) (room c.before.before j) c.clean-metadata_file.ensures))

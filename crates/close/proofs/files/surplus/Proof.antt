@@ -8,8 +8,8 @@ use borrow.Author.Rules.{rules}
 use Rattle.close.proofs.files.surplus.Statement.{statement}
 use Rattle.close.proofs.files.surplus.Tie as tie
 
-all_is : (c : tie.Joined1) → c.if1.all ≡ cond c.before.args.joins (c.before.args.n + 1) c.before.args.n
-all_is c = ⊎_elim (λ w. rw w.0.taken w.1) (λ w. rw w.0.left w.1) c.if1.branch
+all_is : (c : tie.Joined-joins) → c.if-joins.all ≡ cond c.args.joins (c.args.n + 1) c.args.n
+all_is c = ⊎_elim (λ w. rw w.if-joins.true w.all-is) (λ w. rw w.if-joins.false w.all-is) c.if-joins.branch-raw
 
 pub surplus_spec : {M : Type 1} → statement M
 surplus_spec =

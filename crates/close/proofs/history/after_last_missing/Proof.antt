@@ -15,10 +15,10 @@ use Rattle.close.proofs.Parts.{none_from, last_here}
 use Rattle.close.proofs.history.after_last_missing.Statement.{statement}
 use Rattle.close.proofs.history.after_last_missing.Tie as tie
 
-abbrev invariant_loop : tie.invariant_loop
+abbrev invariant_loop : tie.invariant-loop-i
 invariant_loop ids log n i₀ i = (i ≤ n) × (any (is_gone ids) (drop i (read_snapshot_log log)) ≡ false)
 
-abbrev decreases_loop : tie.decreases_loop
+abbrev decreases_loop : tie.decreases-loop-i
 decreases_loop ids log n i₀ i = i
 
 pub after_last_missing_spec : {M : Type 1} → statement M
@@ -27,19 +27,16 @@ after_last_missing_spec =
     (tie.spec
     invariant_loop
     decreases_loop
-    (λ c. (search rules, any_end (is_gone c.args.ids.now) (read_snapshot_log c.args.t1) c.args.t1.count (omega (arith, read_length (tidy_snapshot_log c.requires.0)))))
+    (λ c. (search rules, any_end (is_gone c.args.ids.now) (read_snapshot_log c.args.log) c.args.log.count (omega (arith, read_length (tidy_snapshot_log c.requires.0)))))
     (λ c. search rules)
-    (λ c. omega (arith, within (tidy_snapshot_log c.before.before.requires.0)))
-    (λ c. omega (arith, within (tidy_snapshot_log c.before.before.requires.0)))
+    (λ c. omega (arith, within (tidy_snapshot_log c.requires.0)))
+    (λ c. omega (arith, within (tidy_snapshot_log c.requires.0)))
     (λ c κs. search rules)
-    (λ c. let l = c.before.before.before.before.before in
-    let s : (l.loop.i - 1) + 1 ≡ l.loop.i = omega arith in
-    (l.loop.invariant.0, rw s at (sym (last_here (tidy_snapshot_log l.before.requires.0) (l.loop.i - 1) _ (omega arith) (is_gone l.before.args.ids.now) (ap not (sym c.before.is_held.ensures) ∙ c.if1.true) (rw s l.loop.invariant.1)))))
+    (λ c. let s : (c.loop-i.i - 1) + 1 ≡ c.loop-i.i = omega arith in
+    (c.loop-i.invariant.0, rw s at (sym (last_here (tidy_snapshot_log c.requires.0) (c.loop-i.i - 1) _ (omega arith) (is_gone c.args.ids.now) (ap not (sym c.is_held.ensures) ∙ c.if-not-is_held.true-raw) (rw s c.loop-i.invariant.1)))))
     (λ c. search rules)
     (λ c. omega arith)
-    (λ c. let l = c.before.before.before.before.before in
-    let s : (l.loop.i - 1) + 1 ≡ l.loop.i = omega arith in
-    (omega arith, none_from (tidy_snapshot_log l.before.requires.0) (l.loop.i - 1) _ (omega arith) (is_gone l.before.args.ids.now) (ap not (sym c.before.is_held.ensures) ∙ c.if1.false) (rw s l.loop.invariant.1)))
-    (λ c. let l = c.before in
-    let z : l.loop.i ≡ 0 = omega arith in
-    (search rules, sym (after_none _ _ (rw z at l.loop.invariant.1)))))
+    (λ c. let s : (c.loop-i.i - 1) + 1 ≡ c.loop-i.i = omega arith in
+    (omega arith, none_from (tidy_snapshot_log c.requires.0) (c.loop-i.i - 1) _ (omega arith) (is_gone c.args.ids.now) (ap not (sym c.is_held.ensures) ∙ c.if-not-is_held.false-raw) (rw s c.loop-i.invariant.1)))
+    (λ c. let z : c.loop-i.i ≡ 0 = omega arith in
+    (search rules, sym (after_none _ _ (rw z at c.loop-i.invariant.1)))))

@@ -14,8 +14,8 @@ use Rattle.close.proofs.Logs.{entries_laid, kept_fits}
 use Rattle.close.proofs.history.close_log.Statement.{statement}
 use Rattle.close.proofs.history.close_log.Tie as tie
 
-changed : (c : tie.Joined1) → c.before.args.removal || not (is_empty (intermediates_of c.before.args.added.now c.before.args.mains.now (read_fields c.before.args.f).current)) ≡ true
-changed c = ⊎_elim (λ w. rw w.taken) (λ w. or_right c.before.args.removal (sym w.1.ensures ∙ w.2.taken)) c.if1.branch
+changed : (c : tie.Joined-then-removal) → c.args.removal || not (is_empty (intermediates_of c.args.added.now c.args.mains.now (read_fields c.args.f).current)) ≡ true
+changed c = ⊎_elim (λ w. rw w.if-removal.true) (λ w. or_right c.args.removal (sym w.has_intermediates.ensures ∙ w.if-has_intermediates.true)) c.then-removal.branch-raw
 
 abbrev test : tie.Start → LogEntry → Bool
 test c = is_staying c.args.ids.now c.args.added.now c.args.mains.now (read_fields c.args.f).current
@@ -28,8 +28,8 @@ close_log_spec =
     (λ c κs. search rules)
     (λ c κs. search rules)
     (λ c. let s = c.before.before.before in (
-      (λ l p t. is_rebuilt_lem t c.kept_from.result (changed c.before.before)
-          (c.kept_from.ensures ∙ ap (λ (m : List LogEntry). laid_snapshot_log (keep (test s) m)) c.before.first-kept.ensures.1)),
-      entries_laid _ _ c.kept_from.ensures (kept_fits s.args.log s.requires.0 (test s) c.before.first-kept.result),
+      (λ l p t. is_rebuilt_lem t c.kept_from-kept.result (changed c.before.before)
+          (c.kept_from-kept.ensures ∙ ap (λ (m : List LogEntry). laid_snapshot_log (keep (test s) m)) c.first_kept-from.ensures.1)),
+      entries_laid _ _ c.kept_from-kept.ensures (kept_fits s.args.log s.requires.0 (test s) c.first_kept-from.result),
     ))
-    (λ c. ((λ l p t. is_left t (rw c.before.before.if1.false (sym c.before.has-intermediates.ensures ∙ c.if2.false)) c.before.before.before.requires.0.back), c.before.before.before.requires.0)))
+    (λ c. ((λ l p t. is_left t (rw c.if-removal.false (sym c.has_intermediates.ensures ∙ c.if-has_intermediates.false)) c.requires.0.back), c.requires.0)))

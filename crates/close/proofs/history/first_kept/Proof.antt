@@ -8,5 +8,5 @@ first_kept_spec =
     tie.close
     (tie.spec
     (λ c κs. search rules)
-    (λ c. rw c.before.if1.true c.after-last-missing.ensures)
-    (λ c. rw c.if1.false (search rules)))
+    (λ c. rw c.if-removal.true c.after_last_missing.ensures)
+    (λ c. rw c.if-removal.false (search rules)))

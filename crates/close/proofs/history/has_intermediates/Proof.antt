@@ -14,26 +14,26 @@ use Rattle.close.proofs.Scans.{any_here, any_rest, any_end, kept_any}
 use Rattle.close.proofs.history.has_intermediates.Statement.{statement}
 use Rattle.close.proofs.history.has_intermediates.Tie as tie
 
-abbrev invariant_loop : tie.invariant_loop
+abbrev invariant_loop : tie.invariant-loop-i
 invariant_loop f added mains i₀ i = (i ≤ length mains) × (any (is_superseded added (read_fields f).current) mains ≡ any (is_superseded added (read_fields f).current) (drop i mains))
 
-abbrev decreases_loop : tie.decreases_loop
+abbrev decreases_loop : tie.decreases-loop-i
 decreases_loop f added mains i₀ i = length mains - i
 
-module _ (c : tie.At-loop invariant_loop decreases_loop) where
+module _ (c : tie.At-loop-i invariant_loop decreases_loop) where
   abbrev test : ℤ → Bool
-  test = is_superseded c.before.args.added.now (read_fields c.before.args.f).current
+  test = is_superseded c.args.added.now (read_fields c.args.f).current
 
   abbrev targets : List ℤ
-  targets = c.before.args.mains.now
+  targets = c.args.mains.now
 
   -- what is found from `i` on is the answer
-  answer : {t : Bool} → any test (drop c.loop.i targets) ≡ t → t ≡ not (is_empty (intermediates_of c.before.args.added.now targets (read_fields c.before.args.f).current))
+  answer : {t : Bool} → any test (drop c.loop-i.i targets) ≡ t → t ≡ not (is_empty (intermediates_of c.args.added.now targets (read_fields c.args.f).current))
   unfolding intermediates_of
-  answer e = sym (kept_any test targets ∙ c.loop.invariant.1 ∙ e)
+  answer e = sym (kept_any test targets ∙ c.loop-i.invariant.1 ∙ e)
 
-told : (c : tie.After-is-superseded invariant_loop decreases_loop) {t : Bool} → c.is-superseded.result ≡ t → test c.before.before.before (get_or (targets c.before.before.before) c.before.before.before.loop.i (pos 0)) ≡ t
-told c e = rw (to_z-of_z (sfits_of c.before.x.given)) at (sym c.is-superseded.ensures ∙ e)
+told : (c : tie.After-is_superseded invariant_loop decreases_loop) {t : Bool} → c.is_superseded.result ≡ t → test c.before.before.before (get_or (targets c.before.before.before) c.loop-i.i (pos 0)) ≡ t
+told c e = rw (to_z-of_z (sfits_of c.x-1.given)) at (sym c.is_superseded.ensures ∙ e)
 
 pub has_intermediates_spec : {M : Type 1} → statement M
 has_intermediates_spec =
@@ -46,10 +46,10 @@ has_intermediates_spec =
     (λ c. search rules)
     (λ c κs. search rules)
     (λ c. let l = c.before.before.before.before in
-    answer l (any_here (test l) (targets l) l.loop.i (pos 0) (search rules) (told c.before c.if1.true)))
+    answer l (any_here (test l) (targets l) l.loop-i.i (pos 0) (search rules) (told c.before c.if-is_superseded.true)))
     (λ c. search rules)
     (λ c. search rules)
     (λ c. let l = c.before.before.before.before in
-    (search rules, l.loop.invariant.1 ∙ any_rest (test l) (targets l) l.loop.i (pos 0) (search rules) (told c.before c.if1.false)))
+    (search rules, l.loop-i.invariant.1 ∙ any_rest (test l) (targets l) l.loop-i.i (pos 0) (search rules) (told c.before c.if-is_superseded.false)))
     (λ c. let l = c.before in
-    answer l (any_end (test l) (targets l) l.loop.i c.loop-test.false)))
+    answer l (any_end (test l) (targets l) l.loop-i.i c.loop-i-test.false)))

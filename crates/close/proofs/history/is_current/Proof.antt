@@ -8,5 +8,5 @@ is_current_spec =
     tie.close
     (tie.spec
     (λ c κs. search rules)
-    (λ c. rw c.before.if1.true c.same-snapshot.ensures)
-    (λ c. rw c.if1.false))
+    (λ c. rw c.if-h.true c.same_snapshot.ensures)
+    (λ c. rw c.if-h.false))

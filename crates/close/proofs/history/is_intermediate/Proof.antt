@@ -8,18 +8,18 @@ use Rattle.close.proofs.Tests.{by_second, by_first}
 use Rattle.close.proofs.history.is_intermediate.Statement.{statement}
 use Rattle.close.proofs.history.is_intermediate.Tie as tie
 
-both : tie.Need-returns
+both : tie.Need-returns-then-is_among
 unfolding intermediates_of
 both c =
-    let a = c.before.before.before.args in
-    by_second c.before.before.is_among.ensures c.before.if1.true c.is-superseded.ensures
+    let a = c.args in
+    by_second c.is_among.ensures c.if-is_among.true c.is_superseded.ensures
     ∙ sym (in_kept (is_superseded a.added.now (read_fields a.f).current) a.mains.now a.id.0)
 
-no_target : tie.Need-returns-2
+no_target : tie.Need-returns-else-is_among
 unfolding intermediates_of
 no_target c =
-    let a = c.before.before.args in
-    by_first _ c.before.is_among.ensures c.if1.false
+    let a = c.args in
+    by_first _ c.is_among.ensures c.if-is_among.false
     ∙ sym (in_kept (is_superseded a.added.now (read_fields a.f).current) a.mains.now a.id.0)
 
 pub is_intermediate_spec : {M : Type 1} → statement M

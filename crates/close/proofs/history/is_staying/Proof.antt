@@ -12,5 +12,5 @@ is_staying_spec =
     (tie.spec
     (λ c κs. search rules)
     (λ c κs. search rules)
-    (λ c. by_second (c.before.before.is_held.ensures ∙ sym (not-not _)) c.before.if1.true (ap not c.is-intermediate.ensures))
-    (λ c. by_first _ (c.before.is_held.ensures ∙ sym (not-not _)) c.if1.false))
+    (λ c. by_second (c.is_held.ensures ∙ sym (not-not _)) c.if-is_held.true (ap not c.is_intermediate.ensures))
+    (λ c. by_first _ (c.is_held.ensures ∙ sym (not-not _)) c.if-is_held.false))

@@ -12,5 +12,5 @@ is_superseded_spec =
     (tie.spec
     (λ c κs. search rules)
     (λ c κs. search rules)
-    (λ c. by_second c.before.before.is_among.ensures c.before.if1.true (ap not c.is-current.ensures))
-    (λ c. by_first _ c.before.is_among.ensures c.if1.false))
+    (λ c. by_second c.is_among.ensures c.if-is_among.true (ap not c.is_current.ensures))
+    (λ c. by_first _ c.is_among.ensures c.if-is_among.false))

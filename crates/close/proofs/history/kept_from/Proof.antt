@@ -22,30 +22,30 @@ use Rattle.close.proofs.Parts.{kept_next, left_next}
 use Rattle.close.proofs.history.kept_from.Statement.{statement}
 use Rattle.close.proofs.history.kept_from.Tie as tie
 
-abbrev invariant_loop : tie.invariant_loop
+abbrev invariant_loop : tie.invariant-loop-i
 invariant_loop from ids f added mains log n r₀ i₀ r i =
     (from ≤ i) × (i ≤ n) × (r ≡ laid_snapshot_log (keep (is_staying ids added mains (read_fields f).current) (drop from (take i (read_snapshot_log log)))))
 
-abbrev decreases_loop : tie.decreases_loop
+abbrev decreases_loop : tie.decreases-loop-i
 decreases_loop from ids f added mains log n r₀ i₀ r i = n - i
 
-module _ (c : tie.At-loop invariant_loop decreases_loop) where
+module _ (c : tie.At-loop-i invariant_loop decreases_loop) where
   abbrev test : LogEntry → Bool
-  test = is_staying c.before.before.args.ids.now c.before.before.args.added.now c.before.before.args.mains.now (read_fields c.before.before.args.f).current
+  test = is_staying c.args.ids.now c.args.added.now c.args.mains.now (read_fields c.args.f).current
 
   abbrev entries : List LogEntry
-  entries = read_snapshot_log c.before.before.args.t1
+  entries = read_snapshot_log c.args.log
 
   abbrev kept : List LogEntry
-  kept = keep test (drop c.before.before.args.from (take c.loop.i entries))
+  kept = keep test (drop c.args.from (take c.loop-i.i entries))
 
   -- there is room for one more
-  room : c.loop.i < c.before.before.args.t1.count → length kept < 128
-  room h = omega (arith, keep_length test (drop c.before.before.args.from (take c.loop.i entries)), part_fits entries c.before.before.args.from c.loop.i, within (tidy_snapshot_log c.before.before.requires.0))
+  room : c.loop-i.i < c.args.log.count → length kept < 128
+  room h = omega (arith, keep_length test (drop c.args.from (take c.loop-i.i entries)), part_fits entries c.args.from c.loop-i.i, within (tidy_snapshot_log c.requires.0))
 
-  counted : c.loop.r.count ≡ length kept
+  counted : c.loop-i.r.count ≡ length kept
   unfolding laid_snapshot_log
-  counted = ap (λ (t : SnapshotLog). t.count) c.loop.invariant.2
+  counted = ap (λ (t : SnapshotLog). t.count) c.loop-i.invariant.2
 
 pub kept_from_spec : {M : Type 1} → statement M
 kept_from_spec =
@@ -54,21 +54,21 @@ kept_from_spec =
     invariant_loop
     decreases_loop
     (λ c κs. search rules)
-    (λ c. let a = c.before.args in
-    (search rules, search rules, c.blank.ensures ∙ no_entries ∙ ap (λ (l : List LogEntry). laid_snapshot_log (keep (is_staying a.ids.now a.added.now a.mains.now (read_fields a.f).current) l)) (sym (part_none (read_snapshot_log a.t1) a.from))))
-    (λ c. omega (arith, within (tidy_snapshot_log c.before.before.before.requires.0)))
-    (λ c. omega (arith, within (tidy_snapshot_log c.before.before.before.requires.0)))
-    (λ c. omega (arith, within (tidy_snapshot_log c.before.before.before.before.requires.0)))
+    (λ c. let a = c.args in
+    (search rules, search rules, c.blank-r.ensures ∙ no_entries ∙ ap (λ (l : List LogEntry). laid_snapshot_log (keep (is_staying a.ids.now a.added.now a.mains.now (read_fields a.f).current) l)) (sym (part_none (read_snapshot_log a.log) a.from))))
+    (λ c. omega (arith, within (tidy_snapshot_log c.requires.0)))
+    (λ c. omega (arith, within (tidy_snapshot_log c.requires.0)))
+    (λ c. omega (arith, within (tidy_snapshot_log c.requires.0)))
     (λ c κs. search rules)
-    (λ c. let l = c.before.before.before.before in omega (arith, counted l, room l c.before.before.before.loop-test.true))
-    (λ c. let l = c.before.before.before.before in omega (arith, counted l, room l c.before.before.before.loop-test.true))
-    (λ c. let l = c.before.before.before.before in omega (arith, counted l, room l c.before.before.before.loop-test.true))
+    (λ c. let l = c.before.before.before.before in omega (arith, counted l, room l c.loop-i-test.true))
+    (λ c. let l = c.before.before.before.before in omega (arith, counted l, room l c.loop-i-test.true))
+    (λ c. let l = c.before.before.before.before in omega (arith, counted l, room l c.loop-i-test.true))
     (λ c. search rules)
     (λ c. let l = c.before.before.before.before in
-    (omega arith, omega arith, pushed made_snapshot_log _ l.loop.invariant.2 (room l c.before.before.before.loop-test.true) refl refl refl ∙ ap laid_snapshot_log (sym (kept_next (tidy_snapshot_log l.before.before.requires.0) l.loop.i _ (omega arith) _ l.loop.invariant.0 (test l) (sym c.before.is-staying.ensures ∙ c.if1.true)))))
+    (omega arith, omega arith, pushed made_snapshot_log _ l.loop-i.invariant.2 (room l c.loop-i-test.true) refl refl refl ∙ ap laid_snapshot_log (sym (kept_next (tidy_snapshot_log l.requires.0) l.loop-i.i _ (omega arith) _ l.loop-i.invariant.0 (test l) (sym c.is_staying.ensures ∙ c.if-is_staying.true)))))
     (λ c. search rules)
     (λ c. let l = c.before.before.before.before in
-    (omega arith, omega arith, l.loop.invariant.2 ∙ ap laid_snapshot_log (sym (left_next (tidy_snapshot_log l.before.before.requires.0) l.loop.i _ (omega arith) _ l.loop.invariant.0 (test l) (sym c.before.is-staying.ensures ∙ c.if1.false)))))
+    (omega arith, omega arith, l.loop-i.invariant.2 ∙ ap laid_snapshot_log (sym (left_next (tidy_snapshot_log l.requires.0) l.loop-i.i _ (omega arith) _ l.loop-i.invariant.0 (test l) (sym c.is_staying.ensures ∙ c.if-is_staying.false)))))
     (λ c. let l = c.before in
-    let k : length (entries l) ≤ l.loop.i = omega (arith, read_length (tidy_snapshot_log l.before.before.requires.0)) in
-    l.loop.invariant.2 ∙ ap (λ (m : List LogEntry). laid_snapshot_log (keep (test l) (drop l.before.before.args.from m))) (take_all l.loop.i (entries l) k)))
+    let k : length (entries l) ≤ l.loop-i.i = omega (arith, read_length (tidy_snapshot_log l.requires.0)) in
+    l.loop-i.invariant.2 ∙ ap (λ (m : List LogEntry). laid_snapshot_log (keep (test l) (drop l.args.from m))) (take_all l.loop-i.i (entries l) k)))

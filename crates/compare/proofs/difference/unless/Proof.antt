@@ -6,5 +6,5 @@ pub unless_spec : {M : Type 1} → statement M
 unless_spec =
     tie.close
     (tie.spec
-    (λ c. rw c.if1.true)
-    (λ c. rw c.if1.false))
+    (λ c. rw c.if-same.true)
+    (λ c. rw c.if-same.false))

@@ -21,20 +21,19 @@ compare_fields_spec =
     (λ c κs. search rules)
     (λ c κs. search rules)
     (λ c κs. search rules)
-    (λ c. let u = c.before.before.before.before.before.before.before in let s = u.before in let f = s.before.before.before in
-    rw (
-      c.unless8.ensures,
-      c.before.unless7.ensures,
-      c.before.before.unless6.ensures,
-      c.before.before.before.unless5.ensures,
-      c.before.before.before.before.unless4.ensures,
-      c.before.before.before.before.before.unless3.ensures,
-      c.before.before.before.before.before.before.unless2.ensures,
-      u.unless.ensures,
-      s.same-snapshot.ensures,
-      f.same-field.ensures,
-      f.before.before.before.same-sequence.ensures,
-      f.before.before.before.before.same-time.ensures,
-      f.before.before.before.before.before.same_text.ensures,
-      f.before.before.before.before.before.before.same-uuid.ensures,
+    (λ c. let u = c.before.before.before.before.before.before.before in let s = u.before in rw (
+      c.unless.ensures,
+      c.unless-from_uuid.ensures,
+      c.unless-from_location.ensures,
+      c.unless-from_updated.ensures,
+      c.unless-from_sequence.ensures,
+      c.unless-from_next_row.ensures,
+      c.unless-from_column.ensures,
+      u.unless-from_current.ensures,
+      s.same_snapshot.ensures,
+      s.same_field-column.ensures,
+      s.same_sequence-sequence.ensures,
+      s.same_time-updated.ensures,
+      s.same_text-location.ensures,
+      s.same_uuid-uuid.ensures,
     )))

@@ -9,10 +9,10 @@ use Rattle.compare.proofs.Abreast.{part_differs, part_ends}
 use Rattle.compare.proofs.table.compare_refs.Statement.{statement}
 use Rattle.compare.proofs.table.compare_refs.Tie as tie
 
-abbrev invariant_loop : tie.invariant_loop
+abbrev invariant_loop : tie.invariant-loop-i
 invariant_loop later a b m n i₀ i = Abreast same_ref 16 16 a.items b.items i
 
-abbrev decreases_loop : tie.decreases_loop
+abbrev decreases_loop : tie.decreases-loop-i
 decreases_loop later a b m n i₀ i = 16 - i
 
 pub compare_refs_spec : {M : Type 1} → statement M
@@ -27,11 +27,9 @@ compare_refs_spec =
     (λ c. search rules)
     (λ c. search rules)
     (λ c κs. search rules)
-    (λ c. let l = c.before.before.before.before in
-    part_differs l.before.loop.invariant _ _ _ _ l.loop-test.true c.before.same-ref.ensures 10 _ c.if1.true)
+    (λ c. part_differs c.loop-i.invariant _ _ _ _ c.loop-i-test.true c.same_ref.ensures 10 _ c.if-not-same_ref.true-raw)
     (λ c. search rules)
     (λ c. search rules)
-    (λ c. let l = c.before.before.before.before in
-    abreast_on l.before.loop.invariant _ _ l.loop-test.true c.before.same-ref.ensures c.if1.false)
+    (λ c. abreast_on c.loop-i.invariant _ _ c.loop-i-test.true c.same_ref.ensures c.if-not-same_ref.false-raw)
     (λ c κs. search rules)
-    (λ c. let l = c.before in c.unless.ensures ∙ part_ends l.before.loop.invariant _ _ l.loop-test.false 10 _))
+    (λ c. c.unless.ensures ∙ part_ends c.loop-i.invariant _ _ c.loop-i-test.false 10 _))

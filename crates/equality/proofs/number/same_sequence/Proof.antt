@@ -1,4 +1,5 @@
 -- The bits are equal exactly if the numbers are.
+use mir.Syntax.{w64}
 use borrow.Author.Rules.{sfits_of}
 use Rattle.search.proofs.Bits.{eq_bits}
 use Rattle.equality.proofs.number.same_sequence.Statement.{statement}
@@ -8,5 +9,5 @@ pub same_sequence_spec : {M : Type 1} → statement M
 same_sequence_spec =
     tie.close
     (tie.spec
-    (λ c. let a = c.before.before.args in
-    eq_bits a.a.0 a.b.0 (sfits_of c.before.struct_told.given.0.1) (sfits_of c.struct-told2.given.0.1)))
+    (λ c. let a = c.args in
+    eq_bits {w = w64} a.a.0 a.b.0 (sfits_of c.struct_told-1.given.0.1) (sfits_of c.struct_told-2-1.given.0.1)))

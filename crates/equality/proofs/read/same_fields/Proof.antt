@@ -19,10 +19,10 @@ unfolding laid_schema
 same_fields_spec =
     tie.close
     (tie.spec
-    (λ c. let a = c.before.args in counts_differ read_schema_field same_schema_field no_schema_field a.a.items a.b.items a.a.count a.b.count c.if1.true)
+    (λ c. let a = c.args in counts_differ read_schema_field same_schema_field no_schema_field a.a.items a.b.items a.a.count a.b.count c.if-n-m.true)
     (λ c κs. search rules)
-    (λ c. let s = c.before.before in let a = s.args in
+    (λ c. let a = c.args in
     let p : length a.a.items ≡ 32 = search (rules, slots) in
     let q : length a.b.items ≡ 32 = search (rules, slots) in
-    laid_agree read_schema_field same_schema_field no_schema_field a.a.items a.b.items a.a.count a.b.count laid_schema_field schema_field_room (told_alike read_schema_field laid_schema_field schema_fields_told plain_fields_told) c.before.if1.false
-    (omega (arith, s.requires.0.1)) (omega (arith, s.requires.0.1)) (ap (λ (x : Schema). x.items) s.requires.0.0) (ap (λ (x : Schema). x.items) s.requires.1.0) c.same-fields.ensures))
+    laid_agree read_schema_field same_schema_field no_schema_field a.a.items a.b.items a.a.count a.b.count laid_schema_field schema_field_room (told_alike read_schema_field laid_schema_field schema_fields_told plain_fields_told) c.if-n-m.false
+    (omega (arith, c.requires.0.1)) (omega (arith, c.requires.0.1)) (ap (λ (x : Schema). x.items) c.requires.0.0) (ap (λ (x : Schema). x.items) c.requires.1.0) c.same_fields.ensures))

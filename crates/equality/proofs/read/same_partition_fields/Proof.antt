@@ -19,10 +19,10 @@ unfolding laid_partition_spec
 same_partition_fields_spec =
     tie.close
     (tie.spec
-    (λ c. let a = c.before.args in counts_differ read_partition_field same_partition no_partition_field a.a.items a.b.items a.a.count a.b.count c.if1.true)
+    (λ c. let a = c.args in counts_differ read_partition_field same_partition no_partition_field a.a.items a.b.items a.a.count a.b.count c.if-n-m.true)
     (λ c κs. search rules)
-    (λ c. let s = c.before.before in let a = s.args in
+    (λ c. let a = c.args in
     let p : length a.a.items ≡ 8 = search (rules, slots) in
     let q : length a.b.items ≡ 8 = search (rules, slots) in
-    laid_agree read_partition_field same_partition no_partition_field a.a.items a.b.items a.a.count a.b.count laid_partition_field partition_field_room partitions_alike c.before.if1.false
-    (omega (arith, s.requires.0.1)) (omega (arith, s.requires.0.1)) (ap (λ (x : PartitionSpec). x.items) s.requires.0.0) (ap (λ (x : PartitionSpec). x.items) s.requires.1.0) c.alike-partitions.ensures))
+    laid_agree read_partition_field same_partition no_partition_field a.a.items a.b.items a.a.count a.b.count laid_partition_field partition_field_room partitions_alike c.if-n-m.false
+    (omega (arith, c.requires.0.1)) (omega (arith, c.requires.0.1)) (ap (λ (x : PartitionSpec). x.items) c.requires.0.0) (ap (λ (x : PartitionSpec). x.items) c.requires.1.0) c.alike_partitions.ensures))

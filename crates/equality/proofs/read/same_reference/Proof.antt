@@ -10,15 +10,14 @@ returns : tie.Need-returns
 returns c =
     let g = c.before.before.before.before in
     let m = g.before.before.before.before in
-    let s = m.before.before.before.before.before.before in
-    let a = s.before.args.a in
-    let b = s.before.args.b in
+    let a = m.args.a in
+    let b = m.args.b in
     λ i.
-    s.same-snapshot.ensures i
+    m.same_snapshot.ensures i
     && eqb a.kind b.kind
-    && same_given a.has_min a.min_snapshots_to_keep.0 b.has_min b.min_snapshots_to_keep.0 m.same-min.ensures i
-    && same_given a.has_age a.max_snapshot_age_ms.0 b.has_age b.max_snapshot_age_ms.0 g.same-age.ensures i
-    && same_given a.has_ref_age a.max_ref_age_ms.0 b.has_ref_age b.max_ref_age_ms.0 c.same-age2.ensures i
+    && same_given a.has_min a.min_snapshots_to_keep.0 b.has_min b.min_snapshots_to_keep.0 m.same_min.ensures i
+    && same_given a.has_age a.max_snapshot_age_ms.0 b.has_age b.max_snapshot_age_ms.0 g.same_age.ensures i
+    && same_given a.has_ref_age a.max_ref_age_ms.0 b.has_ref_age b.max_ref_age_ms.0 c.same_age-2.ensures i
 
 pub same_reference_spec : {M : Type 1} → statement M
 same_reference_spec =

@@ -17,9 +17,9 @@ unfolding same.same_sort_field
 same_sort_fields_spec =
     tie.close
     (tie.spec
-    (λ c. let a = c.before.args in counts_differ read_sort_field same_sort_field no_sort_field a.a.items a.b.items a.a.count a.b.count c.if1.true)
+    (λ c. let a = c.args in counts_differ read_sort_field same_sort_field no_sort_field a.a.items a.b.items a.a.count a.b.count c.if-n-m.true)
     (λ c κs. search rules)
-    (λ c. let s = c.before.before in let a = s.args in
+    (λ c. let a = c.args in
     let p : length a.a.items ≡ 8 = search (rules, slots) in
     let q : length a.b.items ≡ 8 = search (rules, slots) in
-    counts_agree read_sort_field same_sort_field no_sort_field a.a.items a.b.items a.a.count a.b.count c.before.if1.false (omega (arith, s.requires.0)) (omega (arith, s.requires.0)) c.same-sort-fields.ensures))
+    counts_agree read_sort_field same_sort_field no_sort_field a.a.items a.b.items a.a.count a.b.count c.if-n-m.false (omega (arith, c.requires.0)) (omega (arith, c.requires.0)) c.same_sort_fields.ensures))

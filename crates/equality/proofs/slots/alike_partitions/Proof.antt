@@ -6,10 +6,10 @@ use Rattle.equality.proofs.Abreast.{slots, Abreast, abreast_start, abreast_on, a
 use Rattle.equality.proofs.slots.alike_partitions.Statement.{statement}
 use Rattle.equality.proofs.slots.alike_partitions.Tie as tie
 
-abbrev invariant_loop : tie.invariant_loop
+abbrev invariant_loop : tie.invariant-loop-i
 invariant_loop n a b i₀ i = Abreast alike_partition 8 n a.items b.items i
 
-abbrev decreases_loop : tie.decreases_loop
+abbrev decreases_loop : tie.decreases-loop-i
 decreases_loop n a b i₀ i = n - i
 
 pub alike_partitions_spec : {M : Type 1} → statement M
@@ -24,10 +24,8 @@ alike_partitions_spec =
     (λ c. search rules)
     (λ c. search rules)
     (λ c κs. search rules)
-    (λ c. let l = c.before.before.before.before in
-    abreast_not l.before.loop.invariant _ _ l.loop-test.true c.before.alike-partition.ensures c.if1.true)
+    (λ c. abreast_not c.loop-i.invariant _ _ c.loop-i-test.true c.alike_partition.ensures c.if-not-alike_partition.true-raw)
     (λ c. search rules)
     (λ c. search rules)
-    (λ c. let l = c.before.before.before.before in
-    abreast_on l.before.loop.invariant _ _ l.loop-test.true c.before.alike-partition.ensures c.if1.false)
-    (λ c. abreast_end c.before.loop.invariant c.loop-test.false))
+    (λ c. abreast_on c.loop-i.invariant _ _ c.loop-i-test.true c.alike_partition.ensures c.if-not-alike_partition.false-raw)
+    (λ c. abreast_end c.loop-i.invariant c.loop-i-test.false))

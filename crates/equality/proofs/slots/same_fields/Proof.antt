@@ -6,10 +6,10 @@ use Rattle.equality.proofs.Abreast.{slots, Abreast, abreast_start, abreast_on, a
 use Rattle.equality.proofs.slots.same_fields.Statement.{statement}
 use Rattle.equality.proofs.slots.same_fields.Tie as tie
 
-abbrev invariant_loop : tie.invariant_loop
+abbrev invariant_loop : tie.invariant-loop-i
 invariant_loop n a b i₀ i = Abreast same_schema_field 32 n a.items b.items i
 
-abbrev decreases_loop : tie.decreases_loop
+abbrev decreases_loop : tie.decreases-loop-i
 decreases_loop n a b i₀ i = n - i
 
 pub same_fields_spec : {M : Type 1} → statement M
@@ -24,10 +24,8 @@ same_fields_spec =
     (λ c. search rules)
     (λ c. search rules)
     (λ c κs. search rules)
-    (λ c. let l = c.before.before.before.before in
-    abreast_not l.before.loop.invariant _ _ l.loop-test.true c.before.same-schema-field.ensures c.if1.true)
+    (λ c. abreast_not c.loop-i.invariant _ _ c.loop-i-test.true c.same_schema_field.ensures c.if-not-same_schema_field.true-raw)
     (λ c. search rules)
     (λ c. search rules)
-    (λ c. let l = c.before.before.before.before in
-    abreast_on l.before.loop.invariant _ _ l.loop-test.true c.before.same-schema-field.ensures c.if1.false)
-    (λ c. abreast_end c.before.loop.invariant c.loop-test.false))
+    (λ c. abreast_on c.loop-i.invariant _ _ c.loop-i-test.true c.same_schema_field.ensures c.if-not-same_schema_field.false-raw)
+    (λ c. abreast_end c.loop-i.invariant c.loop-i-test.false))

@@ -7,10 +7,10 @@ use Rattle.equality.proofs.Abreast.{Together, together_start, together_on, toget
 use Rattle.equality.proofs.text.same_name.Statement.{statement}
 use Rattle.equality.proofs.text.same_name.Tie as tie
 
-abbrev invariant_loop : tie.invariant_loop
+abbrev invariant_loop : tie.invariant-loop-i
 invariant_loop a b m n same₀ i₀ same i = Together eqb 32 (eqb m n) a.bytes b.bytes i same
 
-abbrev decreases_loop : tie.decreases_loop
+abbrev decreases_loop : tie.decreases-loop-i
 decreases_loop a b m n same₀ i₀ same i = 32 - i
 
 pub same_name_spec : {M : Type 1} → statement M
@@ -25,5 +25,5 @@ same_name_spec =
     (λ c. search rules)
     (λ c. search rules)
     (λ c. search rules)
-    (λ c. let l = c.before.before in together_on l.before.loop.invariant 0 0 l.loop-test.true)
-    (λ c. together_end c.before.loop.invariant c.loop-test.false))
+    (λ c. together_on c.loop-i.invariant 0 0 c.loop-i-test.true)
+    (λ c. together_end c.loop-i.invariant c.loop-i-test.false))

@@ -12,4 +12,4 @@ same_schema_spec =
     (tie.spec
     (λ c κs. search rules)
     (λ c κs. search rules)
-    (λ c. let s = c.before.before.before.before.args in cc (all_slots same_schema_field 32 s.a.items s.b.items (search (rules, slots)) (search (rules, slots)) c.same-fields.ensures)))
+    (λ c. let s = c.args in cc (all_slots same_schema_field 32 s.a.items s.b.items (search (rules, slots)) (search (rules, slots)) c.same_fields.ensures)))

@@ -10,7 +10,7 @@ limits_of_spec =
     (λ c κs. search rules)
     (λ c κs. search rules)
     (λ c i. record {
-      clock = c.before.before.before.args.policy.clock_ms;
-      count = record { 0 = c.before.own-count.ensures i };
-      age = record { 0 = c.own-age.ensures i };
+      clock = c.args.policy.clock_ms;
+      count = record { 0 = c.own_count-count.ensures i };
+      age = record { 0 = c.own_age-age.ensures i };
     }))

@@ -75,65 +75,64 @@ every office l ids {i} e a b h =
     as_asked : {b : Bool} → is_second office ≡ b → slotted no_reason (λ id. record { why = cond (b && names l id) log_names nothing; by = 0 }) ids ≡ slotted no_reason (log_reason office l) ids
     as_asked {b} e = ap (λ (c : Bool). slotted no_reason (λ id. record { why = cond (c && names l id) log_names nothing; by = 0 }) ids) (sym e)
 
-abbrev invariant_loop : tie.invariant_loop
+abbrev invariant_loop : tie.invariant-loop-i
 invariant_loop office ids log stays₀ n i₀ stays i =
     (i ≤ n) × (n ≡ cond (is_second office) log.count 0) × (stays ≡ slotted no_reason (told (take i (read_snapshot_log log))) ids)
 
-abbrev decreases_loop : tie.decreases_loop
+abbrev decreases_loop : tie.decreases-loop-i
 decreases_loop office ids log stays₀ n i₀ stays i = n - i
 
 -- in the loop, where the slot is counted
-module _ (c : tie.In-loop invariant_loop decreases_loop) where
-  abbrev l : tie.At-loop invariant_loop decreases_loop
+module _ (c : tie.In-loop-i invariant_loop decreases_loop) where
+  abbrev l : tie.At-loop-i invariant_loop decreases_loop
   l = c.before
 
   abbrev a : tie.Start invariant_loop decreases_loop
   a = l.before.before.before.before
 
-  counted : l.loop.i < a.args.t2.count
-  counted = omega (arith, c.loop-test.true, few (is_second a.args.office) l.loop.inv.1)
+  counted : l.loop-i.i < a.args.log.count
+  counted = omega (arith, c.loop-i-test.true, few (is_second a.args.office) l.loop-i.invariant.1)
 
-  below : l.loop.i < 128
-  below = omega (arith, counted, within (tidy_snapshot_log a.pre.0))
+  below : l.loop-i.i < 128
+  below = omega (arith, counted, within (tidy_snapshot_log a.requires.0))
 
 -- where its entry's snapshot is looked for
-module _ (c : tie.After-position-ascending invariant_loop decreases_loop) where
-  abbrev k : tie.In-loop invariant_loop decreases_loop
+module _ (c : tie.After-position_ascending-place invariant_loop decreases_loop) where
+  abbrev k : tie.In-loop-i invariant_loop decreases_loop
   k = c.before.before.before.before
 
   abbrev entries : List LogEntry
-  entries = read_snapshot_log (a k).args.t2
+  entries = read_snapshot_log (a k).args.log
 
   abbrev entry : LogEntry
-  entry = read_log_entry (get_or (a k).args.t2.items (l k).loop.i no_log_entry)
+  entry = read_log_entry (get_or (a k).args.log.items (l k).loop-i.i no_log_entry)
 
   abbrev ids : List ℤ
   ids = (a k).args.ids.now
 
-  place : c.position-ascending.result ≡ place_in ids entry.snapshot
-  place = rw (to_z-of_z (sfits_of c.before.struct_told.given.0.1)) at c.position-ascending.ensures
+  place : c.position_ascending-place.result ≡ place_in ids entry.snapshot
+  place = rw (to_z-of_z (sfits_of c.struct_told-1.given.0.1)) at c.position_ascending-place.ensures
 
   -- one entry is read more
-  read : take ((l k).loop.i + 1) entries ≡ take (l k).loop.i entries ++ (entry ∷ [])
-  read = next (tidy_snapshot_log (a k).pre.0) (l k).loop.i no_log_entry (counted k)
+  read : take ((l k).loop-i.i + 1) entries ≡ take (l k).loop-i.i entries ++ (entry ∷ [])
+  read = next (tidy_snapshot_log (a k).requires.0) (l k).loop-i.i no_log_entry (counted k)
 
-  stores : c.position-ascending.result < length ids → set (l k).loop.stays c.position-ascending.result (record { why = log_names; by = 0 }) ≡ slotted no_reason (told (take ((l k).loop.i + 1) entries)) ids
-  stores b = rw read (held (take (l k).loop.i entries) entry ids place (l k).loop.inv.2 (a k).pre.1.0 b)
+  stores : c.position_ascending-place.result < length ids → set (l k).loop-i.stays c.position_ascending-place.result (record { why = log_names; by = 0 }) ≡ slotted no_reason (told (take ((l k).loop-i.i + 1) entries)) ids
+  stores b = rw read (held (take (l k).loop-i.i entries) entry ids place (l k).loop-i.invariant.2 (a k).requires.1.0 b)
 
-  passes : length ids ≤ c.position-ascending.result → (l k).loop.stays ≡ slotted no_reason (told (take ((l k).loop.i + 1) entries)) ids
-  passes b = rw read (absent (take (l k).loop.i entries) entry ids place (l k).loop.inv.2 b)
+  passes : length ids ≤ c.position_ascending-place.result → (l k).loop-i.stays ≡ slotted no_reason (told (take ((l k).loop-i.i + 1) entries)) ids
+  passes b = rw read (absent (take (l k).loop-i.i entries) entry ids place (l k).loop-i.invariant.2 b)
 
-  further : (l k).loop.i + 1 ≤ (l k).before.if1.n
-  further = omega (arith, k.loop-test.taken)
+  further : (l k).loop-i.i + 1 ≤ (l k).if-office-eq-SECOND_OFFICE.n
+  further = omega (arith, k.loop-i-test.true)
 
-begins : tie.Need-loop-init invariant_loop decreases_loop
+begins : tie.Need-loop-i-init invariant_loop decreases_loop
 unfolding no_reasons
-begins c =
-    let s = c.before.before.before in (
-      omega arith,
-      ⊎_elim (λ w. w.1 ∙ sym (rw (eq-eqb _ _ w.0.taken))) (λ w. w.1 ∙ sym (rw (ne_eqb _ _ w.0.left))) c.if1.branch,
-      ap (λ (r : Reasons). r.stays) c.before.before.blank.ensures ∙ slotted_none no_reason s.args.ids.now s.requires.1.1,
-    )
+begins c = (
+  omega arith,
+  ⊎_elim (λ w. w.n-is ∙ sym (rw (eq-eqb _ _ w.if-office-eq-SECOND_OFFICE.true))) (λ w. w.n-is ∙ sym (rw (ne_eqb _ _ w.if-office-eq-SECOND_OFFICE.false))) c.if-office-eq-SECOND_OFFICE.branch-raw,
+  ap (λ (r : Reasons). r.stays) c.blank-none.ensures ∙ slotted_none no_reason c.args.ids.now c.requires.1.1,
+)
 
 pub logged_spec : {M : Type 1} → statement M
 logged_spec =
@@ -145,16 +144,15 @@ logged_spec =
     begins
     (λ c. omega (arith, below c))
     (λ c. below c)
-    (λ c κs. (a c.before.before.before).pre.1.0)
+    (λ c κs. (a c.before.before.before).requires.1.0)
     (λ c. omega (arith, below (k c)))
-    (λ c. omega (arith, c.if2.true, (a (k c.before)).pre.1.1))
-    (λ c. omega (arith, c.if2.true, (a (k c.before)).pre.1.1))
+    (λ c. omega (arith, c.if-place-ids.true, (a (k c.before)).requires.1.1))
+    (λ c. omega (arith, c.if-place-ids.true, (a (k c.before)).requires.1.1))
     (λ c. omega (arith, further c.before))
     (λ c. let b = c.before in
-    (further b, (l (k b)).loop.inv.1, stores b c.if2.true))
+    (further b, (l (k b)).loop-i.invariant.1, stores b c.if-place-ids.true))
     (λ c. omega (arith, further c.before))
     (λ c. let b = c.before in
-    (further b, (l (k b)).loop.inv.1, passes b c.if2.false))
-    (λ c. let i = c.before.loop.invariant in
-    let s = c.before.before.before.before.before in
-    every s.args.office (read_snapshot_log s.args.t2) s.args.ids.now (i.1 ∙ ap (λ (n : ℕ). cond (is_second s.args.office) n 0) (sym (read_length (tidy_snapshot_log s.requires.0)))) c.loop-test.false i.0 i.2))
+    (further b, (l (k b)).loop-i.invariant.1, passes b c.if-place-ids.false))
+    (λ c. let i = c.loop-i.invariant in
+    every c.args.office (read_snapshot_log c.args.log) c.args.ids.now (i.1 ∙ ap (λ (n : ℕ). cond (is_second c.args.office) n 0) (sym (read_length (tidy_snapshot_log c.requires.0)))) c.loop-i-test.false i.0 i.2))

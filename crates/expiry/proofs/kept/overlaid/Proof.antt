@@ -58,10 +58,10 @@ module _ (by k : ℕ) (xs : List Reason) (ys : List ℕ) (b : k < length xs) (q 
       let v : overlay by (get_or xs k no_reason) (get_or ys k 0) ≡ get_or (mixed (overlay by) k xs ys) k no_reason = rw (eq-eqb (get_or ys k 0) 0 z) (sym (untouched (overlay by) no_reason 0 k xs ys b q)) in
       e ∙ h ∙ sym (set-get_or (mixed (overlay by) k xs ys) k no_reason) ∙ rw (← v, add-one) (laid_one (overlay by) no_reason 0 k xs ys b q)
 
-abbrev invariant_loop : tie.invariant_loop
+abbrev invariant_loop : tie.invariant-loop-k
 invariant_loop by slots r₀ k₀ r k = (length r₀ ≡ 64) × (length slots ≡ 64) × (r ≡ mixed (overlay by) k r₀ slots)
 
-abbrev decreases_loop : tie.decreases_loop
+abbrev decreases_loop : tie.decreases-loop-k
 decreases_loop by slots r₀ k₀ r k = 64 - k
 
 pub overlaid_spec : {M : Type 1} → statement M
@@ -76,13 +76,12 @@ overlaid_spec =
     (λ c. search rules)
     (λ c. search rules)
     (λ c. search rules)
-    (λ c. let l = c.before.before in
-    let a = l.before.args in
-    let i = l.loop.invariant in
-    let b : l.loop.k < length a.stays = omega (arith, i.0, c.before.loop-test.true) in
+    (λ c. let a = c.args in
+    let i = c.loop-k.invariant in
+    let b : c.loop-k.k < length a.stays = omega (arith, i.0, c.loop-k-test.true) in
     let q = i.0 ∙ sym i.1 in (
       i.0,
       i.1,
-      ⊎_elim (λ w. stored a.by l.loop.k a.stays a.t2 b q i.2 w.0.taken w.1) (λ w. left a.by l.loop.k a.stays a.t2 b q i.2 w.0.left w.1) c.if1.branch,
+      ⊎_elim (λ w. stored a.by c.loop-k.k a.stays a.slots b q i.2 w.if-why-ne-NOTHING.true w.r-is) (λ w. left a.by c.loop-k.k a.stays a.slots b q i.2 w.if-why-ne-NOTHING.false w.r-is) c.if-why-ne-NOTHING.branch-raw,
     ))
-    (λ c. let i = c.before.loop.invariant in i.2 ∙ laid_all (overlay c.before.before.args.by) c.before.loop.k _ _ (omega (arith, i.0, c.loop-test.false))))
+    (λ c. let i = c.loop-k.invariant in i.2 ∙ laid_all (overlay c.args.by) c.loop-k.k _ _ (omega (arith, i.0, c.loop-k-test.false))))

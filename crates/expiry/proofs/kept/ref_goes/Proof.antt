@@ -20,13 +20,12 @@ returns : tie.Need-returns
 unfolding goes
 returns c snapshots t e =
     let o = c.before.before.before in
-    let s = o.before.before.before in
-    let p = read_policy s.args.policy in
-    let r = read_reference s.args.x.reference in
+    let p = read_policy o.args.policy in
+    let r = read_reference o.args.x.reference in
     ap₂ (λ (x y : Bool). x && y)
-    (ap₂ (λ (x y : Bool). x && y) (ap not c.before.before.is-main-name.ensures) (own (eqb s.args.x.owner s.args.policy.office)))
-    (o.is-older.ensures
-    ∙ ap (λ (age : ℤ). is_older_at s.args.times.now s.args.start age p.clock) o.before.own-age.ensures
+    (ap₂ (λ (x y : Bool). x && y) (ap not c.is_main_name.ensures) (own (eqb o.args.x.owner o.args.policy.office)))
+    (o.is_older-old.ensures
+    ∙ ap (λ (age : ℤ). is_older_at o.args.times.now o.args.start age p.clock) o.own_age-age.ensures
     ∙ older_at snapshots r.snapshot (ref_age_of p r) p.clock t e)
 
 pub ref_goes_spec : {M : Type 1} → statement M

@@ -16,7 +16,7 @@ use Rattle.expiry.proofs.kept.ref_kept.Statement.{statement}
 use Rattle.expiry.proofs.kept.ref_kept.Tie as tie
 
 -- whether it goes is asked first
-module _ (c : tie.After-ref-goes) where
+module _ (c : tie.After-ref_goes-goes) where
   abbrev a : tie.Start
   a = c.before.before.before
 
@@ -36,17 +36,17 @@ ref_kept_spec =
     (λ c κs. search rules)
     (λ c κs. search rules)
     (λ c snapshots h t e. let k = c.before.before.before.before in
-    of_others (p k) snapshots (r k) (k.ref_goes.ensures snapshots t e) (ap not (ne_eqb (a k).args.x.owner (a k).args.policy.office c.before.if1.true)) (c.reach-marks.ensures snapshots (r k).reference.snapshot h e))
+    of_others (p k) snapshots (r k) (k.ref_goes-goes.ensures snapshots t e) (ap not (ne_eqb (a k).args.x.owner (a k).args.policy.office c.if-x-policy.true)) (c.reach_marks-slots.ensures snapshots (r k).reference.snapshot h e))
     (λ c snapshots h t e. let k = c.before.before.before.before in
-    of_dropped (p k) snapshots (r k) (k.ref_goes.ensures snapshots t e) (own k c.before.if1.false) (omega (arith, held_places h, (a k).requires.1)) c.if2.true)
+    of_dropped (p k) snapshots (r k) (k.ref_goes-goes.ensures snapshots t e) (own k c.if-x-policy.false) (omega (arith, held_places h, (a k).requires.1)) c.if-goes.true)
     (λ c κs. search rules)
     (λ c κs. search rules)
     (λ c snapshots h t e. let m = c.before in
     let f = m.before.before.before.before in
     let k = f.before.before.before.before in
-    of_branch (p k) snapshots (r k) (k.ref_goes.ensures snapshots t e) (own k f.before.if1.false) f.if2.false m.before.before.if3.true m.before.Limits-of.ensures (m.branch-marks.ensures snapshots (r k).reference.snapshot h t e))
+    of_branch (p k) snapshots (r k) (k.ref_goes-goes.ensures snapshots t e) (own k f.if-x-policy.false) f.if-goes.false m.if-r-eq-BRANCH.true m.limits_of.ensures (m.branch_marks-marks.ensures snapshots (r k).reference.snapshot h t e))
     (λ c κs. search rules)
     (λ c snapshots h t e. let f = c.before.before.before in
     let k = f.before.before.before.before in
-    of_tag (p k) snapshots (r k) (k.ref_goes.ensures snapshots t e) (own k f.before.if1.false) f.if2.false c.before.if3.false
-    (c.tag-marks.ensures (snapshot_ids snapshots) (r k).reference.snapshot (count_of (p k) (r k).reference) h.order (held_places h) e)))
+    of_tag (p k) snapshots (r k) (k.ref_goes-goes.ensures snapshots t e) (own k f.if-x-policy.false) f.if-goes.false c.if-r-eq-BRANCH.false
+    (c.tag_marks-slots.ensures (snapshot_ids snapshots) (r k).reference.snapshot (count_of (p k) (r k).reference) h.order (held_places h) e)))

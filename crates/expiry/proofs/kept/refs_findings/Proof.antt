@@ -18,43 +18,43 @@ use Rattle.expiry.proofs.Findings.{From, from_end, from_kept, from_start}
 use Rattle.expiry.proofs.kept.refs_findings.Statement.{statement}
 use Rattle.expiry.proofs.kept.refs_findings.Tie as tie
 
-abbrev invariant_loop : tie.invariant_loop
+abbrev invariant_loop : tie.invariant-loop-i
 invariant_loop policy ids over times refs goes₀ stays₀ cyclic₀ i₀ goes stays cyclic i =
     (i ≤ refs.count)
     × ((m : Metadata) → read_refs refs ≡ m.refs → ids ≡ snapshot_ids m.snapshots → Placed m.snapshots over → times ≡ snapshot_times m.snapshots
     → stays₀ ≡ slotted no_reason (log_reason policy.office m.snapshot_log) (snapshot_ids m.snapshots) → From (read_policy policy) m goes stays cyclic i)
 
-abbrev decreases_loop : tie.decreases_loop
+abbrev decreases_loop : tie.decreases-loop-i
 decreases_loop policy ids over times refs goes₀ stays₀ cyclic₀ i₀ goes stays cyclic i = i
 
 -- where there is a ref before `i`
-module _ (c : tie.In-loop invariant_loop decreases_loop) where
-  abbrev l : tie.At-loop invariant_loop decreases_loop
+module _ (c : tie.In-loop-i invariant_loop decreases_loop) where
+  abbrev l : tie.At-loop-i invariant_loop decreases_loop
   l = c.before
 
   abbrev a : tie.Start invariant_loop decreases_loop
   a = l.before.before
 
   abbrev j : ℕ
-  j = l.loop.i - 1
+  j = l.loop-i.i - 1
 
-  held : j < a.args.t2.count
-  held = omega (arith, c.loop-test.true, l.loop.inv.0)
+  held : j < a.args.refs.count
+  held = omega (arith, c.loop-i-test.true, l.loop-i.invariant.0)
 
   below : j < 16
-  below = omega (arith, held, within (tidy_refs a.pre.0))
+  below = omega (arith, held, within (tidy_refs a.requires.0))
 
-  at_i : l.loop.i ≡ suc j
-  at_i = omega (arith, c.loop-test.true)
+  at_i : l.loop-i.i ≡ suc j
+  at_i = omega (arith, c.loop-i-test.true)
 
   module _ (d : records.NamedRef) where
     abbrev x : records.NamedRef
-    x = get_or a.args.t2.items j d
+    x = get_or a.args.refs.items j d
 
-    from_here : (m : Metadata) → read_refs a.args.t2 ≡ m.refs → drop j m.refs ≡ read_ref x ∷ drop l.loop.i m.refs
+    from_here : (m : Metadata) → read_refs a.args.refs ≡ m.refs → drop j m.refs ≡ read_ref x ∷ drop l.loop-i.i m.refs
     from_here m e =
-        let k : j + 1 ≡ l.loop.i = omega (arith, at_i) in
-        rw (← e) (rest (tidy_refs a.pre.0) j d held ∙ ap (λ (n : ℕ). read_ref x ∷ drop n (read_refs a.args.t2)) k)
+        let k : j + 1 ≡ l.loop-i.i = omega (arith, at_i) in
+        rw (← e) (rest (tidy_refs a.requires.0) j d held ∙ ap (λ (n : ℕ). read_ref x ∷ drop n (read_refs a.args.refs)) k)
 
 pub refs_findings_spec : {M : Type 1} → statement M
 refs_findings_spec =
@@ -62,12 +62,11 @@ refs_findings_spec =
     (tie.spec
     invariant_loop
     decreases_loop
-    (λ c. let b = c.before in
-    (omega arith, λ m n k h t q. from_end (read_policy b.args.policy) m (sym (read_length (tidy_refs b.requires.0)) ∙ ap length n) (within (tidy_refs b.requires.0)) q))
+    (λ c. (omega arith, λ m n k h t q. from_end (read_policy c.args.policy) m (sym (read_length (tidy_refs c.requires.0)) ∙ ap length n) (within (tidy_refs c.requires.0)) q))
     (λ c. search rules)
     (λ c. omega (arith, below c))
     (λ c. below c)
-    (λ c κs. (a c.before.before.before.before).pre.1.0)
+    (λ c κs. (a c.before.before.before.before).requires.1.0)
     (λ c κs. let i = c.before.before.before.before.before in
     (name_of (ref_at_lem (a i).requires.0 (j i) _ (held i)), (a i).requires.1.1))
     (λ c. below c.before.before.before.before.before.before)
@@ -78,9 +77,9 @@ refs_findings_spec =
     let i = o.before.before.before.before.before in (
       omega (arith, held i),
       λ m n k h t q. from_kept (read_policy (a i).args.policy) m _ (at_i i) (from_here i _ m n)
-          (f.ref-kept.ensures m.snapshots h t (rw (to_z-of_z (sfits_of o.before.struct_told.given.0.1), k) at o.position-ascending.ensures))
-          c.overlaid.ensures
-          ((l i).loop.invariant.1 m n k h t q),
+          (f.ref_kept-kept.ensures m.snapshots h t (rw (to_z-of_z (sfits_of o.struct_told-1.given.0.1), k) at o.position_ascending-start.ensures))
+          c.overlaid-next.ensures
+          ((l i).loop-i.invariant.1 m n k h t q),
     ))
-    (λ c m n k h t q. let z : c.before.loop.i ≡ 0 = omega (arith, c.loop-test.false) in
-    from_start (read_policy c.before.before.before.args.policy) m (rw z at (c.before.loop.invariant.1 m n k h t q))))
+    (λ c m n k h t q. let z : c.loop-i.i ≡ 0 = omega (arith, c.loop-i-test.false) in
+    from_start (read_policy c.args.policy) m (rw z at (c.loop-i.invariant.1 m n k h t q))))

@@ -11,10 +11,10 @@ use Rattle.expiry.proofs.Leaving.{Picking, picking_start, picking_more, picking_
 use Rattle.expiry.proofs.list.dropped.Statement.{statement}
 use Rattle.expiry.proofs.list.dropped.Tie as tie
 
-abbrev invariant_loop : tie.invariant_loop
+abbrev invariant_loop : tie.invariant-loop-i
 invariant_loop t goes n r₀ i₀ r i = Picking refs laid_refs (λ b. b) goes t r i
 
-abbrev decreases_loop : tie.decreases_loop
+abbrev decreases_loop : tie.decreases-loop-i
 decreases_loop t goes n r₀ i₀ r i = n - i
 
 pub dropped_spec : {M : Type 1} → statement M
@@ -24,7 +24,7 @@ dropped_spec =
     invariant_loop
     decreases_loop
     (λ c κs. search rules)
-    (λ c. picking_start made_refs (tidy_refs c.before.requires) (search (rules, slots)) (c.blank.ensures ∙ none_refs))
+    (λ c. picking_start made_refs (tidy_refs c.requires) (search (rules, slots)) (c.blank-r.ensures ∙ none_refs))
     (λ c. search rules)
     (λ c. search rules)
     (λ c. search rules)
@@ -33,9 +33,7 @@ dropped_spec =
     (λ c. search rules)
     (λ c. search rules)
     (λ c. search rules)
-    (λ c. let b = c.before.before in
-    picking_more made_refs (tidy_refs b.before.before.before.requires) false _ b.loop-test.true b.before.loop.invariant c.if1.true refl refl)
+    (λ c. picking_more made_refs (tidy_refs c.requires) false _ c.loop-i-test.true c.loop-i.invariant c.if-gone.true refl refl)
     (λ c. search rules)
-    (λ c. let b = c.before.before in
-    picking_less made_refs (tidy_refs b.before.before.before.requires) false no_ref b.loop-test.true b.before.loop.invariant c.if1.false)
-    (λ c. picking_end made_refs (tidy_refs c.before.before.before.requires) c.loop-test.false c.before.loop.invariant))
+    (λ c. picking_less made_refs (tidy_refs c.requires) false no_ref c.loop-i-test.true c.loop-i.invariant c.if-gone.false)
+    (λ c. picking_end made_refs (tidy_refs c.requires) c.loop-i-test.false c.loop-i.invariant))

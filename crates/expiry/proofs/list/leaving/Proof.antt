@@ -15,10 +15,10 @@ use Rattle.expiry.proofs.Leaving.{Picking, picking_start, picking_more, picking_
 use Rattle.expiry.proofs.list.leaving.Statement.{statement}
 use Rattle.expiry.proofs.list.leaving.Tie as tie
 
-abbrev invariant_loop : tie.invariant_loop
+abbrev invariant_loop : tie.invariant-loop-i
 invariant_loop t stays n r₀ i₀ r i = Picking snapshots laid_snapshots (λ (x : Reason). eqb x.why nothing) stays t r i
 
-abbrev decreases_loop : tie.decreases_loop
+abbrev decreases_loop : tie.decreases-loop-i
 decreases_loop t stays n r₀ i₀ r i = n - i
 
 pub leaving_spec : {M : Type 1} → statement M
@@ -28,7 +28,7 @@ leaving_spec =
     invariant_loop
     decreases_loop
     (λ c κs. search rules)
-    (λ c. picking_start made_snapshots (tidy_snapshots c.before.requires) (search (rules, slots)) (c.blank.ensures ∙ none_snapshots))
+    (λ c. picking_start made_snapshots (tidy_snapshots c.requires) (search (rules, slots)) (c.blank-r.ensures ∙ none_snapshots))
     (λ c. search rules)
     (λ c. search rules)
     (λ c. search rules)
@@ -38,9 +38,7 @@ leaving_spec =
     (λ c. search rules)
     (λ c. search rules)
     (λ c. search rules)
-    (λ c. let b = c.before.before in
-    picking_more made_snapshots (tidy_snapshots b.before.before.before.requires) no_reason no_snapshot b.loop-test.true b.before.loop.invariant (eq-eqb _ _ c.if1.true) refl refl)
+    (λ c. picking_more made_snapshots (tidy_snapshots c.requires) no_reason no_snapshot c.loop-i-test.true c.loop-i.invariant (eq-eqb _ _ c.if-why-eq-NOTHING.true) refl refl)
     (λ c. search rules)
-    (λ c. let b = c.before.before in
-    picking_less made_snapshots (tidy_snapshots b.before.before.before.requires) no_reason no_snapshot b.loop-test.true b.before.loop.invariant (ne_eqb _ _ c.if1.false))
-    (λ c. picking_end made_snapshots (tidy_snapshots c.before.before.before.requires) c.loop-test.false c.before.loop.invariant))
+    (λ c. picking_less made_snapshots (tidy_snapshots c.requires) no_reason no_snapshot c.loop-i-test.true c.loop-i.invariant (ne_eqb _ _ c.if-why-eq-NOTHING.false))
+    (λ c. picking_end made_snapshots (tidy_snapshots c.requires) c.loop-i-test.false c.loop-i.invariant))

@@ -76,23 +76,23 @@ module _ {t r : Snapshots} (h : LaidSnapshots t) (stays : List Reason) (e : r �
   snapshots_laid : LaidSnapshots r
   snapshots_laid = record { back = ap laid_snapshots snapshots_read ∙ sym e; fits = rw snapshots_read (omega (arith, picked_length (λ (x : Reason). eqb x.why nothing) stays (read_snapshots t), h.fits)) }
 
-abbrev invariant_loop : tie.invariant_loop
+abbrev invariant_loop : tie.invariant-loop-place
 invariant_loop refs-gone gone count items₀ place₀ items place =
     items ≡ pad list_room no_update (take place (map laid_update (list_of (read_refs refs-gone) (snapshot_ids (read_snapshots gone)))))
 
-abbrev decreases_loop : tie.decreases_loop
+abbrev decreases_loop : tie.decreases-loop-place
 decreases_loop refs-gone gone count items₀ place₀ items place = count - place
 
 -- with the tables of what goes
-module _ (c : tie.After-leaving invariant_loop decreases_loop) where
+module _ (c : tie.After-leaving-gone invariant_loop decreases_loop) where
   abbrev a : tie.Start invariant_loop decreases_loop
   a = c.before.before.before.before
 
   abbrev d : Refs
-  d = c.before.dropped.result
+  d = c.dropped-refs_gone.result
 
   abbrev g : Snapshots
-  g = c.leaving.result
+  g = c.leaving-gone.result
 
   abbrev named : List NamedRef
   named = read_refs d
@@ -101,14 +101,14 @@ module _ (c : tie.After-leaving invariant_loop decreases_loop) where
   ids = snapshot_ids (read_snapshots g)
 
   dropped : LaidRefs d
-  dropped = refs_laid a.pre.0 a.args.reasons.goes c.before.dropped.ensures
+  dropped = refs_laid a.requires.0 a.args.reasons.goes c.dropped-refs_gone.ensures
 
   gone : LaidSnapshots g
-  gone = snapshots_laid a.pre.1 a.args.reasons.stays c.leaving.ensures
+  gone = snapshots_laid a.requires.1 a.args.reasons.stays c.leaving-gone.ensures
 
 -- and how many removals of snapshots there are
 module _ (q : tie.After-parts invariant_loop decreases_loop) where
-  abbrev w : tie.After-leaving invariant_loop decreases_loop
+  abbrev w : tie.After-leaving-gone invariant_loop decreases_loop
   w = q.before
 
   counted : (d w).count + q.parts.result ≡ length (list_of (named w) (ids w))
@@ -129,20 +129,20 @@ list_of_spec =
     (tie.spec
     invariant_loop
     decreases_loop
-    (λ c κs. c.before.before.requires.0)
-    (λ c κs. c.before.before.before.requires.1)
+    (λ c κs. c.requires.0)
+    (λ c κs. c.requires.1)
     (λ c κs. within (tidy_snapshots (gone c)))
     (λ c. omega (arith, few c.before))
     (λ c κs. search rules)
-    (λ c. c.no-updates.ensures)
-    (λ c κs. let q = c.before.before.before.before in (dropped (w q), (gone (w q), omega (arith, c.loop-test.true, few q))))
-    (λ c. omega (arith, c.before.loop-test.true, few c.before.before.before.before.before))
-    (λ c. omega (arith, c.before.loop-test.true, few c.before.before.before.before.before))
-    (λ c. omega (arith, c.before.loop-test.true, few c.before.before.before.before.before))
-    (λ c. omega (arith, c.before.loop-test.true))
+    (λ c. c.no_updates-items.ensures)
+    (λ c κs. let q = c.before.before.before.before in (dropped (w q), (gone (w q), omega (arith, c.loop-place-test.true, few q))))
+    (λ c. omega (arith, c.loop-place-test.true, few c.before.before.before.before.before))
+    (λ c. omega (arith, c.loop-place-test.true, few c.before.before.before.before.before))
+    (λ c. omega (arith, c.loop-place-test.true, few c.before.before.before.before.before))
+    (λ c. omega (arith, c.loop-place-test.true))
     (λ c. let q = c.before.before.before.before.before in
-    stored (named (w q)) (ids (w q)) (short q) (omega (arith, c.before.loop-test.true, counted q)) c.before.before.loop.invariant c.update-at.ensures)
+    stored (named (w q)) (ids (w q)) (short q) (omega (arith, c.loop-place-test.true, counted q)) c.loop-place.invariant c.update_at.ensures)
     (λ c. let q = c.before.before.before.before in
     let k = w q in
-    whole (named k) (ids k) (short q) (counted q) c.loop-test.false c.before.loop.invariant
-    ∙ ap₂ (λ (x : List NamedRef) (y : List Snapshot). laid_updates (list_of x (snapshot_ids y))) (refs_read (a k).pre.0 (a k).args.reasons.goes k.before.dropped.ensures) (snapshots_read (a k).pre.1 (a k).args.reasons.stays k.leaving.ensures)))
+    whole (named k) (ids k) (short q) (counted q) c.loop-place-test.false c.loop-place.invariant
+    ∙ ap₂ (λ (x : List NamedRef) (y : List Snapshot). laid_updates (list_of x (snapshot_ids y))) (refs_read (a k).requires.0 (a k).args.reasons.goes k.dropped-refs_gone.ensures) (snapshots_read (a k).requires.1 (a k).args.reasons.stays k.leaving-gone.ensures)))

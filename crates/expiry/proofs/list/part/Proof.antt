@@ -61,28 +61,28 @@ module _ (ids : List ℤ) (from : ℕ) where
             let n : length (drop from ids) ≤ taken = omega (arith, length-drop from ids, t.there) in
             take_all taken (drop from ids) n ∙ sym (take_all 16 (drop from ids) (omega (arith, n, t.few)))
 
-abbrev invariant_loop : tie.invariant_loop
+abbrev invariant_loop : tie.invariant-loop-i
 invariant_loop from t n r₀ taken₀ i₀ r taken i = Taking (snapshot_ids (read_snapshots t)) from r taken i
 
-abbrev decreases_loop : tie.decreases_loop
+abbrev decreases_loop : tie.decreases-loop-i
 decreases_loop from t n r₀ taken₀ i₀ r taken i = 16 - taken
 
 -- in the loop there is one more, and room for it
-module _ (c : tie.In-loop invariant_loop decreases_loop) where
-  abbrev l : tie.At-loop invariant_loop decreases_loop
+module _ (c : tie.In-loop-i invariant_loop decreases_loop) where
+  abbrev l : tie.At-loop-i invariant_loop decreases_loop
   l = c.before
 
   abbrev a : tie.Start invariant_loop decreases_loop
   a = l.before.before
 
-  held : l.loop.i < a.args.t1.count
-  held = ltb-true _ _ (and_left (ltb l.loop.i a.args.t1.count) (ltb l.loop.taken 16) c.loop-test.true)
+  held : l.loop-i.i < a.args.t.count
+  held = ltb-true _ _ (and_left (ltb l.loop-i.i a.args.t.count) (ltb l.loop-i.taken 16) c.loop-i-test.true)
 
-  room : l.loop.taken < 16
-  room = ltb-true _ _ (and_right (ltb l.loop.i a.args.t1.count) (ltb l.loop.taken 16) c.loop-test.true)
+  room : l.loop-i.taken < 16
+  room = ltb-true _ _ (and_right (ltb l.loop-i.i a.args.t.count) (ltb l.loop-i.taken 16) c.loop-i-test.true)
 
-  below : l.loop.i < 64
-  below = omega (arith, held, within (tidy_snapshots a.pre))
+  below : l.loop-i.i < 64
+  below = omega (arith, held, within (tidy_snapshots a.requires))
 
 pub part_spec : {M : Type 1} → statement M
 part_spec =
@@ -91,15 +91,14 @@ part_spec =
     invariant_loop
     decreases_loop
     (λ c κs. search rules)
-    (λ c. record { there = omega arith; few = omega arith; long = refl; ids_so = c.blank.ensures ∙ none_snapshot_ids })
+    (λ c. record { there = omega arith; few = omega arith; long = refl; ids_so = c.blank-r.ensures ∙ none_snapshot_ids })
     (λ c. omega (arith, below c))
     (λ c. below c)
-    (λ c κs. let k = c.before.before in room_snapshot_ids _ (l k).loop.invariant.ids_so (omega (arith, (l k).loop.invariant.long, room k)))
+    (λ c κs. let k = c.before.before in room_snapshot_ids _ (l k).loop-i.invariant.ids_so (omega (arith, (l k).loop-i.invariant.long, room k)))
     (λ c. omega (arith, room c.before.before.before))
     (λ c. omega (arith, below c.before.before.before))
     (λ c. omega (arith, room c.before.before.before))
     (λ c. let k = c.before.before.before in
     let p = (a k).requires in
-    takes_on (snapshot_ids (read_snapshots (a k).args.t1)) (a k).args.from (l k).loop.invariant (omega (arith, held k, ids_long p)) (room k) (id_at p (l k).loop.i (held k)) c.push-snapshot.ensures)
-    (λ c. let s = c.before.before.before in
-    ends (snapshot_ids (read_snapshots s.args.t1)) s.args.from c.before.loop.invariant (rw (ids_long s.requires) c.loop-test.false)))
+    takes_on (snapshot_ids (read_snapshots (a k).args.t)) (a k).args.from (l k).loop-i.invariant (omega (arith, held k, ids_long p)) (room k) (id_at p (l k).loop-i.i (held k)) c.push_snapshot-r.ensures)
+    (λ c. ends (snapshot_ids (read_snapshots c.args.t)) c.args.from c.loop-i.invariant (rw (ids_long c.requires) c.loop-i-test.false)))

@@ -7,7 +7,7 @@ use Rattle.expiry.proofs.list.ref_removal.Tie as tie
 
 returns : tie.Need-returns
 unfolding laid_update no_update
-returns c = rw (c.before.before.requires.back, c.before.blank.ensures)
+returns c = rw (c.requires.back, c.blank-u.ensures)
 
 pub ref_removal_spec : {M : Type 1} → statement M
 ref_removal_spec = tie.close (tie.spec (λ c κs. search rules) returns)

@@ -7,7 +7,7 @@ use Rattle.expiry.proofs.list.snapshots_removal.Tie as tie
 
 returns : tie.Need-returns
 unfolding laid_update no_update
-returns c l e = rw (← e, c.before.blank.ensures)
+returns c l e = rw (← e, c.blank-u.ensures)
 
 pub snapshots_removal_spec : {M : Type 1} → statement M
 snapshots_removal_spec = tie.close (tie.spec (λ c κs. search rules) returns)

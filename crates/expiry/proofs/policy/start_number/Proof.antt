@@ -8,8 +8,8 @@ use Rattle.expiry.proofs.policy.start_number.Statement.{statement}
 use Rattle.expiry.proofs.policy.start_number.Tie as tie
 
 -- the three numbers are at least 1
-fits : (c : tie.After-age-formed2) → (c.before.before.min-formed.result && c.before.age-formed.result && c.age-formed2.result) ≡ policy_formed (read_policy c.before.before.before.before.before.args.policy)
-fits c = ap₂ (λ (a b : Bool). a && b) (ap₂ (λ (a b : Bool). a && b) c.before.before.min-formed.ensures c.before.age-formed.ensures) c.age-formed2.ensures
+fits : (c : tie.After-age_formed-ref_age) → (c.min_formed-count.result && c.age_formed-age.result && c.age_formed-ref_age.result) ≡ policy_formed (read_policy c.args.policy)
+fits c = ap₂ (λ (a b : Bool). a && b) (ap₂ (λ (a b : Bool). a && b) c.min_formed-count.ensures c.age_formed-age.ensures) c.age_formed-ref_age.ensures
 
 pub start_number_spec : {M : Type 1} → statement M
 start_number_spec =
@@ -19,6 +19,6 @@ start_number_spec =
     (λ c κs. search rules)
     (λ c κs. search rules)
     (λ c. search rules)
-    (λ c. rw (c.before.if1.false, c.if2.true))
-    (λ c. rw (c.before.before.if1.false, c.before.if2.false, ← fits c.before.before.before, c.if3.true))
-    (λ c. rw (c.before.before.if1.false, c.before.if2.false, ← fits c.before.before.before, c.if3.false)))
+    (λ c. rw (c.if-not-is_formed.false-raw, c.if-not-known.true-raw))
+    (λ c. rw (c.if-not-is_formed.false-raw, c.if-not-known.false-raw, ← fits c.before.before.before, c.if-not-count-age.true-raw))
+    (λ c. rw (c.if-not-is_formed.false-raw, c.if-not-known.false-raw, ← fits c.before.before.before, c.if-not-count-age.false-raw)))

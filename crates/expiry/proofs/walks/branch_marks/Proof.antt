@@ -68,79 +68,79 @@ module _ (limits : Limits) (snapshots : List Snapshot) where
     onward : (slots : List ℕ) (place : ℕ) {next u v m n : ℕ} → v ≡ u → n ≡ m → (k : Walking (set slots place u) next) × (length k.listed ≡ m + 1) → (k : Walking (set slots place v) next) × (length k.listed ≡ n + 1)
     onward slots place e f p = rw (e, f) p
 
-abbrev invariant_loop : tie.invariant_loop
+abbrev invariant_loop : tie.invariant-loop-place
 invariant_loop over times start limits slots₀ listed₀ place₀ slots listed place =
     (length slots ≡ 64)
     × (listed + unmarked slots ≡ 64)
     × ((snapshots : List Snapshot) (id : ℤ) → Placed snapshots over → times ≡ snapshot_times snapshots → start ≡ place_in (snapshot_ids snapshots) id
     → (g : Walking limits snapshots id slots place) × (length g.listed ≡ listed))
 
-abbrev decreases_loop : tie.decreases_loop
+abbrev decreases_loop : tie.decreases-loop-place
 decreases_loop over times start limits slots₀ listed₀ place₀ slots listed place = unmarked slots
 
 -- at the head of the loop
-module _ (c : tie.At-loop invariant_loop decreases_loop) where
+module _ (c : tie.At-loop-place invariant_loop decreases_loop) where
   abbrev a : tie.Start invariant_loop decreases_loop
   a = c.before.before
 
   -- for snapshots with these places and times
   module _ (snapshots : List Snapshot) (id : ℤ) (h : Placed snapshots a.args.over.now) (t : a.args.times.now ≡ snapshot_times snapshots) (e : a.args.start ≡ place_in (snapshot_ids snapshots) id) where
-    abbrev going : Walking a.args.limits snapshots id c.loop.slots c.loop.place
-    going = (c.loop.invariant.2 snapshots id h t e).0
+    abbrev going : Walking a.args.limits snapshots id c.loop-place.slots c.loop-place.place
+    going = (c.loop-place.invariant.2 snapshots id h t e).0
 
-    long : length going.listed ≡ c.loop.listed
-    long = (c.loop.invariant.2 snapshots id h t e).1
+    long : length going.listed ≡ c.loop-place.listed
+    long = (c.loop-place.invariant.2 snapshots id h t e).1
 
-    inside : c.loop.place < length a.args.over.now → c.loop.place < length (snapshot_ids snapshots)
+    inside : c.loop-place.place < length a.args.over.now → c.loop-place.place < length (snapshot_ids snapshots)
     inside b = omega (arith, held_places h)
 
 -- where the place is held
-module _ (c : tie.After-is-older invariant_loop decreases_loop) where
-  abbrev l : tie.At-loop invariant_loop decreases_loop
-  l = c.before.before.before
+module _ (c : tie.After-is_older invariant_loop decreases_loop) where
+  abbrev l : tie.At-loop-place invariant_loop decreases_loop
+  l = c.before.before.before.before.before.before
 
   abbrev limits : Limits
   limits = (a l).args.limits
 
-  below : l.loop.place < 64
-  below = omega (arith, c.before.before.loop-test.true, (a l).pre)
+  below : l.loop-place.place < 64
+  below = omega (arith, c.loop-place-test.true, (a l).requires)
 
   module _ (snapshots : List Snapshot) (id : ℤ) (h : Placed snapshots (a l).args.over.now) (t : (a l).args.times.now ≡ snapshot_times snapshots) (e : (a l).args.start ≡ place_in (snapshot_ids snapshots) id) where
-    abbrev g : Walking limits snapshots id l.loop.slots l.loop.place
+    abbrev g : Walking limits snapshots id l.loop-place.slots l.loop-place.place
     g = going l snapshots id h t e
 
-    abbrev b : l.loop.place < length (snapshot_ids snapshots)
-    b = inside l snapshots id h t e c.before.before.loop-test.true
+    abbrev b : l.loop-place.place < length (snapshot_ids snapshots)
+    b = inside l snapshots id h t e c.loop-place-test.true
 
     -- whether it stops is asked
-    asked : stops limits snapshots g.listed g.id ≡ (not c.before.is-counted.result && c.is-older.result)
+    asked : stops limits snapshots g.listed g.id ≡ (not c.is_counted-counted.result && c.is_older.result)
     asked =
         ap₂ (λ (x y : Bool). x && y)
-        (ap (λ (n : ℕ). le_z limits.count.0 (pos n)) (long l snapshots id h t e) ∙ le_z_turned limits.count.0 (pos l.loop.listed) ∙ ap not (sym c.before.is-counted.ensures))
-        (sym (c.is-older.ensures ∙ older_at snapshots g.id limits.age.0 limits.clock.0 t g.here))
+        (ap (λ (n : ℕ). le_z limits.count.0 (pos n)) (long l snapshots id h t e) ∙ le_z_turned limits.count.0 (pos l.loop-place.listed) ∙ ap not (sym c.is_counted-counted.ensures))
+        (sym (c.is_older.ensures ∙ older_at snapshots g.id limits.age.0 limits.clock.0 t g.here))
 
-    stops_here : (not c.before.is-counted.result && c.is-older.result) ≡ true → record { slots = l.loop.slots; twice = false } ≡ branch_marks limits snapshots id
+    stops_here : (not c.is_counted-counted.result && c.is_older.result) ≡ true → record { slots = l.loop-place.slots; twice = false } ≡ branch_marks limits snapshots id
     stops_here f = lists limits snapshots id g.listed (stopped snapshots (stops limits snapshots) _ id h (telling _) g b (asked ∙ f)) g.marks
 
-    meets_here : (not c.before.is-counted.result && c.is-older.result) ≡ false → (get_or l.loop.slots l.loop.place 0 ≡ nothing → ⊥) → record { slots = lib.ListN.replicate 64 0; twice = true } ≡ branch_marks limits snapshots id
+    meets_here : (not c.is_counted-counted.result && c.is_older.result) ≡ false → (get_or l.loop-place.slots l.loop-place.place 0 ≡ nothing → ⊥) → record { slots = lib.ListN.replicate 64 0; twice = true } ≡ branch_marks limits snapshots id
     meets_here f n =
         meets limits snapshots id
         (twice snapshots (stops limits snapshots) _ id h (telling _) g b (asked ∙ f) (seen snapshots (stops limits snapshots) _ id h (telling _) g b n))
-        (omega (arith, held_places h, (a l).pre))
+        (omega (arith, held_places h, (a l).requires))
 
     -- one more is marked
-    goes_further : {v : ℕ} → v ≡ cond (eqb l.loop.listed 0) named (cond c.before.is-counted.result within_count within_age) → (not c.before.is-counted.result && c.is-older.result) ≡ false → get_or l.loop.slots l.loop.place 0 ≡ nothing
-        → (k : Walking limits snapshots id (set l.loop.slots l.loop.place v) (get_or (a l).args.over.now l.loop.place 0)) × (length k.listed ≡ l.loop.listed + 1)
+    goes_further : {v : ℕ} → v ≡ cond (eqb l.loop-place.listed 0) named (cond c.is_counted-counted.result within_count within_age) → (not c.is_counted-counted.result && c.is_older.result) ≡ false → get_or l.loop-place.slots l.loop-place.place 0 ≡ nothing
+        → (k : Walking limits snapshots id (set l.loop-place.slots l.loop-place.place v) (get_or (a l).args.over.now l.loop-place.place 0)) × (length k.listed ≡ l.loop-place.listed + 1)
     goes_further q f n =
         let m = unseen snapshots (stops limits snapshots) _ id h (telling _) g b n in
         let w = ap (λ (k : ℕ). why_at limits.count.0 (some k)) (sym (long l snapshots id h t e)) in
-        let r = ap (λ (x : Bool). cond (eqb l.loop.listed 0) named (cond x within_count within_age)) c.before.is-counted.ensures in
-        onward limits snapshots id l.loop.slots l.loop.place (q ∙ r ∙ why_is limits.count.0 l.loop.listed ∙ w) (sym (long l snapshots id h t e))
+        let r = ap (λ (x : Bool). cond (eqb l.loop-place.listed 0) named (cond x within_count within_age)) c.is_counted-counted.ensures in
+        onward limits snapshots id l.loop-place.slots l.loop-place.place (q ∙ r ∙ why_is limits.count.0 l.loop-place.listed ∙ w) (sym (long l snapshots id h t e))
         (goes_on_lem snapshots (stops limits snapshots) _ id h (telling _) g b (asked ∙ f) m, goes_more snapshots (stops limits snapshots) _ id h (telling _) g b (asked ∙ f) m)
 
   -- one mark less is left to set
-  less : {v : ℕ} → v ≡ cond (eqb l.loop.listed 0) named (cond c.before.is-counted.result within_count within_age) → get_or l.loop.slots l.loop.place 0 ≡ nothing → unmarked l.loop.slots ≡ suc (unmarked (set l.loop.slots l.loop.place v))
-  less {v} q n = marks_one l.loop.slots l.loop.place v (omega (arith, below, l.loop.inv.0)) n (λ z. some_reason (eqb l.loop.listed 0) c.before.is-counted.result (sym q ∙ z))
+  less : {v : ℕ} → v ≡ cond (eqb l.loop-place.listed 0) named (cond c.is_counted-counted.result within_count within_age) → get_or l.loop-place.slots l.loop-place.place 0 ≡ nothing → unmarked l.loop-place.slots ≡ suc (unmarked (set l.loop-place.slots l.loop-place.place v))
+  less {v} q n = marks_one l.loop-place.slots l.loop-place.place v (omega (arith, below, l.loop-place.invariant.0)) n (λ z. some_reason (eqb l.loop-place.listed 0) c.is_counted-counted.result (sym q ∙ z))
 
 pub branch_marks_spec : {M : Type 1} → statement M
 branch_marks_spec =
@@ -149,21 +149,21 @@ branch_marks_spec =
     invariant_loop
     decreases_loop
     (λ c. (refl, refl, λ snapshots id h t e. (begins snapshots _ _ id h (telling _) e, begins_none snapshots _ _ id h (telling _) e)))
-    (λ c κs. omega (arith, c.before.loop.invariant.1))
+    (λ c κs. omega (arith, c.loop-place.invariant.1))
     (λ c κs. search rules)
-    (λ c snapshots id h t e. stops_here c.before snapshots id h t e c.if1.true)
+    (λ c snapshots id h t e. stops_here c.before snapshots id h t e c.if-counted-is_older.true)
     (λ c. below c.before)
-    (λ c snapshots id h t e. meets_here c.before.before snapshots id h t e c.before.if1.false c.if2.true)
+    (λ c snapshots id h t e. meets_here c.before.before snapshots id h t e c.if-counted-is_older.false c.if-slots-place-ne-NOTHING.true)
     (λ c κs. search rules)
     (λ c. below c.before.before.before)
-    (λ c. omega (arith, (l c.before.before.before).loop.inv.1))
+    (λ c. omega (arith, (l c.before.before.before).loop-place.invariant.1))
     (λ c. omega (arith, below c.before.before.before))
-    (λ c. c.before.before.before.before.before.before.loop-test.true)
-    (λ c. omega (arith, less c.before.before.before.before c.before.why-at.ensures c.before.before.if2.false))
+    (λ c. c.loop-place-test.true)
+    (λ c. omega (arith, less c.before.before.before.before c.why_at.ensures c.if-slots-place-ne-NOTHING.false))
     (λ c. let k = c.before.before.before.before in (
-      length-set (l k).loop.slots (l k).loop.place c.before.why-at.result ∙ (l k).loop.invariant.0,
-      omega (arith, less k c.before.why-at.ensures c.before.before.if2.false, (l k).loop.invariant.1),
-      λ snapshots id h t e. goes_further k snapshots id h t e c.before.why-at.ensures c.before.before.before.if1.false c.before.before.if2.false,
+      length-set (l k).loop-place.slots (l k).loop-place.place c.why_at.result ∙ (l k).loop-place.invariant.0,
+      omega (arith, less k c.why_at.ensures c.if-slots-place-ne-NOTHING.false, (l k).loop-place.invariant.1),
+      λ snapshots id h t e. goes_further k snapshots id h t e c.why_at.ensures c.if-counted-is_older.false c.if-slots-place-ne-NOTHING.false,
     ))
     (λ c snapshots id h t e. let g = going c.before snapshots id h t e in
-    lists _ snapshots id g.listed (ends snapshots _ _ id h (telling _) g (omega (arith, held_places h, c.loop-test.false))) g.marks))
+    lists _ snapshots id g.listed (ends snapshots _ _ id h (telling _) g (omega (arith, held_places h, c.loop-place-test.false))) g.marks))

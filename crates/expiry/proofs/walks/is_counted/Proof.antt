@@ -8,8 +8,8 @@ use Rattle.tables.proofs.Keyed.{wide_fits}
 use Rattle.expiry.proofs.walks.is_counted.Statement.{statement}
 use Rattle.expiry.proofs.walks.is_counted.Tie as tie
 
-fits : (c : tie.After-struct-told) → SFits w32 c.before.args.count.0
-fits c = sfits_of c.struct_told.given.0.1
+fits : (c : tie.After-struct_told-1) → SFits w32 c.args.count.0
+fits c = sfits_of c.struct_told-1.given.0.1
 
 pub is_counted_spec : {M : Type 1} → statement M
 is_counted_spec =
@@ -17,4 +17,4 @@ is_counted_spec =
     (tie.spec
     (λ c. search rules)
     (λ c. rw (to_z-of_z (fits c)) (wide_fits (fits c)))
-    (λ c. rw (to_z-of_z (fits c), to_z-of_z (wide_fits (fits c)), to_z_pos w64 {n = c.before.args.listed} (omega (arith, c.before.requires)))))
+    (λ c. rw (to_z-of_z (fits c), to_z-of_z (wide_fits (fits c)), to_z_pos w64 {n = c.args.listed} (omega (arith, c.requires)))))

@@ -12,5 +12,5 @@ is_older_spec =
     (λ c. search rules)
     (λ c. search rules)
     (λ c κs. search rules)
-    (λ c. rw (lt-ltb _ _ c.before.before.if1.true) (rw (to_z-of_z (sfits_of c.before.t9.given)) at c.is-before.ensures))
-    (λ c. rw (le-ltb _ _ c.if1.false)))
+    (λ c. rw (lt-ltb _ _ c.if-place-times.true) (rw (to_z-of_z (sfits_of c.is_before-arg-1.given)) at c.is_before.ensures))
+    (λ c. rw (le-ltb _ _ c.if-place-times.false)))

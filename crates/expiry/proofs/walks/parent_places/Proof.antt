@@ -28,10 +28,10 @@ module _ (ids parents : List ℤ) (few : length ids ≤ snapshot_room) (even : l
   every : {r : List ℕ} {i : ℕ} → length ids ≤ i → r ≡ pad snapshot_room 0 (take i (parent_places ids parents)) → r ≡ pad snapshot_room 0 (parent_places ids parents)
   every {r} {i} b e = e ∙ ap (pad snapshot_room 0) (take_all i (parent_places ids parents) (omega (arith, long)))
 
-abbrev invariant_loop : tie.invariant_loop
+abbrev invariant_loop : tie.invariant-loop-i
 invariant_loop ids parents r₀ i₀ r i = r ≡ pad snapshot_room 0 (take i (parent_places ids parents))
 
-abbrev decreases_loop : tie.decreases_loop
+abbrev decreases_loop : tie.decreases-loop-i
 decreases_loop ids parents r₀ i₀ r i = length ids - i
 
 pub parent_places_spec : {M : Type 1} → statement M
@@ -41,17 +41,15 @@ parent_places_spec =
     invariant_loop
     decreases_loop
     (λ c. refl)
-    (λ c. omega (arith, c.before.before.requires.1.0))
-    (λ c. omega (arith, c.before.before.requires.1.1))
-    (λ c κs. c.before.before.before.requires.0)
-    (λ c. let b = c.before.before in omega (arith, b.loop-test.true, b.before.before.requires.1.0))
-    (λ c. let b = c.before.before in omega (arith, b.loop-test.true, b.before.before.requires.1.0))
-    (λ c. let b = c.before.before in omega (arith, b.loop-test.true, b.before.before.requires.1.0))
-    (λ c. let b = c.before.before in omega (arith, b.loop-test.true))
+    (λ c. omega (arith, c.requires.1.0))
+    (λ c. omega (arith, c.requires.1.1))
+    (λ c κs. c.requires.0)
+    (λ c. omega (arith, c.loop-i-test.true, c.requires.1.0))
+    (λ c. omega (arith, c.loop-i-test.true, c.requires.1.0))
+    (λ c. omega (arith, c.loop-i-test.true, c.requires.1.0))
+    (λ c. omega (arith, c.loop-i-test.true))
     (λ c. let b = c.before.before in
-    let s = b.before.before in
-    let p = s.requires in
-    more s.args.ids.now s.args.parents.now p.1.0 p.1.1 b.loop-test.true b.before.loop.invariant (rw (to_z-of_z (sfits_of c.before.parent.given)) at c.position-ascending.ensures))
-    (λ c. let s = c.before.before in
-    let p = s.requires in
-    every s.args.ids.now s.args.parents.now p.1.0 p.1.1 c.loop-test.false c.before.loop.invariant))
+    let p = b.requires in
+    more b.args.ids.now b.args.parents.now p.1.0 p.1.1 b.loop-i-test.true b.loop-i.invariant (rw (to_z-of_z (sfits_of c.parent-1.given)) at c.position_ascending.ensures))
+    (λ c. let p = c.requires in
+    every c.args.ids.now c.args.parents.now p.1.0 p.1.1 c.loop-i-test.false c.loop-i.invariant))

@@ -30,20 +30,20 @@ module _ (snapshots : List Snapshot) (id : ℤ) {slots : List ℕ} (l : List ℤ
   unfolding reach
   reached e f = f ∙ ap (λ (h : ℤ → ℕ). marked h (snapshot_ids snapshots)) (λ i x. cond ((placed l x ∙ ap (λ (w : Walk). is_in (listed_ids w) x) (sym e)) i) others_need nothing)
 
-abbrev invariant_loop : tie.invariant_loop
+abbrev invariant_loop : tie.invariant-loop-place
 invariant_loop over start slots₀ place₀ slots place =
     (length slots ≡ 64)
     × ((snapshots : List Snapshot) (id : ℤ) → Placed snapshots over → start ≡ place_in (snapshot_ids snapshots) id → Going snapshots is_in code id slots place)
 
-abbrev decreases_loop : tie.decreases_loop
+abbrev decreases_loop : tie.decreases-loop-place
 decreases_loop over start slots₀ place₀ slots place = unmarked slots
 
 -- at the head of the loop, for snapshots with these places
-module _ (c : tie.At-loop invariant_loop decreases_loop) (snapshots : List Snapshot) (id : ℤ) (h : Placed snapshots c.before.args.over.now) (e : c.before.args.start ≡ place_in (snapshot_ids snapshots) id) where
-  going : Going snapshots is_in code id c.loop.slots c.loop.place
-  going = c.loop.invariant.1 snapshots id h e
+module _ (c : tie.At-loop-place invariant_loop decreases_loop) (snapshots : List Snapshot) (id : ℤ) (h : Placed snapshots c.args.over.now) (e : c.args.start ≡ place_in (snapshot_ids snapshots) id) where
+  going : Going snapshots is_in code id c.loop-place.slots c.loop-place.place
+  going = c.loop-place.invariant.1 snapshots id h e
 
-  inside : c.loop.place < length c.before.args.over.now → c.loop.place < length (snapshot_ids snapshots)
+  inside : c.loop-place.place < length c.args.over.now → c.loop-place.place < length (snapshot_ids snapshots)
   inside b = omega (arith, held_places h)
 
 pub reach_marks_spec : {M : Type 1} → statement M
@@ -53,24 +53,23 @@ reach_marks_spec =
     invariant_loop
     decreases_loop
     (λ c. (refl, λ snapshots id h e. begins snapshots is_in code id h telling e))
-    (λ c. omega (arith, c.before.before.requires))
+    (λ c. omega (arith, c.requires))
     (λ c snapshots id h e. let l = c.before.before in
     let g = going l snapshots id h e in
-    let b = inside l snapshots id h e c.before.loop-test.true in
-    reached snapshots id g.listed (stopped snapshots is_in code id h telling g b (seen snapshots is_in code id h telling g b c.if1.true)) g.marks)
-    (λ c. omega (arith, c.before.before.before.requires))
+    let b = inside l snapshots id h e c.loop-place-test.true in
+    reached snapshots id g.listed (stopped snapshots is_in code id h telling g b (seen snapshots is_in code id h telling g b c.if-slots-place-ne-NOTHING.true)) g.marks)
+    (λ c. omega (arith, c.requires))
     (λ c. search rules)
     (λ c. omega arith)
     (λ c. let k = c.before in
-    let l = k.before.before in
-    omega (arith, marks_one l.loop.slots l.loop.place others_need (omega (arith, l.loop.invariant.0, l.before.requires, k.before.loop-test.true)) k.if1.false (λ e. omega (arith, e))))
+    omega (arith, marks_one k.loop-place.slots k.loop-place.place others_need (omega (arith, k.loop-place.invariant.0, k.requires, k.loop-place-test.true)) k.if-slots-place-ne-NOTHING.false (λ e. omega (arith, e))))
     (λ c. let k = c.before in
     let l = k.before.before in (
-      length-set l.loop.slots l.loop.place others_need ∙ l.loop.invariant.0,
+      length-set l.loop-place.slots l.loop-place.place others_need ∙ l.loop-place.invariant.0,
       λ snapshots id h e. let g = going l snapshots id h e in
-          let b = inside l snapshots id h e k.before.loop-test.true in
-          let n = unseen snapshots is_in code id h telling g b k.if1.false in
+          let b = inside l snapshots id h e k.loop-place-test.true in
+          let n = unseen snapshots is_in code id h telling g b k.if-slots-place-ne-NOTHING.false in
           goes_on_lem snapshots is_in code id h telling g b n n,
     ))
     (λ c snapshots id h e. let g = going c.before snapshots id h e in
-    reached snapshots id g.listed (ends snapshots is_in code id h telling g (omega (arith, held_places h, c.loop-test.false))) g.marks))
+    reached snapshots id g.listed (ends snapshots is_in code id h telling g (omega (arith, held_places h, c.loop-place-test.false))) g.marks))

@@ -39,5 +39,5 @@ tag_marks_spec =
     tie.close
     (tie.spec
     (λ c. search rules)
-    (λ c ids id count u n e. held id count ids (omega (arith, n, c.before.requires)) e u (omega (arith, n, c.if1.true)))
-    (λ c ids id count u n e. absent id count ids (omega (arith, n, c.before.requires)) e (omega (arith, n, c.if1.false))))
+    (λ c ids id count u n e. held id count ids (omega (arith, n, c.requires)) e u (omega (arith, n, c.if-start-held.true)))
+    (λ c ids id count u n e. absent id count ids (omega (arith, n, c.requires)) e (omega (arith, n, c.if-start-held.false))))

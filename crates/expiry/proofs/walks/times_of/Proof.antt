@@ -1,4 +1,5 @@
 -- The loop keeps the array equal to the first `i` times and zeros after them.
+use mir.Syntax.{w64}
 use Prim.Native.Nat.{◌-◌}
 use mathlib.Core.Path.{ap}
 use borrow.Author.Rules.{rules, sfits_of}
@@ -9,10 +10,10 @@ use Rattle.tables.proofs.Each.{snapshots, tidy_snapshots}
 use Rattle.expiry.proofs.walks.times_of.Statement.{statement}
 use Rattle.expiry.proofs.walks.times_of.Tie as tie
 
-abbrev invariant_loop : tie.invariant_loop
+abbrev invariant_loop : tie.invariant-loop-i
 invariant_loop t n r₀ i₀ r i = Keyed snapshots (λ x. x.time) t r i
 
-abbrev decreases_loop : tie.decreases_loop
+abbrev decreases_loop : tie.decreases-loop-i
 decreases_loop t n r₀ i₀ r i = n - i
 
 pub times_of_spec : {M : Type 1} → statement M
@@ -29,6 +30,5 @@ times_of_spec =
     (λ c. search rules)
     (λ c. search rules)
     (λ c. let b = c.before.before.before in
-    let l = b.before in
-    keyed_on (tidy_snapshots l.before.requires) (λ x. x.time) _ b.loop-test.true l.loop.invariant (ap (set l.loop.r l.loop.i) (to_z-of_z (sfits_of c.struct_told.given.0.1))))
-    (λ c. keyed_end (tidy_snapshots c.before.before.requires) (λ x. x.time) c.loop-test.false c.before.loop.invariant))
+    keyed_on (tidy_snapshots b.requires) (λ x. x.time) _ b.loop-i-test.true b.loop-i.invariant (ap (set b.loop-i.r b.loop-i.i) (to_z-of_z {w = w64} (sfits_of c.struct_told-1.given.0.1))))
+    (λ c. keyed_end (tidy_snapshots c.requires) (λ x. x.time) c.loop-i-test.false c.loop-i.invariant))

@@ -7,6 +7,6 @@ pub why_at_spec : {M : Type 1} → statement M
 why_at_spec =
     tie.close
     (tie.spec
-    (λ c. rw (eq-eqb _ _ c.if1.true))
-    (λ c. rw (ne_eqb _ _ c.before.if1.false, c.if2.true))
-    (λ c. rw (ne_eqb _ _ c.before.if1.false, c.if2.false)))
+    (λ c. rw (eq-eqb _ _ c.if-listed-eq0.true))
+    (λ c. rw (ne_eqb _ _ c.if-listed-eq0.false, c.if-counted.true))
+    (λ c. rw (ne_eqb _ _ c.if-listed-eq0.false, c.if-counted.false)))

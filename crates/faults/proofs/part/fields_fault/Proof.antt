@@ -20,17 +20,16 @@ fields_fault_spec =
     (λ c κs. search rules)
     (λ c κs. search rules)
     (λ c. let s = c.before.before.before in
-    let p = s.before.before.before.before in
-    let l = p.before.before.before.before.before.before.args.f.location in
+    let l = s.args.f.location in
     rw (
-      c.unless5.ensures,
-      c.before.unless4.ensures,
-      c.before.before.text-fits.ensures,
-      s.unless3.ensures,
-      s.before.sequence-formed.ensures,
-      s.before.before.unless2.ensures,
-      s.before.before.before.same-snapshot.ensures,
-      p.unless.ensures,
-      p.before.last-partition-formed.ensures,
+      c.unless.ensures,
+      c.unless-from_location.ensures,
+      c.text_fits.ensures,
+      s.unless-from_sequence.ensures,
+      s.sequence_formed.ensures,
+      s.unless-from_current.ensures,
+      s.same_snapshot.ensures,
+      s.unless-from_partition.ensures,
+      s.last_partition_formed.ensures,
       length_counted 0 l.bytes l.len,
     )))

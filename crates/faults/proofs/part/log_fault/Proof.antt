@@ -10,4 +10,4 @@ log_fault_spec =
     (λ c. search rules)
     (λ c κs. search rules)
     (λ c κs. search rules)
-    (λ c. rw (c.unless2.ensures, c.before.unless.ensures)))
+    (λ c. rw (c.unless-2.ensures, c.unless.ensures)))

@@ -22,8 +22,8 @@ metadata_log_fault_spec =
     (tie.spec
     (λ c κs. search rules)
     (λ c κs. search rules)
-    (λ c. let t = c.before.before.args.t in
-    c.log-fault.ensures
+    (λ c. let t = c.args.t in
+    c.log_fault.ensures
     ∙ log_asked 14 metadata_log_room (is_tidy_metadata_log t) (λ (e : plain.FileEntry). file_name_formed e.file) (read_metadata_log t)
     (ap (λ (n : ℕ). leb n metadata_log_room) (sym (read_length read_metadata_log_entry no_metadata_log_entry t.items t.count)))
-    c.before.metadata-log-formed.ensures))
+    c.metadata_log_formed.ensures))

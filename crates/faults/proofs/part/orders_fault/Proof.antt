@@ -21,9 +21,9 @@ orders_fault_spec =
     (tie.spec
     (λ c κs. search rules)
     (λ c κs. search rules)
-    (λ c. let k = c.before in let t = k.before.args.t in
-    c.table-fault.ensures
+    (λ c. let t = c.args.t in
+    c.table_fault.ensures
     ∙ table_asked 19 sort_order_room (is_tidy_sort_orders t) order_formed (read_sort_orders t) order_below
     (ap (λ (n : ℕ). leb n sort_order_room) (sym (read_length read_sort_order no_sort_order t.items t.count)))
-    k.order-keys.ensures.slots
-    k.order-keys.ensures.order))
+    c.order_keys-k.ensures.slots
+    c.order_keys-k.ensures.order))

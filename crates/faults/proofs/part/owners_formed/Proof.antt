@@ -13,10 +13,10 @@ use Rattle.formed.proofs.Counted.{Taken, taken_start, taken_on, read_end, too_ma
 use Rattle.faults.proofs.part.owners_formed.Statement.{statement}
 use Rattle.faults.proofs.part.owners_formed.Tie as tie
 
-abbrev invariant_loop : tie.invariant_loop
+abbrev invariant_loop : tie.invariant-loop-i
 invariant_loop t n ok₀ i₀ ok i = Taken (λ (x : NamedRef). owner_formed (read_ref x)) t.count t.items 0 i true ok
 
-abbrev decreases_loop : tie.decreases_loop
+abbrev decreases_loop : tie.decreases-loop-i
 decreases_loop t n ok₀ i₀ ok i = n - i
 
 -- what is found of refs that there is room for
@@ -29,15 +29,14 @@ owners_formed_spec =
     (tie.spec
     invariant_loop
     decreases_loop
-    (λ c. let t = c.before.args.t1 in sym (rw (too_many read_ref no_ref t.items t.count ref_room c.if1.true)))
-    (λ c. taken_start ref_room (search (rules, slots)) c.if1.false)
+    (λ c. let t = c.args.t in sym (rw (too_many read_ref no_ref t.items t.count ref_room c.if-n-gt-REFS.true)))
+    (λ c. taken_start ref_room (search (rules, slots)) c.if-n-gt-REFS.false)
     (λ c. search rules)
     (λ c. search rules)
     (λ c κs. search rules)
     (λ c. search rules)
     (λ c. search rules)
-    (λ c. let l = c.before.before.before in taken_on l.loop.invariant _ c.before.before.loop-test.true c.owner-formed.ensures)
-    (λ c. let e = c.before.before in
-    let t = e.before.args.t1 in
-    read_end read_ref owner_formed no_ref ref_room t.count t.items true c.before.loop.invariant e.if1.false c.loop-test.false
-    ∙ found _ _ (few_enough read_ref no_ref t.items t.count ref_room e.if1.false)))
+    (λ c. taken_on c.loop-i.invariant _ c.loop-i-test.true c.owner_formed-ok.ensures)
+    (λ c. let t = c.args.t in
+    read_end read_ref owner_formed no_ref ref_room t.count t.items true c.loop-i.invariant c.if-n-gt-REFS.false c.loop-i-test.false
+    ∙ found _ _ (few_enough read_ref no_ref t.items t.count ref_room c.if-n-gt-REFS.false)))

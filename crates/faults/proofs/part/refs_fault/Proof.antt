@@ -31,12 +31,11 @@ refs_fault_spec =
     (λ c κs. search rules)
     (λ c κs. search rules)
     (λ c κs. search rules)
-    (λ c. let f = c.before.before in
-    let t = f.before.before.before.args.t in
-    before (leb (length (read_refs t)) ref_room && not (all owner_formed (read_refs t))) 37 c.before.owners-formed.ensures
-    (f.table-fault.ensures
+    (λ c. let t = c.args.t in
+    before (leb (length (read_refs t)) ref_room && not (all owner_formed (read_refs t))) 37 c.owners_formed.ensures
+    (c.table_fault-from_table.ensures
     ∙ table_asked 9 ref_room (is_tidy_refs t) ref_formed (read_refs t) ref_below
     (ap (λ (n : ℕ). leb n ref_room) (sym (read_length read_ref no_ref t.items t.count)))
-    f.before.before.refs-filled.ensures
-    f.before.refs-formed.ensures)
+    c.refs_filled.ensures
+    c.refs_formed.ensures)
     c.unless.ensures))

@@ -21,9 +21,9 @@ schemas_fault_spec =
     (tie.spec
     (λ c κs. search rules)
     (λ c κs. search rules)
-    (λ c. let k = c.before in let t = k.before.args.t in
-    c.table-fault.ensures
+    (λ c. let t = c.args.t in
+    c.table_fault.ensures
     ∙ table_asked 16 schema_room (is_tidy_schemas t) schema_formed (read_schemas t) schema_below
     (ap (λ (n : ℕ). leb n schema_room) (sym (read_length read_schema no_schema t.items t.count)))
-    k.schema-keys.ensures.slots
-    k.schema-keys.ensures.order))
+    c.schema_keys-k.ensures.slots
+    c.schema_keys-k.ensures.order))

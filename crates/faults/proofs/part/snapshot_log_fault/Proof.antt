@@ -23,8 +23,8 @@ snapshot_log_fault_spec =
     (tie.spec
     (λ c κs. search rules)
     (λ c κs. search rules)
-    (λ c. let t = c.before.before.args.t in
-    c.log-fault.ensures
+    (λ c. let t = c.args.t in
+    c.log_fault.ensures
     ∙ log_asked 12 snapshot_log_room (is_tidy_snapshot_log t) (λ (e : plain.LogEntry). non_neg e.snapshot) (read_snapshot_log t)
     (ap (λ (n : ℕ). leb n snapshot_log_room) (sym (read_length read_log_entry no_log_entry t.items t.count)))
-    c.before.snapshot-log-formed.ensures))
+    c.snapshot_log_formed.ensures))

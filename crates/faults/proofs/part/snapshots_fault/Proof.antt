@@ -21,9 +21,9 @@ snapshots_fault_spec =
     (tie.spec
     (λ c κs. search rules)
     (λ c κs. search rules)
-    (λ c. let k = c.before in let t = k.before.args.t in
-    c.table-fault.ensures
+    (λ c. let t = c.args.t in
+    c.table_fault.ensures
     ∙ table_asked 6 snapshot_room (is_tidy_snapshots t) snapshot_formed (read_snapshots t) snapshot_below
     (ap (λ (n : ℕ). leb n snapshot_room) (sym (read_length read_snapshot no_snapshot t.items t.count)))
-    k.snapshot-keys.ensures.slots
-    k.snapshot-keys.ensures.order))
+    c.snapshot_keys-k.ensures.slots
+    c.snapshot_keys-k.ensures.order))

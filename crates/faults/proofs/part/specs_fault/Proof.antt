@@ -21,9 +21,9 @@ specs_fault_spec =
     (tie.spec
     (λ c κs. search rules)
     (λ c κs. search rules)
-    (λ c. let k = c.before in let t = k.before.args.t in
-    c.table-fault.ensures
+    (λ c. let t = c.args.t in
+    c.table_fault.ensures
     ∙ table_asked 28 spec_room (is_tidy_partition_specs t) spec_formed (read_partition_specs t) spec_below
     (ap (λ (n : ℕ). leb n spec_room) (sym (read_length read_partition_spec no_partition_spec t.items t.count)))
-    k.spec-keys.ensures.slots
-    k.spec-keys.ensures.order))
+    c.spec_keys-k.ensures.slots
+    c.spec_keys-k.ensures.order))

@@ -21,9 +21,9 @@ statistics_fault_spec =
     (tie.spec
     (λ c κs. search rules)
     (λ c κs. search rules)
-    (λ c. let k = c.before in let t = k.before.args.t in
-    c.table-fault.ensures
-    ∙ table_asked k.before.args.first statistics_room (is_tidy_statistics t) statistics_file_formed (read_statistics t) statistics_below
+    (λ c. let t = c.args.t in
+    c.table_fault.ensures
+    ∙ table_asked c.args.first statistics_room (is_tidy_statistics t) statistics_file_formed (read_statistics t) statistics_below
     (ap (λ (n : ℕ). leb n statistics_room) (sym (read_length read_statistics_file no_statistics_file t.items t.count)))
-    k.statistics-keys.ensures.slots
-    k.statistics-keys.ensures.order))
+    c.statistics_keys-k.ensures.slots
+    c.statistics_keys-k.ensures.order))

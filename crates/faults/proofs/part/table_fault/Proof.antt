@@ -12,4 +12,4 @@ table_fault_spec =
     (λ c. search rules)
     (λ c κs. search rules)
     (λ c κs. search rules)
-    (λ c. rw (c.unless3.ensures, c.before.unless2.ensures, c.before.before.unless.ensures)))
+    (λ c. rw (c.unless-2.ensures, c.unless.ensures, c.unless-from_order.ensures)))

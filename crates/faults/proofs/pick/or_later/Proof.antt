@@ -7,5 +7,5 @@ pub or_later_spec : {M : Type 1} → statement M
 or_later_spec =
     tie.close
     (tie.spec
-    (λ c. rw (eq-eqb c.before.args.earlier 0 c.if1.true))
-    (λ c. rw (ne_eqb c.before.args.earlier 0 c.if1.false)))
+    (λ c. rw (eq-eqb c.args.earlier 0 c.if-earlier-eq-NONE.true))
+    (λ c. rw (ne_eqb c.args.earlier 0 c.if-earlier-eq-NONE.false)))

@@ -12,15 +12,13 @@ known_version_spec =
     tie.close
     (tie.spec
     (λ c κs. search rules)
-    (λ c. no_digit _ _ _ (sym c.before.is_digit.ensures ∙ not-true _ c.if1.true))
-    (λ c. let d = c.before in no_integer _ _ _ (sym d.before.is_digit.ensures ∙ not-false _ d.if1.false) (not-true _ c.if2.true))
-    (λ c. let i = c.before in let d = i.before in too_low_lem _ _ _ (sym d.before.is_digit.ensures ∙ not-false _ d.if1.false) (not-false _ i.if2.false) c.if3.true)
+    (λ c. no_digit _ _ _ (sym c.is_digit.ensures ∙ not-true _ c.if-not-is_digit.true-raw))
+    (λ c. no_integer _ _ _ (sym c.is_digit.ensures ∙ not-false _ c.if-not-is_digit.false-raw) (not-true _ c.if-not-integer.true-raw))
+    (λ c. let i = c.before in too_low_lem _ _ _ (sym i.is_digit.ensures ∙ not-false _ i.if-not-is_digit.false-raw) (not-false _ i.if-not-integer.false-raw) c.if-magnitude-lt1.true)
     (λ c. let l = c.before in
     let i = l.before in
-    let d = i.before in
-    too_high _ _ _ (sym d.before.is_digit.ensures ∙ not-false _ d.if1.false) (not-false _ i.if2.false) l.if3.false c.if4.true)
+    too_high _ _ _ (sym i.is_digit.ensures ∙ not-false _ i.if-not-is_digit.false-raw) (not-false _ i.if-not-integer.false-raw) l.if-magnitude-lt1.false c.if-magnitude-gt3.true)
     (λ c. let h = c in
     let l = h.before in
     let i = l.before in
-    let d = i.before in
-    known _ _ _ (sym d.before.is_digit.ensures ∙ not-false _ d.if1.false) (not-false _ i.if2.false) l.if3.false h.if4.false))
+    known _ _ _ (sym i.is_digit.ensures ∙ not-false _ i.if-not-is_digit.false-raw) (not-false _ i.if-not-integer.false-raw) l.if-magnitude-lt1.false h.if-magnitude-gt3.false))

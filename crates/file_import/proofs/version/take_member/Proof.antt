@@ -12,13 +12,11 @@ take_member_spec =
     (tie.spec
     (λ c κs. search rules)
     (λ c κs. search rules)
-    (λ c. let i = c.before in let k = i.before.before in at_end_lem _ _ _ _ _ c.ended.ensures (no_name_there _ _ _ _ k.next.ensures i.if1.true))
+    (λ c. let i = c.before in at_end_lem _ _ _ _ _ c.ended.ensures (no_name_there _ _ _ _ i.next-name.ensures i.if-name-ne-WHOLE.true))
     (λ c κs. search rules)
     (λ c. let i = c.before in
     let e = i.before.before in
-    let k = e.before.before in
-    at_end_lem _ _ _ _ _ c.ended2.ensures (no_quote _ _ _ _ k.next.ensures e.if1.false i.if2.true))
-    (λ c. search rules)
+    at_end_lem _ _ _ _ _ c.ended-then-name-ne34.ensures (no_quote _ _ _ _ e.next-name.ensures e.if-name-ne-WHOLE.false i.if-name-ne34.true))
     (λ c κs. search rules)
     (λ c κs. search rules)
     (λ c κs. search rules)
@@ -26,25 +24,22 @@ take_member_spec =
     let t = i.before.before in
     let q = t.before.before.before.before.before in
     let e = q.before.before in
-    let k = e.before.before in
-    at_end_lem _ _ _ _ _ c.ended3.ensures (no_colon_there _ _ _ _ k.next.ensures e.if1.false q.if2.false _ _ t.next2.ensures i.if3.true))
+    at_end_lem _ _ _ _ _ c.ended-then-colon-ne-WHOLE.ensures (no_colon_there _ _ _ _ e.next-name.ensures e.if-name-ne-WHOLE.false q.if-name-ne34.false _ _ t.next-colon.ensures i.if-colon-ne-WHOLE.true))
     (λ c κs. search rules)
     (λ c. let i = c.before in
     let w = i.before.before in
     let t = w.before.before in
     let q = t.before.before.before.before.before in
     let e = q.before.before in
-    let k = e.before.before in
-    at_end_lem _ _ _ _ _ c.ended4.ensures (other_mark _ _ _ _ k.next.ensures e.if1.false q.if2.false _ _ t.next2.ensures w.if3.false i.if4.true))
-    (λ c κs. let w = c.before.before.before.before in let t = w.before.before in still_fits _ _ _ _ t.next2.ensures w.if3.false)
+    at_end_lem _ _ _ _ _ c.ended-then-colon-ne58.ensures (other_mark _ _ _ _ e.next-name.ensures e.if-name-ne-WHOLE.false q.if-name-ne34.false _ _ t.next-colon.ensures w.if-colon-ne-WHOLE.false i.if-colon-ne58.true))
+    (λ c κs. let w = c.before.before.before.before in still_fits _ _ _ _ w.next-colon.ensures w.if-colon-ne-WHOLE.false)
     (λ c. let i = c.before.before.before in
     let w = i.before.before in
     let t = w.before.before in
     let word = t.before.before in
     let q = word.before.before.before in
     let e = q.before.before in
-    let k = e.before.before in
-    from_later _ _ _ _ _ _ (later_on _ _ _ _ k.next.ensures e.if1.false q.if2.false _ _ t.next2.ensures w.if3.false)
-    (the_member _ _ _ _ k.next.ensures e.if1.false q.if2.false _ _ t.next2.ensures w.if3.false i.if4.false _
-    (word.is_IsWord.ensures ∙ is_quoted _ _ _ _ k.next.ensures e.if1.false q.if2.false))
-    c.take-value.ensures))
+    from_later _ _ _ _ _ _ (later_on _ _ _ _ e.next-name.ensures e.if-name-ne-WHOLE.false q.if-name-ne34.false _ _ t.next-colon.ensures w.if-colon-ne-WHOLE.false)
+    (the_member _ _ _ _ e.next-name.ensures e.if-name-ne-WHOLE.false q.if-name-ne34.false _ _ t.next-colon.ensures w.if-colon-ne-WHOLE.false i.if-colon-ne58.false _
+    (word.is_word-is_version.ensures ∙ is_quoted _ _ _ _ e.next-name.ensures e.if-name-ne-WHOLE.false q.if-name-ne34.false))
+    c.take_value.ensures))

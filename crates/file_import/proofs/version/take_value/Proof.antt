@@ -10,14 +10,13 @@ use Rattle.file_import.proofs.Passing.{at_end_lem, from_later}
 use Rattle.file_import.proofs.version.take_value.Statement.{statement}
 use Rattle.file_import.proofs.version.take_value.Tie as tie
 
-returns : tie.Need-returns
+returns : tie.Need-returns-then-found
 returns c =
     let v = c.before in
-    let i = v.before.before in
-    at_end_lem _ _ _ _ _ c.ended.ensures (rw i.if1.true v.version-at.ensures)
+    at_end_lem _ _ _ _ _ c.ended.ensures (rw v.if-found.true v.version_at-version.ensures)
 
-returns_2 : tie.Need-returns-2
-returns_2 c = let i = c.before.before.before in rw i.if1.false c.pass.ensures
+returns_2 : tie.Need-returns
+returns_2 c = rw c.if-found.false c.pass.ensures
 
 pub take_value_spec : {M : Type 1} → statement M
-take_value_spec = tie.close (tie.spec (λ c κs. search rules) (λ c κs. search rules) returns (λ c κs. c.before.before.before.before.requires) returns_2)
+take_value_spec = tie.close (tie.spec (λ c κs. search rules) (λ c κs. search rules) returns (λ c κs. c.requires) returns_2)

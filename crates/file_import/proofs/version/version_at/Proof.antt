@@ -11,6 +11,6 @@ version_at_spec =
     tie.close
     (tie.spec
     (λ c κs. search rules)
-    (λ c. let k = c.before.before in let a = k.before.before.before.args in token_other (length a.bytes.now) a.bytes.now a.from _ _ k.next.ensures c.if1.true)
+    (λ c. let a = c.args in token_other (length a.bytes.now) a.bytes.now a.from _ _ c.next-t.ensures c.if-t-ne-WHOLE.true)
     (λ c κs. search rules)
-    (λ c. let i = c.before in let k = i.before.before in let a = k.before.before.before.args in c.known-version.ensures ∙ token_whole (length a.bytes.now) a.bytes.now a.from _ _ k.next.ensures i.if1.false))
+    (λ c. let i = c.before in let a = i.args in c.known_version.ensures ∙ token_whole (length a.bytes.now) a.bytes.now a.from _ _ i.next-t.ensures i.if-t-ne-WHOLE.false))

@@ -14,33 +14,31 @@ use Rattle.file_import.proofs.Passing.{Standing, start_other, start_no_brace, be
 use Rattle.file_import.proofs.version.version_of.Statement.{statement}
 use Rattle.file_import.proofs.version.version_of.Tie as tie
 
-abbrev invariant_loop : tie.invariant_loop
+abbrev invariant_loop : tie.invariant-loop-passed
 invariant_loop bytes cells kept₀ passed₀ cells₀ kept passed = Standing bytes passed
 
-abbrev decreases_loop : tie.decreases_loop
+abbrev decreases_loop : tie.decreases-loop-passed
 decreases_loop bytes cells kept₀ passed₀ cells₀ kept passed = cond passed.goes_on (suc (length bytes - passed.from)) 0
 
-returns : tie.Need-returns invariant_loop decreases_loop
-returns c = let k = c.before.before in start_other _ _ _ k.next.ensures c.if1.true
+returns : tie.Need-returns-then-brace-ne-WHOLE invariant_loop decreases_loop
+returns c = start_other _ _ _ c.next-brace.ensures c.if-brace-ne-WHOLE.true
 
-returns_2 : tie.Need-returns-2 invariant_loop decreases_loop
-returns_2 c = let e = c.before.before in let k = e.before.before in start_no_brace _ _ _ k.next.ensures e.if1.false c.if2.true
+returns_2 : tie.Need-returns-then-brace-ne123 invariant_loop decreases_loop
+returns_2 c = let e = c.before.before in start_no_brace _ _ _ e.next-brace.ensures e.if-brace-ne-WHOLE.false c.if-brace-ne123.true
 
-loop_holds : tie.Need-loop-init invariant_loop decreases_loop
-loop_holds c = let e = c.before.before in let k = e.before.before in begins _ _ _ k.next.ensures e.if1.false c.if2.false
+loop_holds : tie.Need-loop-passed-init invariant_loop decreases_loop
+loop_holds c = let e = c.before.before in begins _ _ _ e.next-brace.ensures e.if-brace-ne-WHOLE.false c.if-brace-ne123.false
 
-loop_less : tie.Need-loop-smaller invariant_loop decreases_loop
+loop_less : tie.Need-loop-passed-smaller invariant_loop decreases_loop
 loop_less c =
-    let l = c.before.before.before in
-    less _ _ _ _ l.before.loop.invariant l.loop-test.true c.take-member.ensures
+    less _ _ _ _ c.loop-passed.invariant c.loop-passed-test.true c.take_member-passed.ensures
 
-loop_again : tie.Need-loop-preserved invariant_loop decreases_loop
+loop_again : tie.Need-loop-passed-preserved invariant_loop decreases_loop
 loop_again c =
-    let l = c.before.before.before in
-    goes_further _ _ _ l.before.loop.invariant l.loop-test.true c.take-member.ensures
+    goes_further _ _ _ c.loop-passed.invariant c.loop-passed-test.true c.take_member-passed.ensures
 
-returns_3 : tie.Need-returns-3 invariant_loop decreases_loop
-returns_3 c = c.before.loop.invariant.ends c.loop-test.false
+returns_3 : tie.Need-returns invariant_loop decreases_loop
+returns_3 c = c.loop-passed.invariant.ends c.loop-passed-test.false
 
 pub version_of_spec : {M : Type 1} → statement M
 version_of_spec = tie.close (tie.spec invariant_loop decreases_loop (λ c κs. search rules) returns returns_2 loop_holds (λ c κs. search rules) loop_less loop_again returns_3)

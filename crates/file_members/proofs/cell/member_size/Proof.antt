@@ -17,30 +17,29 @@ arms = (7 ∷ []) ∷ (8 ∷ []) ∷ (11 ∷ 18 ∷ []) ∷ (15 ∷ []) ∷ (16 
 abbrev size_here : ℕ → ℕ
 size_here spot = size_of (shape_of_row (row_at spot))
 
-returns_15 : tie.Need-returns-15
+returns_15 : tie.Need-returns-in_default
 unfolding row_at size_of
 returns_15 c =
-    let e = c.before in
-    let spot = e.before.before.args.spot in
-    sym (below_at size_here 2 69 ((0 ∷ []) ∷ arms) refl spot e.if2.false (rw (ne_eqb spot 0 e.before.if1.false) (no_arm arms spot c.match.rest)))
+    let spot = c.args.spot in
+    sym (below_at size_here 2 69 ((0 ∷ []) ∷ arms) refl spot c.if-spot-ge-MEMBERS.false (rw (ne_eqb spot 0 c.if-spot-eq-NOTHING.false) (no_arm arms spot c.in_default.in_default-own.rest)))
 
 pub member_size_spec : {M : Type 1} → statement M
 unfolding row_at size_of
 member_size_spec =
     tie.close
     (tie.spec
-    (λ c. rw c.if1.true)
-    (λ c. sym (member_size_past _ c.if2.true))
-    (λ c. rw c.match.keys1)
-    (λ c. rw c.match.keys2)
-    (λ c. at_keys size_here 1073 (11 ∷ 18 ∷ []) _ c.match.keys3 (refl & refl & done))
-    (λ c. rw c.match.keys4)
-    (λ c. rw c.match.keys5)
-    (λ c. rw c.match.keys6)
-    (λ c. rw c.match.keys7)
-    (λ c. at_keys size_here 193 (20 ∷ 22 ∷ []) _ c.match.keys8 (refl & refl & done))
-    (λ c. rw c.match.keys9)
-    (λ c. at_keys size_here 65 (10 ∷ 41 ∷ 47 ∷ []) _ c.match.keys10 (refl & refl & refl & done))
-    (λ c. at_keys size_here 0 (30 ∷ 32 ∷ 64 ∷ []) _ c.match.keys11 (refl & refl & refl & done))
-    (λ c. at_keys size_here 0 (31 ∷ 65 ∷ []) _ c.match.keys12 (refl & refl & done))
+    (λ c. rw c.if-spot-eq-NOTHING.true)
+    (λ c. sym (member_size_past _ c.if-spot-ge-MEMBERS.true))
+    (λ c. rw c.in-7.is)
+    (λ c. rw c.in-8.is)
+    (λ c. at_keys size_here 1073 (11 ∷ 18 ∷ []) _ c.in-11.is (refl & refl & done))
+    (λ c. rw c.in-15.is)
+    (λ c. rw c.in-16.is)
+    (λ c. rw c.in-17.is)
+    (λ c. rw c.in-34.is)
+    (λ c. at_keys size_here 193 (20 ∷ 22 ∷ []) _ c.in-20.is (refl & refl & done))
+    (λ c. rw c.in-21.is)
+    (λ c. at_keys size_here 65 (10 ∷ 41 ∷ 47 ∷ []) _ c.in-10.is (refl & refl & refl & done))
+    (λ c. at_keys size_here 0 (30 ∷ 32 ∷ 64 ∷ []) _ c.in-30.is (refl & refl & refl & done))
+    (λ c. at_keys size_here 0 (31 ∷ 65 ∷ []) _ c.in-31.is (refl & refl & done))
     returns_15)

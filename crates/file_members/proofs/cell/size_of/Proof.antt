@@ -9,13 +9,13 @@ use Rattle.file_members.proofs.Cells.{kind_size_is}
 use Rattle.file_members.proofs.cell.size_of.Statement.{statement}
 use Rattle.file_members.proofs.cell.size_of.Tie as tie
 
-returns : tie.Need-returns
+returns : tie.Need-returns-then-want-lt-RECORDS
 unfolding size_at shape_of
-returns c = rw (lt-ltb _ _ c.before.if1.true) c.member-size.ensures
+returns c = rw (lt-ltb _ _ c.if-want-lt-RECORDS.true) c.member_size.ensures
 
-returns_2 : tie.Need-returns-2
+returns_2 : tie.Need-returns
 unfolding size_at shape_of kind_size_at
-returns_2 c = rw (le-ltb _ _ c.before.if1.false) (c.kind-size.ensures ∙ kind_size_is (kind_at _))
+returns_2 c = rw (le-ltb _ _ c.if-want-lt-RECORDS.false) (c.kind_size.ensures ∙ kind_size_is (kind_at _))
 
 pub size_of_spec : {M : Type 1} → statement M
 size_of_spec =

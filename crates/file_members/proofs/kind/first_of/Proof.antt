@@ -12,28 +12,28 @@ use Rattle.file_members.proofs.kind.first_of.Tie as tie
 abbrev arms : List (List ℕ)
 arms = (0 ∷ []) ∷ (1 ∷ []) ∷ (2 ∷ []) ∷ (3 ∷ []) ∷ (4 ∷ []) ∷ (5 ∷ []) ∷ (6 ∷ []) ∷ (7 ∷ []) ∷ (8 ∷ []) ∷ (9 ∷ []) ∷ (10 ∷ []) ∷ (11 ∷ []) ∷ (12 ∷ []) ∷ []
 
-returns_14 : tie.Need-returns-14
+returns_14 : tie.Need-returns-in_default
 unfolding first_of kind_at
 returns_14 c =
-    let kind = c.before.args.kind in
-    sym (else_at first_of 0 13 arms refl first_past kind (no_arm arms kind c.match.rest))
+    let kind = c.args.kind in
+    sym (else_at first_of 0 13 arms refl first_past kind (no_arm arms kind c.in_default.in_default-own.rest))
 
 pub first_of_spec : {M : Type 1} → statement M
 unfolding first_of kind_at
 first_of_spec =
     tie.close
     (tie.spec
-    (λ c. rw c.match.keys1)
-    (λ c. rw c.match.keys2)
-    (λ c. rw c.match.keys3)
-    (λ c. rw c.match.keys4)
-    (λ c. rw c.match.keys5)
-    (λ c. rw c.match.keys6)
-    (λ c. rw c.match.keys7)
-    (λ c. rw c.match.keys8)
-    (λ c. rw c.match.keys9)
-    (λ c. rw c.match.keys10)
-    (λ c. rw c.match.keys11)
-    (λ c. rw c.match.keys12)
-    (λ c. rw c.match.keys13)
+    (λ c. rw c.in-0.is)
+    (λ c. rw c.in-1.is)
+    (λ c. rw c.in-2.is)
+    (λ c. rw c.in-3.is)
+    (λ c. rw c.in-4.is)
+    (λ c. rw c.in-5.is)
+    (λ c. rw c.in-6.is)
+    (λ c. rw c.in-7.is)
+    (λ c. rw c.in-8.is)
+    (λ c. rw c.in-9.is)
+    (λ c. rw c.in-10.is)
+    (λ c. rw c.in-11.is)
+    (λ c. rw c.in-12.is)
     returns_14)

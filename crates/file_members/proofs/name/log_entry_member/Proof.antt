@@ -7,18 +7,15 @@ use Rattle.file_members.proofs.name.log_entry_member.Tie as tie
 
 returns : tie.Need-returns
 returns c =
-    let c1 = c.before.before in
     answered_first _ _
-    (ask refl c1.or-member.ensures
-    (ask refl c.or-member2.ensures
+    (ask refl c.or_member-spot.ensures
+    (ask refl c.or_member.ensures
     done))
 
 pub log_entry_member_spec : {M : Type 1} → statement M
 log_entry_member_spec =
     tie.close
     (tie.spec
-    (λ c. search rules)
     (λ c κs. search rules)
-    (λ c. search rules)
     (λ c κs. search rules)
     returns)

@@ -21,8 +21,8 @@ pub member_spec : {M : Type 1} → statement M
 member_spec =
     tie.close
     (tie.spec
-    (λ c. rw (eq-eqb _ _ c.if1.true))
+    (λ c. rw (eq-eqb _ _ c.if-len-eq-LONE.true))
     (λ c κs. search rules)
     (λ c κs. search rules)
-    (λ c. rw (ne_eqb _ _ c.before.before.before.if1.false) (there _ _ _ true c.before.before.named.ensures (sym c.before.is-published.ensures ∙ c.if2.true)))
-    (λ c. rw (ne_eqb _ _ c.before.before.before.if1.false) (there _ _ _ false c.before.before.named.ensures (sym c.before.is-published.ensures ∙ c.if2.false))))
+    (λ c. rw (ne_eqb _ _ c.if-len-eq-LONE.false) (there _ _ _ true c.named-spot.ensures (sym c.is_published.ensures ∙ c.if-is_published.true)))
+    (λ c. rw (ne_eqb _ _ c.if-len-eq-LONE.false) (there _ _ _ false c.named-spot.ensures (sym c.is_published.ensures ∙ c.if-is_published.false))))

@@ -8,10 +8,10 @@ use Rattle.file_members.proofs.Names.{kind_arms, named_past}
 use Rattle.file_members.proofs.name.named.Statement.{statement}
 use Rattle.file_members.proofs.name.named.Tie as tie
 
-returns_14 : tie.Need-returns-14
+returns_14 : tie.Need-returns-in_default
 returns_14 c =
-    let kind = c.before.args.kind in
-    sym (named_past kind _ (no_arm kind_arms kind c.match.rest))
+    let kind = c.args.kind in
+    sym (named_past kind _ (no_arm kind_arms kind c.in_default.in_default-own.rest))
 
 pub named_spec : {M : Type 1} → statement M
 unfolding named_in kind_at
@@ -31,17 +31,17 @@ named_spec =
     (λ c κs. search rules)
     (λ c κs. search rules)
     (λ c κs. search rules)
-    (λ c. rw c.before.match.keys1 c.file-member.ensures)
-    (λ c. rw c.before.match.keys2 c.snapshot-member.ensures)
-    (λ c. rw c.before.match.keys3 c.schema-member.ensures)
-    (λ c. rw c.before.match.keys4 c.field-member.ensures)
-    (λ c. rw c.before.match.keys5 c.spec-member.ensures)
-    (λ c. rw c.before.match.keys6 c.partition-field-member.ensures)
-    (λ c. rw c.before.match.keys7 c.order-member.ensures)
-    (λ c. rw c.before.match.keys8 c.sort-field-member.ensures)
-    (λ c. rw c.before.match.keys9 c.ref-member.ensures)
-    (λ c. rw c.before.match.keys10 c.log-entry-member.ensures)
-    (λ c. rw c.before.match.keys11 c.file-entry-member.ensures)
-    (λ c. rw c.before.match.keys12 c.statistics-member.ensures)
-    (λ c. rw c.before.match.keys13 c.partition-statistics-member.ensures)
+    (λ c. rw c.in-0.is c.file_member.ensures)
+    (λ c. rw c.in-1.is c.snapshot_member.ensures)
+    (λ c. rw c.in-2.is c.schema_member.ensures)
+    (λ c. rw c.in-3.is c.field_member.ensures)
+    (λ c. rw c.in-4.is c.spec_member.ensures)
+    (λ c. rw c.in-5.is c.partition_field_member.ensures)
+    (λ c. rw c.in-6.is c.order_member.ensures)
+    (λ c. rw c.in-7.is c.sort_field_member.ensures)
+    (λ c. rw c.in-8.is c.ref_member.ensures)
+    (λ c. rw c.in-9.is c.log_entry_member.ensures)
+    (λ c. rw c.in-10.is c.file_entry_member.ensures)
+    (λ c. rw c.in-11.is c.statistics_member.ensures)
+    (λ c. rw c.in-12.is c.partition_statistics_member.ensures)
     returns_14)

@@ -7,26 +7,19 @@ use Rattle.file_members.proofs.name.partition_field_member.Tie as tie
 
 returns : tie.Need-returns
 returns c =
-    let c3 = c.before.before in
-    let c2 = c3.before.before in
-    let c1 = c2.before.before in
     answered_first _ _
-    (ask refl c1.or-member.ensures
-    (ask refl c2.or-member2.ensures
-    (ask refl c3.or-member3.ensures
-    (ask refl c.or-member4.ensures
+    (ask refl c.or_member-spot.ensures
+    (ask refl c.or_member-spot-2.ensures
+    (ask refl c.or_member-spot-3.ensures
+    (ask refl c.or_member.ensures
     done))))
 
 pub partition_field_member_spec : {M : Type 1} → statement M
 partition_field_member_spec =
     tie.close
     (tie.spec
-    (λ c. search rules)
     (λ c κs. search rules)
-    (λ c. search rules)
     (λ c κs. search rules)
-    (λ c. search rules)
     (λ c κs. search rules)
-    (λ c. search rules)
     (λ c κs. search rules)
     returns)

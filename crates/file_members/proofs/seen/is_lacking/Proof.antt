@@ -19,6 +19,6 @@ pub is_lacking_spec : {M : Type 1} → statement M
 is_lacking_spec =
     tie.close
     (tie.spec
-    (λ c. rw c.if1.true (and_none (eqb (standing_at c.before.args.version c.before.args.spot) 2)))
+    (λ c. rw c.if-seen.true (and_none (eqb (standing_at c.args.version c.args.spot) 2)))
     (λ c κs. search rules)
-    (λ c. rw c.before.if1.false (ap (λ n. eqb n 2) c.standing.ensures ∙ and_all_lem (eqb (standing_at c.before.before.args.version c.before.before.args.spot) 2))))
+    (λ c. rw c.if-seen.false (ap (λ n. eqb n 2) c.standing.ensures ∙ and_all_lem (eqb (standing_at c.args.version c.args.spot) 2))))

@@ -33,10 +33,10 @@ pub is_published_spec : {M : Type 1} → statement M
 is_published_spec =
     tie.close
     (tie.spec
-    (λ c. rw c.if1.true (sym (nothing _)))
-    (λ c. sym (ap (λ o. is_some o) (published_past _ _ c.if2.true)))
+    (λ c. rw c.if-spot-eq-NOTHING.true (sym (nothing _)))
+    (λ c. sym (ap (λ o. is_some o) (published_past _ _ c.if-spot-ge-MEMBERS.true)))
     (λ c κs. search rules)
     (λ c κs. search rules)
-    (λ c. rw c.standing.ensures (in_either _ _ c.before.match.keys1))
-    (λ c. rw (c.standing2.ensures, c.before.match.keys2) (published_two _))
-    (λ c. sym (published_any _ _ (ne_eqb _ _ (λ e. c.match.rest.0.1 (inl e))) (ne_eqb _ _ c.match.rest.1) (ne_eqb _ _ (λ e. c.match.rest.0.1 (inr e))) ∙ there _ c.before.before.if1.false c.before.if2.false)))
+    (λ c. rw c.standing.ensures (in_either _ _ c.in-1.is))
+    (λ c. rw (c.standing-in-2.ensures, c.in-2.is) (published_two _))
+    (λ c. sym (published_any _ _ (ne_eqb _ _ (λ e. c.in_default.in_default-own.rest.0.1 (inl e))) (ne_eqb _ _ c.in_default.in_default-own.rest.1) (ne_eqb _ _ (λ e. c.in_default.in_default-own.rest.0.1 (inr e))) ∙ there _ c.if-spot-eq-NOTHING.false c.if-spot-ge-MEMBERS.false)))

@@ -18,20 +18,19 @@ arms = (7 ∷ 10 ∷ []) ∷ (4 ∷ 26 ∷ []) ∷ (23 ∷ []) ∷ (28 ∷ []) �
 may_be : (version : ℕ) (ks : List ℕ) (spot : ℕ) → OneOf ks spot → Every (λ k. standing_at version k ≡ by_version version 1 1 1 1) ks → 1 ≡ standing_at version spot
 may_be version ks spot k each = sym (by_same version 1) ∙ at_keys (standing_at version) (by_version version 1 1 1 1) ks spot k each
 
-returns_12 : tie.Need-returns-12
+returns_12 : tie.Need-returns-in_default
 unfolding row_at
 returns_12 c =
-    let e = c.before in
-    let spot = e.before.before.args.spot in
-    sym (always_at e.before.before.args.version arms refl spot e.before.if1.false e.if2.false (no_arm arms spot c.match.rest))
+    let spot = c.args.spot in
+    sym (always_at c.args.version arms refl spot c.if-spot-eq-NOTHING.false c.if-spot-ge-MEMBERS.false (no_arm arms spot c.in_default.in_default-own.rest))
 
 pub standing_spec : {M : Type 1} → statement M
 unfolding row_at standing_in standing_at
 standing_spec =
     tie.close
     (tie.spec
-    (λ c. rw c.if1.true)
-    (λ c. sym (standing_past _ _ c.if2.true))
+    (λ c. rw c.if-spot-eq-NOTHING.true)
+    (λ c. sym (standing_past _ _ c.if-spot-ge-MEMBERS.true))
     (λ c κs. search rules)
     (λ c κs. search rules)
     (λ c κs. search rules)
@@ -39,13 +38,13 @@ standing_spec =
     (λ c κs. search rules)
     (λ c κs. search rules)
     (λ c κs. search rules)
-    (λ c. c.by-version.ensures ∙ at_keys (standing_at _) _ (7 ∷ 10 ∷ []) _ c.before.match.keys1 (refl & refl & done))
-    (λ c. c.by-version2.ensures ∙ at_keys (standing_at _) _ (4 ∷ 26 ∷ []) _ c.before.match.keys2 (refl & refl & done))
-    (λ c. c.by-version3.ensures ∙ at_keys (standing_at _) _ (23 ∷ []) _ c.before.match.keys3 (refl & done))
-    (λ c. c.by-version4.ensures ∙ at_keys (standing_at _) _ (28 ∷ []) _ c.before.match.keys4 (refl & done))
-    (λ c. c.by-version5.ensures ∙ at_keys (standing_at _) _ (29 ∷ []) _ c.before.match.keys5 (refl & done))
-    (λ c. c.by-version6.ensures ∙ at_keys (standing_at _) _ (2 ∷ 8 ∷ 11 ∷ 13 ∷ 18 ∷ 35 ∷ 43 ∷ []) _ c.before.match.keys6 (refl & refl & refl & refl & refl & refl & refl & done))
-    (λ c. c.by-version7.ensures ∙ at_keys (standing_at _) _ (9 ∷ 12 ∷ 19 ∷ []) _ c.before.match.keys7 (refl & refl & refl & done))
-    (λ c. may_be c.before.before.before.args.version (14 ∷ 16 ∷ 20 ∷ 22 ∷ 25 ∷ 30 ∷ 32 ∷ 54 ∷ 56 ∷ 64 ∷ []) _ c.match.keys8 (refl & refl & refl & refl & refl & refl & refl & refl & refl & refl & done))
-    (λ c. may_be c.before.before.before.args.version (15 ∷ 17 ∷ 21 ∷ 31 ∷ 55 ∷ 65 ∷ []) _ c.match.keys9 (refl & refl & refl & refl & refl & refl & done))
+    (λ c. c.by_version.ensures ∙ at_keys (standing_at _) _ (7 ∷ 10 ∷ []) _ c.in-7.is (refl & refl & done))
+    (λ c. c.by_version-in-4.ensures ∙ at_keys (standing_at _) _ (4 ∷ 26 ∷ []) _ c.in-4.is (refl & refl & done))
+    (λ c. c.by_version-in-23.ensures ∙ at_keys (standing_at _) _ (23 ∷ []) _ c.in-23.is (refl & done))
+    (λ c. c.by_version-in-28.ensures ∙ at_keys (standing_at _) _ (28 ∷ []) _ c.in-28.is (refl & done))
+    (λ c. c.by_version-in-29.ensures ∙ at_keys (standing_at _) _ (29 ∷ []) _ c.in-29.is (refl & done))
+    (λ c. c.by_version-in-2.ensures ∙ at_keys (standing_at _) _ (2 ∷ 8 ∷ 11 ∷ 13 ∷ 18 ∷ 35 ∷ 43 ∷ []) _ c.in-2.is (refl & refl & refl & refl & refl & refl & refl & done))
+    (λ c. c.by_version-in-9.ensures ∙ at_keys (standing_at _) _ (9 ∷ 12 ∷ 19 ∷ []) _ c.in-9.is (refl & refl & refl & done))
+    (λ c. may_be c.args.version (14 ∷ 16 ∷ 20 ∷ 22 ∷ 25 ∷ 30 ∷ 32 ∷ 54 ∷ 56 ∷ 64 ∷ []) _ c.in-14.is (refl & refl & refl & refl & refl & refl & refl & refl & refl & refl & done))
+    (λ c. may_be c.args.version (15 ∷ 17 ∷ 21 ∷ 31 ∷ 55 ∷ 65 ∷ []) _ c.in-15.is (refl & refl & refl & refl & refl & refl & done))
     returns_12)

@@ -6,25 +6,21 @@ use Rattle.file_members.specs.Faults.{fault_in}
 use Rattle.file_members.proofs.value.fault_of.Statement.{statement}
 use Rattle.file_members.proofs.value.fault_of.Tie as tie
 
-returns_2 : tie.Need-returns-2
+returns_2 : tie.Need-returns-then-want-eq-FORMAT_VERSION
 unfolding fault_in
 returns_2 c =
-    let v = c.before in
-    rw (sym v.before.before.Passes-over.ensures ∙ v.before.if1.false, eq-eqb _ 1 v.if2.true) c.version-fault.ensures
+    rw (sym c.passes_over.ensures ∙ c.if-passes_over.false, eq-eqb _ 1 c.if-want-eq-FORMAT_VERSION.true) c.version_fault.ensures
 
-returns_3 : tie.Need-returns-3
+returns_3 : tie.Need-returns-then-is_null_at
 unfolding fault_in
 returns_3 c =
-    let v = c.before.before in
-    rw (sym v.before.before.Passes-over.ensures ∙ v.before.if1.false, ne_eqb _ 1 v.if2.false, sym c.before.is-null-at.ensures ∙ c.if3.true)
+    rw (sym c.passes_over.ensures ∙ c.if-passes_over.false, ne_eqb _ 1 c.if-want-eq-FORMAT_VERSION.false, sym c.is_null_at.ensures ∙ c.if-is_null_at.true)
 
-returns_4 : tie.Need-returns-4
+returns_4 : tie.Need-returns
 unfolding fault_in
 returns_4 c =
-    let n = c.before.before in
-    let v = n.before.before in
-    rw (sym v.before.before.Passes-over.ensures ∙ v.before.if1.false, ne_eqb _ 1 v.if2.false, sym n.before.is-null-at.ensures ∙ n.if3.false, ← c.before.like-of.ensures)
-    c.like-fault.ensures
+    rw (sym c.passes_over.ensures ∙ c.if-passes_over.false, ne_eqb _ 1 c.if-want-eq-FORMAT_VERSION.false, sym c.is_null_at.ensures ∙ c.if-is_null_at.false, ← c.like_of.ensures)
+    c.like_fault.ensures
 
 pub fault_of_spec : {M : Type 1} → statement M
 unfolding fault_in
@@ -32,7 +28,7 @@ fault_of_spec =
     tie.close
     (tie.spec
     (λ c κs. search rules)
-    (λ c. rw (sym c.before.Passes-over.ensures ∙ c.if1.true))
+    (λ c. rw (sym c.passes_over.ensures ∙ c.if-passes_over.true))
     (λ c κs. search rules)
     returns_2
     (λ c κs. search rules)

@@ -10,6 +10,6 @@ unfolding like_fault
 like_fault_spec =
     tie.close
     (tie.spec
-    (λ c. rw (eq-eqb _ _ c.if1.true))
+    (λ c. rw (eq-eqb _ _ c.if-spot-eq-NOTHING.true))
     (λ c κs. search rules)
-    (λ c. rw (ne_eqb _ _ c.before.if1.false) c.fault-of.ensures))
+    (λ c. rw (ne_eqb _ _ c.if-spot-eq-NOTHING.false) c.fault_of.ensures))

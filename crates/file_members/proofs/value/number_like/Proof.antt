@@ -15,10 +15,10 @@ unfolding number_like_at
 number_like_spec =
     tie.close
     (tie.spec
-    (λ c. at_keys number_like_at 27 (4 ∷ 14 ∷ 19 ∷ 24 ∷ 26 ∷ 46 ∷ 52 ∷ 55 ∷ 57 ∷ 60 ∷ 63 ∷ 66 ∷ 68 ∷ []) _ c.match.keys1 (refl & refl & refl & refl & refl & refl & refl & refl & refl & refl & refl & refl & refl & done))
-    (λ c. at_keys number_like_at 27 (5 ∷ 25 ∷ 27 ∷ 56 ∷ 58 ∷ 61 ∷ []) _ c.match.keys2 (refl & refl & refl & refl & refl & refl & done))
-    (λ c. at_keys number_like_at 16 (6 ∷ 9 ∷ 12 ∷ 35 ∷ 40 ∷ 42 ∷ 49 ∷ 54 ∷ []) _ c.match.keys3 (refl & refl & refl & refl & refl & refl & refl & refl & done))
-    (λ c. at_keys number_like_at 16 (13 ∷ 36 ∷ 43 ∷ []) _ c.match.keys4 (refl & refl & refl & done))
-    (λ c. at_keys number_like_at 31 (23 ∷ 28 ∷ []) _ c.match.keys5 (refl & refl & done))
-    (λ c. rw c.match.keys6)
-    (λ c. sym (beside_other 0 number_likes arms c.before.args.want refl (no_arm arms c.before.args.want c.match.rest))))
+    (λ c. at_keys number_like_at 27 (4 ∷ 14 ∷ 19 ∷ 24 ∷ 26 ∷ 46 ∷ 52 ∷ 55 ∷ 57 ∷ 60 ∷ 63 ∷ 66 ∷ 68 ∷ []) _ c.in-4.is (refl & refl & refl & refl & refl & refl & refl & refl & refl & refl & refl & refl & refl & done))
+    (λ c. at_keys number_like_at 27 (5 ∷ 25 ∷ 27 ∷ 56 ∷ 58 ∷ 61 ∷ []) _ c.in-5.is (refl & refl & refl & refl & refl & refl & done))
+    (λ c. at_keys number_like_at 16 (6 ∷ 9 ∷ 12 ∷ 35 ∷ 40 ∷ 42 ∷ 49 ∷ 54 ∷ []) _ c.in-6.is (refl & refl & refl & refl & refl & refl & refl & refl & done))
+    (λ c. at_keys number_like_at 16 (13 ∷ 36 ∷ 43 ∷ []) _ c.in-13.is (refl & refl & refl & done))
+    (λ c. at_keys number_like_at 31 (23 ∷ 28 ∷ []) _ c.in-23.is (refl & refl & done))
+    (λ c. rw c.in-29.is)
+    (λ c. sym (beside_other 0 number_likes arms c.args.want refl (no_arm arms c.args.want c.in_default.in_default-own.rest))))

@@ -36,7 +36,7 @@ unfolding is_something row_at
 is_something_spec =
     tie.close
     (tie.spec
-    (λ c. rw c.if1.true)
-    (λ c. sym (member_here _ c.before.if1.false c.if2.true))
-    (λ c. sym (nothing_between _ c.before.if2.false c.if3.true))
-    (λ c. record_here _ c.if3.false))
+    (λ c. rw c.if-want-eq-NOTHING.true)
+    (λ c. sym (member_here _ c.if-want-eq-NOTHING.false c.if-want-lt-MEMBERS.true))
+    (λ c. sym (nothing_between _ c.if-want-lt-MEMBERS.false c.if-want-lt-RECORDS.true))
+    (λ c. record_here _ c.if-want-lt-RECORDS.false))

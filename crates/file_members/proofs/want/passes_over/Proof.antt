@@ -37,6 +37,6 @@ passes_over_spec =
     tie.close
     (tie.spec
     (λ c κs. search rules)
-    (λ c. at_keys (λ x. passes_over (shape_of x)) true (30 ∷ 32 ∷ 64 ∷ []) _ c.match.keys1 (refl & refl & refl & done))
-    (λ c. at_keys (λ x. passes_over (shape_of x)) true (31 ∷ 65 ∷ []) _ c.match.keys2 (refl & refl & done))
-    (λ c. rw c.is-something.ensures (no_other _ (no_arm arms _ c.before.match.rest))))
+    (λ c. at_keys (λ x. passes_over (shape_of x)) true (30 ∷ 32 ∷ 64 ∷ []) _ c.in-30.is (refl & refl & refl & done))
+    (λ c. at_keys (λ x. passes_over (shape_of x)) true (31 ∷ 65 ∷ []) _ c.in-31.is (refl & refl & done))
+    (λ c. rw c.is_something.ensures (no_other _ (no_arm arms _ c.in_default.in_default-own.rest))))

@@ -33,7 +33,7 @@ want_of_spec =
     tie.close
     (tie.spec
     (λ c κs. search rules)
-    (λ c. absent _ _ (sym c.before.standing.ensures ∙ c.if1.true))
+    (λ c. absent _ _ (sym c.standing.ensures ∙ c.if-standing-eq-ABSENT.true))
     (λ c κs. search rules)
-    (λ c. there _ _ true (λ e. c.before.before.if1.false (c.before.before.before.standing.ensures ∙ e)) (sym c.before.Passes-over.ensures ∙ c.if2.true))
-    (λ c. there _ _ false (λ e. c.before.before.if1.false (c.before.before.before.standing.ensures ∙ e)) (sym c.before.Passes-over.ensures ∙ c.if2.false)))
+    (λ c. there _ _ true (λ e. c.if-standing-eq-ABSENT.false (c.standing.ensures ∙ e)) (sym c.passes_over.ensures ∙ c.if-passes_over.true))
+    (λ c. there _ _ false (λ e. c.if-standing-eq-ABSENT.false (c.standing.ensures ∙ e)) (sym c.passes_over.ensures ∙ c.if-passes_over.false)))

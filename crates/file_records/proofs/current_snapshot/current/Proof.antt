@@ -11,37 +11,34 @@ use Rattle.file_records.proofs.Chosen.{null_none, absent_none, minus_none, some_
 use Rattle.file_records.proofs.current_snapshot.current.Statement.{statement}
 use Rattle.file_records.proofs.current_snapshot.current.Tie as tie
 
-null : tie.Need-returns
+null : tie.Need-returns-then-head_of-eq110
 unfolding laid_current
-null c = rw (null_none _ _ (sym c.before.head_of.ensures ∙ c.if1.true))
+null c = rw (null_none _ _ (sym c.head_of.ensures ∙ c.if-head_of-eq110.true))
 
-absent : tie.Need-returns-2
+absent : tie.Need-returns-then-not-is_there
 unfolding laid_current
 absent c =
-    let h = c.before.before.before in
-    rw (absent_none _ _ (λ e. c.before.before.if1.false (h.head_of.ensures ∙ e)) (sym c.before.is-there.ensures ∙ not-true _ c.if2.true))
+    rw (absent_none _ _ (λ e. c.if-head_of-eq110.false (c.head_of.ensures ∙ e)) (sym c.is_there.ensures ∙ not-true _ c.if-not-is_there.true-raw))
 
-minus : tie.Need-returns-3
+minus : tie.Need-returns-then-same_snapshot
 unfolding laid_current
 minus c =
     let b = c.before in
     let v = b.before in
     let f = v.before.before in
-    let h = f.before.before.before in
-    let value = to_z-of_z {w = w64} (sfits_of v.struct_told.given.0.1) ∙ v.before.number.ensures in
+    let value = to_z-of_z {w = w64} (sfits_of v.struct_told-1.given.0.1) ∙ v.number-z.ensures in
     rw
-    (minus_none _ _ (λ e. f.before.before.if1.false (h.head_of.ensures ∙ e)) (sym f.before.is-there.ensures ∙ not-false _ f.if2.false) (ap (λ (z : ℤ). eq_z z (negsuc 0)) (sym value) ∙ sym b.same-snapshot.ensures ∙ c.if3.true))
+    (minus_none _ _ (λ e. f.if-head_of-eq110.false (f.head_of.ensures ∙ e)) (sym f.is_there.ensures ∙ not-false _ f.if-not-is_there.false-raw) (ap (λ (z : ℤ). eq_z z (negsuc 0)) (sym value) ∙ sym b.same_snapshot.ensures ∙ c.if-same_snapshot.true))
 
-given : tie.Need-returns-4
+given : tie.Need-returns
 unfolding laid_current
 given c =
     let b = c.before in
     let v = b.before in
     let f = v.before.before in
-    let h = f.before.before.before in
-    let value = to_z-of_z {w = w64} (sfits_of v.struct_told.given.0.1) ∙ v.before.number.ensures in
+    let value = to_z-of_z {w = w64} (sfits_of v.struct_told-1.given.0.1) ∙ v.number-z.ensures in
     rw
-    (value, some_current_lem _ _ (λ e. f.before.before.if1.false (h.head_of.ensures ∙ e)) (sym f.before.is-there.ensures ∙ not-false _ f.if2.false) (ap (λ (z : ℤ). eq_z z (negsuc 0)) (sym value) ∙ sym b.same-snapshot.ensures ∙ c.if3.false))
+    (value, some_current_lem _ _ (λ e. f.if-head_of-eq110.false (f.head_of.ensures ∙ e)) (sym f.is_there.ensures ∙ not-false _ f.if-not-is_there.false-raw) (ap (λ (z : ℤ). eq_z z (negsuc 0)) (sym value) ∙ sym b.same_snapshot.ensures ∙ c.if-same_snapshot.false))
 
 pub current_spec : {M : Type 1} → statement M
 current_spec =

@@ -1,6 +1,7 @@
 -- Field by field.
 use mathlib.Core.Path.{◌∙◌}
 use borrow.Author.Rules.{rules, sfits_of}
+use mir.Syntax.{w32, w64}
 use mir.Facts.{to_z-of_z}
 use Rattle.file_records.proofs.Singles.{fields_laid}
 use Rattle.file_records.proofs.fields.fields_of.Statement.{statement}
@@ -21,19 +22,18 @@ returns c =
     let u = q.before in
     let l = u.before in
     let i = l.before in
-    let s = i.before.before in
-    fields_laid s.args.bytes.now s.args.cells.now s.args.version
-    i.uuid-at.ensures
-    l.text_at.ensures
-    (to_z-of_z (sfits_of t1.struct_told.given.0.1) ∙ u.number.ensures)
-    q.last-sequence.ensures
-    r.next_row.ensures
-    (to_z-of_z (sfits_of t2.struct-told2.given.0.1) ∙ k.narrow-number.ensures)
-    w.current.ensures
-    h.current-schema.ensures
-    (to_z-of_z (sfits_of c.struct-told3.given.0.1) ∙ o.number2.ensures)
-    d.default-spec.ensures
-    p.last-partition.ensures
+    fields_laid i.args.bytes.now i.args.cells.now i.args.version
+    i.uuid_at-table_uuid.ensures
+    l.text_at-location.ensures
+    (to_z-of_z {w = w64} (sfits_of t1.struct_told-1.given.0.1) ∙ u.number-updated.ensures)
+    q.last_sequence-last_sequence_number.ensures
+    r.next_row-next_row_id.ensures
+    (to_z-of_z {w = w32} (sfits_of t2.struct_told-2-1.given.0.1) ∙ k.narrow_number-column.ensures)
+    w.current-now.ensures
+    h.current_schema-current_schema_id.ensures
+    (to_z-of_z {w = w64} (sfits_of c.struct_told-3-1.given.0.1) ∙ o.number-order.ensures)
+    d.default_spec-default_spec_id.ensures
+    p.last_partition-last_partition_id.ensures
 
 pub fields_of_spec : {M : Type 1} → statement M
 fields_of_spec =

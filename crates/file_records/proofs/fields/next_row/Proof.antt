@@ -9,5 +9,5 @@ next_row_spec =
     tie.close
     (tie.spec
     (λ c κs. search rules)
-    (λ c. rw (lt-ltb 2 _ c.before.if1.true) c.natural.ensures)
-    (λ c. rw (le-ltb 2 _ c.if1.false)))
+    (λ c. rw (lt-ltb 2 _ c.if-version-gt2.true) c.natural.ensures)
+    (λ c. rw (le-ltb 2 _ c.if-version-gt2.false)))

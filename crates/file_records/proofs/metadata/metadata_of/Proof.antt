@@ -16,19 +16,18 @@ returns c =
     let l = m.before in
     let r = l.before in
     let n = r.before in
-    let f = n.before in
     λ t.
     record {
-      fields = f.fields-of.ensures t;
-      snapshots = n.snapshots.ensures t;
-      refs = r.refs.ensures t;
-      snapshot_log = l.snapshot-log.ensures t;
-      metadata_log = m.metadata-log.ensures t;
-      schemas = s.schemas.ensures t;
-      sort_orders = o.sort-orders.ensures t;
-      statistics = p.statistics.ensures t;
-      partition_statistics = q.statistics2.ensures t;
-      partition_specs = c.partition-specs.ensures t;
+      fields = n.fields_of-fields.ensures t;
+      snapshots = n.snapshots-snapshots.ensures t;
+      refs = r.refs-refs.ensures t;
+      snapshot_log = l.snapshot_log-snapshot_log.ensures t;
+      metadata_log = m.metadata_log-metadata_log.ensures t;
+      schemas = s.schemas-schemas.ensures t;
+      sort_orders = o.sort_orders-sort_orders.ensures t;
+      statistics = p.statistics-statistics.ensures t;
+      partition_statistics = q.statistics-partition_statistics.ensures t;
+      partition_specs = c.partition_specs-partition_specs.ensures t;
     }
 
 pub metadata_of_spec : {M : Type 1} → statement M

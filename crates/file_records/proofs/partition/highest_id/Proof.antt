@@ -11,33 +11,31 @@ use Rattle.file_records.proofs.Largest.{Topped, top_start, top_on, top_end, id_i
 use Rattle.file_records.proofs.partition.highest_id.Statement.{statement}
 use Rattle.file_records.proofs.partition.highest_id.Tie as tie
 
-abbrev invariant_loop : tie.invariant_loop
+abbrev invariant_loop : tie.invariant-loop-i
 invariant_loop bytes cells list id₀ i₀ id i = Topped (pos 0) (id_in bytes cells list) (count_at cells 8 list) id.0 i
 
-abbrev decreases_loop : tie.decreases_loop
+abbrev decreases_loop : tie.decreases-loop-i
 decreases_loop bytes cells list id₀ i₀ id i = i
 
-few : (c : tie.At-loop invariant_loop decreases_loop) → c.loop.i ≤ 8
-few c = let s = c.before.before.before in omega (arith, c.loop.invariant.sofar, count_small s.args.cells.now 8 s.args.list)
+few : (c : tie.At-loop-i invariant_loop decreases_loop) → c.loop-i.i ≤ 8
+few c = omega (arith, c.loop-i.invariant.sofar, count_small c.args.cells.now 8 c.args.list)
 
-loop_holds : tie.Need-loop-init invariant_loop decreases_loop
-loop_holds c = rw c.count_of.ensures (top_start refl)
+loop_holds : tie.Need-loop-i-init invariant_loop decreases_loop
+loop_holds c = rw c.count_of-i.ensures (top_start refl)
 
-loop_again : tie.Need-loop-preserved invariant_loop decreases_loop
+loop_again : tie.Need-loop-i-preserved invariant_loop decreases_loop
 loop_again c =
     let f = c.before in
     let l = f.before.before in
-    let s = l.before.before.before in
-    let k = l.loop.i - 1 in
-    top_on l.loop.invariant f.before.loop-test.true
-    (f.field-id.ensures ∙ ap (λ (p : ℕ). or_else (maybe_narrow_at s.args.bytes.now s.args.cells.now p) (pos (1000 + k))) (id_place s.args.list k))
-    c.larger-id.ensures
+    let k = l.loop-i.i - 1 in
+    top_on l.loop-i.invariant f.loop-i-test.true
+    (f.field_id-x.ensures ∙ ap (λ (p : ℕ). or_else (maybe_narrow_at l.args.bytes.now l.args.cells.now p) (pos (1000 + k))) (id_place l.args.list k))
+    c.larger_id-id.ensures
 
 returns : tie.Need-returns invariant_loop decreases_loop
 returns c =
     let l = c.before in
-    let s = l.before.before.before in
-    top_end l.loop.invariant c.loop-test.false ∙ highest_in_lem s.args.bytes.now s.args.cells.now s.args.list
+    top_end l.loop-i.invariant c.loop-i-test.false ∙ highest_in_lem l.args.bytes.now l.args.cells.now l.args.list
 
 pub highest_id_spec : {M : Type 1} → statement M
 highest_id_spec =

@@ -12,5 +12,5 @@ larger_id_spec =
     (λ c κs. search rules)
     (λ c κs. search rules)
     (λ c κs. search rules)
-    (λ c. let b = c.before in rw (sym (b.is_below.ensures ∙ ap₂ lt_z b.before.before.field-key.ensures.0 b.before.field-key2.ensures.0) ∙ c.if1.true))
-    (λ c. let b = c.before in rw (sym (b.is_below.ensures ∙ ap₂ lt_z b.before.before.field-key.ensures.0 b.before.field-key2.ensures.0) ∙ c.if1.false)))
+    (λ c. rw (sym (c.is_below.ensures ∙ ap₂ lt_z c.field_key.ensures.0 c.field_key-2.ensures.0) ∙ c.if-is_below.true))
+    (λ c. rw (sym (c.is_below.ensures ∙ ap₂ lt_z c.field_key.ensures.0 c.field_key-2.ensures.0) ∙ c.if-is_below.false)))

@@ -16,7 +16,6 @@ largest_id_spec =
     (λ c κs. search rules)
     (λ c κs. search rules)
     (λ c.
-    let b = c.before.before in
-    rw (sym b.before.single-decides.ensures ∙ b.if1.true) (c.larger-id.ensures ∙ ap (λ (z : ℤ). larger z (pos 999)) c.before.highest-id.ensures))
+    rw (sym c.single_decides.ensures ∙ c.if-single_decides.true) (c.larger_id.ensures ∙ ap (λ (z : ℤ). larger z (pos 999)) c.highest_id.ensures))
     (λ c κs. search rules)
-    (λ c. rw (sym c.before.before.single-decides.ensures ∙ c.before.if1.false) c.largest-listed.ensures))
+    (λ c. rw (sym c.single_decides.ensures ∙ c.if-single_decides.false) c.largest_listed.ensures))

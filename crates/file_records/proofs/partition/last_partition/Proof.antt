@@ -7,15 +7,14 @@ use Rattle.file_records.specs.Decoded.{maybe_narrow_at}
 use Rattle.file_records.proofs.partition.last_partition.Statement.{statement}
 use Rattle.file_records.proofs.partition.last_partition.Tie as tie
 
-given : tie.Need-returns
+given : tie.Need-returns-then-is_there
 unfolding maybe_narrow_at
 given c =
-    let b = c.before.before in
-    to_z-of_z {w = w32} (sfits_of c.struct_told.given.0.1) ∙ c.before.narrow-number.ensures ∙ rw (sym b.before.is-there.ensures ∙ b.if1.true)
+    to_z-of_z {w = w32} (sfits_of c.struct_told-1.given.0.1) ∙ c.narrow_number-z.ensures ∙ rw (sym c.is_there.ensures ∙ c.if-is_there.true)
 
-left_out : tie.Need-returns-2
+left_out : tie.Need-returns
 unfolding maybe_narrow_at
-left_out c = rw (sym c.before.before.is-there.ensures ∙ c.before.if1.false) c.largest-id.ensures
+left_out c = rw (sym c.is_there.ensures ∙ c.if-is_there.false) c.largest_id.ensures
 
 pub last_partition_spec : {M : Type 1} → statement M
 last_partition_spec = tie.close (tie.spec (λ c κs. search rules) (λ c κs. search rules) given (λ c κs. search rules) left_out)

@@ -17,9 +17,7 @@ field_at_spec =
     (λ c. search rules)
     (λ c κs. search rules)
     (λ c. search rules)
-    (λ c. search rules)
     (λ c κs. search rules)
     (λ c.
     let k = c.before in
-    let n = k.before.before in
-    rw (to_z-of_z {w = w32} (sfits_of c.struct_told.given.0.1) ∙ n.before.narrow-number.ensures, n.name-at.ensures, k.choice.ensures)))
+    rw (to_z-of_z {w = w32} (sfits_of c.struct_told-1.given.0.1) ∙ k.narrow_number-id.ensures, k.name_at-name.ensures, k.choice-field_type.ensures)))

@@ -9,15 +9,15 @@ use Rattle.file_records.specs.Decoded.{maybe_narrow_at}
 use Rattle.file_records.proofs.record.field_id.Statement.{statement}
 use Rattle.file_records.proofs.record.field_id.Tie as tie
 
-given : tie.Need-returns
+given : tie.Need-returns-then-is_there
 unfolding maybe_narrow_at
 given c =
-    let t = sym c.before.before.before.is-there.ensures ∙ c.before.before.if1.true in
-    to_z-of_z {w = w32} (sfits_of c.struct_told.given.0.1) ∙ c.before.narrow-number.ensures ∙ rw t
+    let t = sym c.is_there.ensures ∙ c.if-is_there.true in
+    to_z-of_z {w = w32} (sfits_of c.struct_told-1.given.0.1) ∙ c.narrow_number-z.ensures ∙ rw t
 
-left_out : tie.Need-returns-2
+left_out : tie.Need-returns
 unfolding maybe_narrow_at
-left_out c = rw (sym c.before.is-there.ensures ∙ c.if1.false) (to_z_pos w32 {n = 1000 + c.before.before.before.args.position} (omega arith))
+left_out c = rw (sym c.is_there.ensures ∙ c.if-is_there.false) (to_z_pos w32 {n = 1000 + c.args.position} (omega arith))
 
 pub field_id_spec : {M : Type 1} → statement M
 field_id_spec =

@@ -16,4 +16,4 @@ file_entry_at_spec =
     (λ c κs. search rules)
     (λ c. search rules)
     (λ c κs. search rules)
-    (λ c. rw (c.before.before.text_at.ensures, to_z-of_z {w = w64} (sfits_of c.struct_told.given.0.1) ∙ c.before.number.ensures)))
+    (λ c. rw (c.text_at-metadata_file.ensures, to_z-of_z {w = w64} (sfits_of c.struct_told-1.given.0.1) ∙ c.number-time.ensures)))

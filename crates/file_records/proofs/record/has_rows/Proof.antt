@@ -10,5 +10,5 @@ has_rows_spec =
     (tie.spec
     (λ c κs. search rules)
     (λ c κs. search rules)
-    (λ c. rw (sym c.before.before.is-there.ensures ∙ c.before.if1.true) c.is-there2.ensures)
-    (λ c. rw (sym c.before.is-there.ensures ∙ c.if1.false)))
+    (λ c. rw (sym c.is_there.ensures ∙ c.if-is_there.true) c.is_there-then-is_there.ensures)
+    (λ c. rw (sym c.is_there.ensures ∙ c.if-is_there.false)))

@@ -15,4 +15,4 @@ log_entry_at_spec =
     (λ c κs. search rules)
     (λ c. search rules)
     (λ c κs. search rules)
-    (λ c. rw (to_z-of_z {w = w64} (sfits_of c.before.struct_told.given.0.1) ∙ c.before.before.before.number.ensures, to_z-of_z {w = w64} (sfits_of c.struct-told2.given.0.1) ∙ c.before.before.number2.ensures)))
+    (λ c. rw (to_z-of_z {w = w64} (sfits_of c.struct_told-1.given.0.1) ∙ c.number-id.ensures, to_z-of_z {w = w64} (sfits_of c.struct_told-2-1.given.0.1) ∙ c.number-time.ensures)))

@@ -12,8 +12,8 @@ use Rattle.file_records.proofs.Parts.{partition_field_laid}
 use Rattle.file_records.proofs.record.partition_field_at.Statement.{statement}
 use Rattle.file_records.proofs.record.partition_field_at.Tie as tie
 
-small : (c : tie.After-struct-known) → c.before.before.transform-at.result.buckets ≤ 2147483647
-small c = rw c.before.before.transform-at.ensures (buckets_small _)
+small : (c : tie.After-struct_known-1) → c.transform_at-transform.result.buckets ≤ 2147483647
+small c = rw c.transform_at-transform.ensures (buckets_small _)
 
 returns : tie.Need-returns
 returns c =
@@ -21,13 +21,12 @@ returns c =
     let m = t.before in
     let f = m.before in
     let n = f.before in
-    let s = n.before.before in
-    partition_field_laid s.args.bytes.now s.args.cells.now s.args.at s.args.position
-    (to_z-of_z (sfits_of c.before.struct_told.given.0.1) ∙ n.narrow-number.ensures)
-    f.field-id.ensures
-    (to_z_pos w32 {n = t.transform-at.result.buckets} (omega (arith, small c)) ∙ ap (λ (x : Transform). pos x.buckets) t.transform-at.ensures)
-    (ap (λ (x : Transform). x.kind) t.transform-at.ensures)
-    m.name-at.ensures
+    partition_field_laid n.args.bytes.now n.args.cells.now n.args.at n.args.position
+    (to_z-of_z {w = w32} (sfits_of c.struct_told-1.given.0.1) ∙ n.narrow_number-source.ensures)
+    f.field_id-field_id.ensures
+    (to_z_pos w32 {n = t.transform_at-transform.result.buckets} (omega (arith, small c)) ∙ ap (λ (x : Transform). pos x.buckets) t.transform_at-transform.ensures)
+    (ap (λ (x : Transform). x.kind) t.transform_at-transform.ensures)
+    m.name_at-name.ensures
 
 pub partition_field_at_spec : {M : Type 1} → statement M
 partition_field_at_spec =

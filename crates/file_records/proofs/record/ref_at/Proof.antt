@@ -13,4 +13,4 @@ ref_at_spec =
     (λ c κs. search rules)
     (λ c. search rules)
     (λ c κs. search rules)
-    (λ c. rw (c.reference-at.ensures, c.before.name-at.ensures)))
+    (λ c. rw (c.reference_at-reference.ensures, c.name_at-name.ensures)))

@@ -4,4 +4,4 @@ use Rattle.file_records.proofs.record.row_number.Statement.{statement}
 use Rattle.file_records.proofs.record.row_number.Tie as tie
 
 pub row_number_spec : {M : Type 1} → statement M
-row_number_spec = tie.close (tie.spec (λ c κs. search rules) (λ c. rw c.before.if1.true c.natural.ensures) (λ c. rw c.if1.false))
+row_number_spec = tie.close (tie.spec (λ c κs. search rules) (λ c. rw c.if-has.true c.natural.ensures) (λ c. rw c.if-has.false))

@@ -3,6 +3,7 @@ use Prim.Native.Nat.{ℕ, ◌+◌, ◌-◌}
 use mathlib.Core.Path.{ap, ◌∙◌}
 use native.Mathlib.Omega.{arith}
 use borrow.Author.Rules.{rules, sfits_of}
+use mir.Syntax.{w32}
 use mir.Facts.{to_z-of_z}
 use Rattle.records.specs.Blanks.{no_schema_field, no_schema}
 use Rattle.records.specs.declared.schema.Schema.{Schema}
@@ -13,31 +14,28 @@ use Rattle.file_records.proofs.Parts.{count_small, in_record, schema_laid}
 use Rattle.file_records.proofs.record.schema_at.Statement.{statement}
 use Rattle.file_records.proofs.record.schema_at.Tie as tie
 
-abbrev invariant_loop : tie.invariant_loop
+abbrev invariant_loop : tie.invariant-loop-i
 invariant_loop bytes cells at count schema₀ i₀ schema i = Left laid_schema_field (λ k. field_at bytes cells (item_at 8 (at + 2) k)) 32 no_schema_field count schema.items i
 
-abbrev decreases_loop : tie.decreases_loop
+abbrev decreases_loop : tie.decreases-loop-i
 decreases_loop bytes cells at count schema₀ i₀ schema i = count - i
 
-loop_holds : tie.Need-loop-init invariant_loop decreases_loop
+loop_holds : tie.Need-loop-i-init invariant_loop decreases_loop
 unfolding no_schema
 loop_holds c =
-    let n = c.before in
-    left_start (omega (arith, n.count_of.ensures, count_small n.before.before.args.cells.now 32 (n.before.before.args.at + 2))) (ap (λ (t : Schema). t.items) c.blank.ensures)
+    left_start (omega (arith, c.count_of-count.ensures, count_small c.args.cells.now 32 (c.args.at + 2))) (ap (λ (t : Schema). t.items) c.blank-schema.ensures)
 
-loop_again : tie.Need-loop-preserved invariant_loop decreases_loop
+loop_again : tie.Need-loop-i-preserved invariant_loop decreases_loop
 loop_again c =
     let l = c.before.before in
-    let s = l.before.before.before.before in
-    left_more l.loop.invariant c.before.loop-test.true (c.field_at.ensures ∙ ap (λ (p : ℕ). laid_schema_field (field_at s.args.bytes.now s.args.cells.now p)) (in_record s.args.at l.loop.i))
+    left_more l.loop-i.invariant c.loop-i-test.true (c.field_at-field.ensures ∙ ap (λ (p : ℕ). laid_schema_field (field_at l.args.bytes.now l.args.cells.now p)) (in_record l.args.at l.loop-i.i))
 
 returns : tie.Need-returns invariant_loop decreases_loop
 returns c =
     let e = c.before.before in
     let l = e.before in
     let n = l.before.before in
-    let s = n.before.before in
-    schema_laid s.args.bytes.now s.args.cells.now s.args.at _ l.loop.i e.loop-test.false l.loop.schema.items _ n.count_of.ensures (to_z-of_z (sfits_of c.struct_told.given.0.1) ∙ c.before.narrow-number.ensures) l.loop.invariant
+    schema_laid n.args.bytes.now n.args.cells.now n.args.at _ l.loop-i.i e.loop-i-test.false l.loop-i.schema.items _ n.count_of-count.ensures (to_z-of_z {w = w32} (sfits_of c.struct_told-1.given.0.1) ∙ c.narrow_number-z.ensures) l.loop-i.invariant
 
 pub schema_at_spec : {M : Type 1} → statement M
 schema_at_spec =

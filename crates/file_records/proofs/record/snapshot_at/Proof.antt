@@ -1,6 +1,7 @@
 -- Field by field.
 use mathlib.Core.Path.{◌∙◌}
 use borrow.Author.Rules.{rules, sfits_of}
+use mir.Syntax.{w64}
 use mir.Facts.{to_z-of_z}
 use Rattle.file_records.proofs.Records.{snapshot_laid}
 use Rattle.file_records.proofs.record.snapshot_at.Statement.{statement}
@@ -19,16 +20,15 @@ returns c =
     let n2 = n3.before in
     let p = n2.before in
     let n1 = p.before in
-    let s = n1.before.before in
-    snapshot_laid s.args.bytes.now s.args.cells.now s.args.at
-    (to_z-of_z (sfits_of t1.struct_told.given.0.1) ∙ n1.number.ensures)
-    p.is-there.ensures
-    (to_z-of_z (sfits_of t2.struct-told2.given.0.1) ∙ n2.number2.ensures)
-    (to_z-of_z (sfits_of t3.struct-told3.given.0.1) ∙ n3.number3.ensures)
-    (to_z-of_z (sfits_of c.struct-told4.given.0.1) ∙ n4.number4.ensures)
-    h.has-rows.ensures
-    r1.row_number.ensures
-    r2.row-number2.ensures
+    snapshot_laid n1.args.bytes.now n1.args.cells.now n1.args.at
+    (to_z-of_z {w = w64} (sfits_of t1.struct_told-1.given.0.1) ∙ n1.number-id.ensures)
+    p.is_there-has_parent.ensures
+    (to_z-of_z {w = w64} (sfits_of t2.struct_told-2-1.given.0.1) ∙ n2.number-parent.ensures)
+    (to_z-of_z {w = w64} (sfits_of t3.struct_told-3-1.given.0.1) ∙ n3.number-sequence.ensures)
+    (to_z-of_z {w = w64} (sfits_of c.struct_told-4-1.given.0.1) ∙ n4.number-time.ensures)
+    h.has_rows-has_rows.ensures
+    r1.row_number-first.ensures
+    r2.row_number-added.ensures
 
 pub snapshot_at_spec : {M : Type 1} → statement M
 snapshot_at_spec =

@@ -15,12 +15,9 @@ sort_field_at_spec =
     (λ c. search rules)
     (λ c κs. search rules)
     (λ c. search rules)
-    (λ c. search rules)
     (λ c κs. search rules)
-    (λ c. search rules)
     (λ c. search rules)
     (λ c κs. search rules)
     (λ c.
     let b = c.before in
-    let a = b.before.before in
-    rw (to_z-of_z {w = w32} (sfits_of c.struct_told.given.0.1) ∙ a.before.before.narrow-number.ensures, a.choice.ensures, b.choice2.ensures)))
+    rw (to_z-of_z {w = w32} (sfits_of c.struct_told-1.given.0.1) ∙ b.narrow_number-source.ensures, b.choice-direction.ensures, b.choice-nulls.ensures)))

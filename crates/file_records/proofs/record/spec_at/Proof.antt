@@ -9,7 +9,7 @@ use Rattle.file_records.proofs.record.spec_at.Tie as tie
 
 returns : tie.Need-returns
 unfolding spec_at
-returns c = rw (c.spec-of.ensures, to_z-of_z {w = w32} (sfits_of c.before.struct_told.given.0.1) ∙ c.before.before.narrow-number.ensures)
+returns c = rw (c.spec_of.ensures, to_z-of_z {w = w32} (sfits_of c.struct_told-1.given.0.1) ∙ c.narrow_number-id.ensures)
 
 pub spec_at_spec : {M : Type 1} → statement M
 spec_at_spec = tie.close (tie.spec (λ c κs. search rules) (λ c. search rules) (λ c κs. search rules) returns)

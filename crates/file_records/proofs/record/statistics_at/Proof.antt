@@ -19,5 +19,4 @@ statistics_at_spec =
     (λ c. search rules)
     (λ c κs. search rules)
     (λ c.
-    let n = c.before.before in
-    rw (to_z-of_z {w = w64} (sfits_of c.before.struct_told.given.0.1) ∙ n.before.before.number.ensures, n.before.text_at.ensures, to_z-of_z {w = w64} (sfits_of c.struct-told2.given.0.1) ∙ n.number2.ensures)))
+    rw (to_z-of_z {w = w64} (sfits_of c.struct_told-1.given.0.1) ∙ c.number-id.ensures, c.text_at-statistics_path.ensures, to_z-of_z {w = w64} (sfits_of c.struct_told-2-1.given.0.1) ∙ c.number-size.ensures)))

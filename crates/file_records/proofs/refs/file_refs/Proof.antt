@@ -15,25 +15,24 @@ use Rattle.file_records.proofs.Arranged.{table_laid}
 use Rattle.file_records.proofs.refs.file_refs.Statement.{statement}
 use Rattle.file_records.proofs.refs.file_refs.Tie as tie
 
-abbrev invariant_loop : tie.invariant_loop
+abbrev invariant_loop : tie.invariant-loop-i
 invariant_loop bytes cells n t₀ i₀ t i = Left laid_ref (λ k. ref_at bytes cells (item_at 12 8466 k)) 16 no_ref n t.items i
 
-abbrev decreases_loop : tie.decreases_loop
+abbrev decreases_loop : tie.decreases-loop-i
 decreases_loop bytes cells n t₀ i₀ t i = n - i
 
-few : (c : tie.After-count-of invariant_loop decreases_loop) → c.count_of.result ≤ 16
-few c = omega (arith, c.count_of.ensures, count_small c.before.before.args.cells.now 16 8466)
+few : (c : tie.After-count_of-n invariant_loop decreases_loop) → c.count_of-n.result ≤ 16
+few c = omega (arith, c.count_of-n.ensures, count_small c.args.cells.now 16 8466)
 
-loop_holds : tie.Need-loop-init invariant_loop decreases_loop
+loop_holds : tie.Need-loop-i-init invariant_loop decreases_loop
 unfolding no_refs
-loop_holds c = left_start (few c.before) (ap (λ (t : Refs). t.items) c.blank.ensures)
+loop_holds c = left_start (few c.before) (ap (λ (t : Refs). t.items) c.blank-t.ensures)
 
 returns : tie.Need-returns invariant_loop decreases_loop
 returns c =
     let l = c.before in
     let n = l.before.before in
-    let s = n.before.before in
-    table_laid made_refs l.loop.invariant c.loop-test.false refl ∙ ap (λ (k : ℕ). laid_refs (each (λ j. ref_at s.args.bytes.now s.args.cells.now (item_at 12 8466 j)) k)) n.count_of.ensures
+    table_laid made_refs l.loop-i.invariant c.loop-i-test.false refl ∙ ap (λ (k : ℕ). laid_refs (each (λ j. ref_at n.args.bytes.now n.args.cells.now (item_at 12 8466 j)) k)) n.count_of-n.ensures
 
 pub file_refs_spec : {M : Type 1} → statement M
 file_refs_spec =
@@ -52,5 +51,5 @@ file_refs_spec =
     (λ c. omega (arith, few c.before.before.before.before))
     (λ c. search rules)
     (λ c. omega arith)
-    (λ c. left_more c.before.before.loop.invariant c.before.loop-test.true c.ref-at.ensures)
+    (λ c. left_more c.loop-i.invariant c.loop-i-test.true c.ref_at-x.ensures)
     returns)

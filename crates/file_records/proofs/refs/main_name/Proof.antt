@@ -14,4 +14,4 @@ main_name_spec =
     (λ c. search rules)
     (λ c. search rules)
     (λ c. search rules)
-    (λ c. rw c.blank.ensures))
+    (λ c. rw c.blank-name.ensures))

@@ -6,4 +6,4 @@ use Rattle.file_records.proofs.refs.main_ref.Tie as tie
 
 pub main_ref_spec : {M : Type 1} → statement M
 unfolding laid_reference laid_ref
-main_ref_spec = tie.close (tie.spec (λ c κs. search rules) (λ c κs. search rules) (λ c. rw (c.blank.ensures, c.before.main-name.ensures)))
+main_ref_spec = tie.close (tie.spec (λ c κs. search rules) (λ c κs. search rules) (λ c. rw (c.blank-reference.ensures, c.main_name-name.ensures)))

@@ -32,7 +32,7 @@ main_refs_spec =
     (tie.spec
     (λ c κs. search rules)
     (λ c κs. search rules)
-    (λ c. let b = c.before.before in no_main _ b.before.current.ensures (not-true _ c.if1.true) b.blank.ensures)
+    (λ c. no_main _ c.current-at.ensures (not-true _ c.if-not-at.true) c.blank-t.ensures)
     (λ c κs. search rules)
     (λ c. search rules)
-    (λ c. let b = c.before.before.before in one_main _ b.before.current.ensures (not-false _ c.before.if1.false) b.blank.ensures c.main-ref.ensures))
+    (λ c. one_main _ c.current-at.ensures (not-false _ c.if-not-at.false) c.blank-t.ensures c.main_ref-x.ensures))

@@ -14,11 +14,9 @@ refs_spec =
     (tie.spec
     (λ c κs. search rules)
     (λ c κs. search rules)
-    (λ c κs. file_refs_laid _ _ c.file-refs.ensures)
+    (λ c κs. file_refs_laid _ _ c.file_refs.ensures)
     (λ c.
-    let b = c.before.before in
-    rw (sym b.before.is-there.ensures ∙ b.if1.true) (file_refs_sorted _ _ c.before.file-refs.ensures c.arranged.ensures))
+    rw (sym c.is_there.ensures ∙ c.if-is_there.true) (file_refs_sorted _ _ c.file_refs.ensures c.arranged.ensures))
     (λ c κs. search rules)
     (λ c.
-    let s = c.before.before.before.before in
-    rw (sym c.before.before.is-there.ensures ∙ c.before.if1.false) (c.main-refs.ensures ∙ ap laid_refs (main_sorted (current_in s.args.bytes.now s.args.cells.now)))))
+    rw (sym c.is_there.ensures ∙ c.if-is_there.false) (c.main_refs.ensures ∙ ap laid_refs (main_sorted (current_in c.args.bytes.now c.args.cells.now)))))

@@ -14,31 +14,29 @@ use Rattle.file_records.proofs.Ordered.{schema_place_lem, schema_end}
 use Rattle.file_records.proofs.table.all_schemas.Statement.{statement}
 use Rattle.file_records.proofs.table.all_schemas.Tie as tie
 
-abbrev invariant_loop : tie.invariant_loop
+abbrev invariant_loop : tie.invariant-loop-i
 invariant_loop bytes cells n order t₀ i₀ t i = Left laid_schema (λ k. schema_at bytes cells (item_at 261 273 (get_or order.items k 0))) 16 no_schema n t.items i
 
-abbrev decreases_loop : tie.decreases_loop
+abbrev decreases_loop : tie.decreases-loop-i
 decreases_loop bytes cells n order t₀ i₀ t i = n - i
 
-few : (c : tie.After-count-of invariant_loop decreases_loop) → c.count_of.result ≤ 16
-few c = let s = c.before.before in omega (arith, c.count_of.ensures, count_small s.args.cells.now 16 (273))
+few : (c : tie.After-count_of-n invariant_loop decreases_loop) → c.count_of-n.result ≤ 16
+few c = omega (arith, c.count_of-n.ensures, count_small c.args.cells.now 16 (273))
 
-there : (c : tie.In-loop invariant_loop decreases_loop) → get_or c.before.before.before.order-of.result.items c.before.loop.i 0 < c.before.before.before.before.count_of.result
+there : (c : tie.In-loop-i invariant_loop decreases_loop) → get_or c.order_of-order.result.items c.loop-i.i 0 < c.count_of-n.result
 there c =
     let o = c.before.before.before in
-    let s = o.before.before.before in
-    schema_place_lem s.args.bytes.now s.args.cells.now _ o.order-of.ensures c.before.loop.i c.loop-test.true
+    schema_place_lem o.args.bytes.now o.args.cells.now _ o.order_of-order.ensures c.loop-i.i c.loop-i-test.true
 
-loop_holds : tie.Need-loop-init invariant_loop decreases_loop
+loop_holds : tie.Need-loop-i-init invariant_loop decreases_loop
 unfolding no_schemas
-loop_holds c = left_start (few c.before.before) (ap (λ (t : Schemas). t.items) c.blank.ensures)
+loop_holds c = left_start (few c.before.before) (ap (λ (t : Schemas). t.items) c.blank-t.ensures)
 
 returns : tie.Need-returns invariant_loop decreases_loop
 returns c =
     let l = c.before in
     let o = l.before.before in
-    let s = o.before.before.before in
-    schema_end s.args.bytes.now s.args.cells.now _ o.order-of.ensures l.loop.invariant c.loop-test.false refl o.before.count_of.ensures
+    schema_end o.args.bytes.now o.args.cells.now _ o.order_of-order.ensures l.loop-i.invariant c.loop-i-test.false refl o.count_of-n.ensures
 
 pub all_schemas_spec : {M : Type 1} → statement M
 all_schemas_spec =
@@ -62,5 +60,5 @@ all_schemas_spec =
     (λ c. omega (arith, few c.before.before.before.before.before.before))
     (λ c. search rules)
     (λ c. omega arith)
-    (λ c. left_more c.before.before.before.loop.invariant c.before.before.loop-test.true c.schema-at.ensures)
+    (λ c. left_more c.loop-i.invariant c.loop-i-test.true c.schema_at-s.ensures)
     returns)

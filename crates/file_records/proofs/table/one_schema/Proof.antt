@@ -7,4 +7,4 @@ use Rattle.file_records.proofs.table.one_schema.Tie as tie
 
 pub one_schema_spec : {M : Type 1} → statement M
 unfolding no_schemas laid_schemas
-one_schema_spec = tie.close (tie.spec (λ c κs. search rules) (λ c κs. search rules) (λ c. search rules) (λ c. rw (c.schema-at.ensures, c.before.blank.ensures)))
+one_schema_spec = tie.close (tie.spec (λ c κs. search rules) (λ c κs. search rules) (λ c. search rules) (λ c. rw (c.schema_at-s.ensures, c.blank-t.ensures)))

@@ -10,8 +10,8 @@ pub single_decides_spec : {M : Type 1} → statement M
 single_decides_spec =
     tie.close
     (tie.spec
-    (λ c. rw (ne_eqb _ 1 c.if1.true))
+    (λ c. rw (ne_eqb _ 1 c.if-version-ne1.true))
     (λ c κs. search rules)
     (λ c κs. search rules)
-    (λ c. let t = c.before in rw (eq-eqb _ 1 t.before.before.if1.false, sym t.before.is-there.ensures ∙ t.if2.true) (ap not c.is-there2.ensures))
-    (λ c. rw (eq-eqb _ 1 c.before.before.if1.false, sym c.before.is-there.ensures ∙ c.if2.false)))
+    (λ c. rw (eq-eqb _ 1 c.if-version-ne1.false, sym c.is_there.ensures ∙ c.if-is_there.true) (ap not c.is_there-then-is_there.ensures))
+    (λ c. rw (eq-eqb _ 1 c.if-version-ne1.false, sym c.is_there.ensures ∙ c.if-is_there.false)))

@@ -10,5 +10,5 @@ choice_spec =
     (tie.spec
     (λ c κs. search rules)
     (λ c κs. search rules)
-    (λ c. rw (← c.before.before.before.read.ensures, sym c.before.is_IsWord.ensures ∙ c.if1.true))
-    (λ c. rw (← c.before.before.before.read.ensures, sym c.before.is_IsWord.ensures ∙ c.if1.false)))
+    (λ c. rw (← c.read-len.ensures, sym c.is_word.ensures ∙ c.if-is_word.true))
+    (λ c. rw (← c.read-len.ensures, sym c.is_word.ensures ∙ c.if-is_word.false)))

@@ -14,5 +14,5 @@ read_spec =
     (λ c κs. search rules)
     (λ c κs. search rules)
     (λ c κs. search rules)
-    (λ c. rw (sym c.before.before.before.before.is-there.ensures ∙ c.before.before.before.if1.true, ← c.before.before.place_of.ensures) c.said.ensures)
-    (λ c. rw (sym c.before.is-there.ensures ∙ c.if1.false)))
+    (λ c. rw (sym c.is_there.ensures ∙ c.if-is_there.true, ← c.place_of.ensures) c.said.ensures)
+    (λ c. rw (sym c.is_there.ensures ∙ c.if-is_there.false)))

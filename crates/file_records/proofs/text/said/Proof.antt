@@ -11,7 +11,7 @@ said_spec =
     tie.close
     (tie.spec
     (λ c κs. search rules)
-    (λ c. none_there c.before.before.next.ensures c.if1.true)
-    (λ c. no_text_lem c.before.before.before.before.next.ensures c.before.before.if1.false c.if2.true)
-    (λ c. long_text c.before.before.before.before.before.before.next.ensures c.before.before.before.before.if1.false c.before.before.if2.false c.if3.true)
-    (λ c. short_text c.before.before.before.before.before.before.next.ensures c.before.before.before.before.if1.false c.before.before.if2.false c.if3.false))
+    (λ c. none_there c.next-token.ensures c.if-token-ne-WHOLE.true)
+    (λ c. no_text_lem c.next-token.ensures c.if-token-ne-WHOLE.false c.if-token-ne34.true)
+    (λ c. long_text c.next-token.ensures c.if-token-ne-WHOLE.false c.if-token-ne34.false c.if-token-gt-TEXT.true)
+    (λ c. short_text c.next-token.ensures c.if-token-ne-WHOLE.false c.if-token-ne34.false c.if-token-gt-TEXT.false))

@@ -11,5 +11,5 @@ text_at_spec =
     tie.close
     (tie.spec
     (λ c κs. search rules)
-    (λ c κs. read_short _ _ _ _ _ c.before.read.ensures)
-    (λ c. c.text_of.ensures ∙ ap laid_text c.before.before.read.ensures))
+    (λ c κs. read_short _ _ _ _ _ c.read-len.ensures)
+    (λ c. c.text_of.ensures ∙ ap laid_text c.read-len.ensures))

@@ -9,16 +9,15 @@ use Rattle.file_records.proofs.Texts.{kept_more, text_laid}
 use Rattle.file_records.proofs.text.text_of.Statement.{statement}
 use Rattle.file_records.proofs.text.text_of.Tie as tie
 
-abbrev invariant_loop : tie.invariant_loop
+abbrev invariant_loop : tie.invariant-loop-i
 invariant_loop kept len text₀ i₀ text i = Rest kept 0 96 len text.bytes i
 
-abbrev decreases_loop : tie.decreases_loop
+abbrev decreases_loop : tie.decreases-loop-i
 decreases_loop kept len text₀ i₀ text i = len - i
 
 returns : tie.Need-returns invariant_loop decreases_loop
 returns c =
-    let l = c.before in
-    text_laid l.before.before.args.kept.now l.loop.text.bytes _ l.loop.i c.loop-test.false l.loop.invariant
+    text_laid c.args.kept.now c.loop-i.text.bytes _ c.loop-i.i c.loop-i-test.false c.loop-i.invariant
 
 pub text_of_spec : {M : Type 1} → statement M
 text_of_spec =
@@ -27,10 +26,10 @@ text_of_spec =
     invariant_loop
     decreases_loop
     (λ c κs. search rules)
-    (λ c. rest_start (search rules) (ap (λ (t : Text). t.bytes) c.blank.ensures))
+    (λ c. rest_start (search rules) (ap (λ (t : Text). t.bytes) c.blank-text.ensures))
     (λ c. search rules)
     (λ c. search rules)
     (λ c. search rules)
     (λ c. omega arith)
-    (λ c. kept_more c.before.before.loop.invariant c.before.loop-test.true)
+    (λ c. kept_more c.loop-i.invariant c.loop-i-test.true)
     returns)

@@ -9,4 +9,4 @@ transform_at_spec =
     (tie.spec
     (λ c κs. search rules)
     (λ c κs. search rules)
-    (λ c. rw (c.transform-of.ensures, c.before.before.read.ensures)))
+    (λ c. rw (c.transform_of.ensures, c.read-len.ensures)))

@@ -9,10 +9,10 @@ use Rattle.json_store.proofs.Ids.{Left, left_start, left_more, left_all}
 use Rattle.file_records.proofs.text.uuid_of.Statement.{statement}
 use Rattle.file_records.proofs.text.uuid_of.Tie as tie
 
-abbrev invariant_loop : tie.invariant_loop
+abbrev invariant_loop : tie.invariant-loop-i
 invariant_loop kept uuid₀ i₀ uuid i = Left (λ (b : ℕ). b) (uuid_byte kept) 16 0 16 uuid i
 
-abbrev decreases_loop : tie.decreases_loop
+abbrev decreases_loop : tie.decreases-loop-i
 decreases_loop kept uuid₀ i₀ uuid i = 16 - i
 
 pub uuid_of_spec : {M : Type 1} → statement M
@@ -26,5 +26,5 @@ uuid_of_spec =
     (λ c. search rules)
     (λ c. search rules)
     (λ c. omega arith)
-    (λ c. left_more c.before.before.loop.invariant c.before.loop-test.true (c.byte_of.ensures ∙ rw (lt-ltb _ 16 c.before.loop-test.true)))
-    (λ c. left_all c.before.loop.invariant c.loop-test.false))
+    (λ c. left_more c.loop-i.invariant c.loop-i-test.true (c.byte_of.ensures ∙ rw (lt-ltb _ 16 c.loop-i-test.true)))
+    (λ c. left_all c.loop-i.invariant c.loop-i-test.false))

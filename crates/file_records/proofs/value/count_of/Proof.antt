@@ -11,5 +11,5 @@ count_of_spec =
     tie.close
     (tie.spec
     (λ c κs. search rules)
-    (λ c. rw (← c.before.place_of.ensures, le-leb _ _ c.if1.true))
-    (λ c. rw (← c.before.place_of.ensures, lt-leb _ _ c.if1.false)))
+    (λ c. rw (← c.place_of-count.ensures, le-leb _ _ c.if-count-room.true))
+    (λ c. rw (← c.place_of-count.ensures, lt-leb _ _ c.if-count-room.false)))

@@ -6,9 +6,9 @@ use Rattle.file_records.specs.Decoded.{head_of}
 use Rattle.file_records.proofs.value.head_of.Statement.{statement}
 use Rattle.file_records.proofs.value.head_of.Tie as tie
 
-returns_2 : tie.Need-returns-2
+returns_2 : tie.Need-returns
 unfolding head_of
-returns_2 c = rw (← c.before.place_of.ensures) (sym (get_or-eq_default c.before.before.before.args.bytes.now 0 c.if1.false))
+returns_2 c = rw (← c.place_of-place.ensures) (sym (get_or-eq_default c.args.bytes.now 0 c.if-place-bytes.false))
 
 pub head_of_spec : {M : Type 1} → statement M
 unfolding head_of
@@ -17,5 +17,5 @@ head_of_spec =
     (tie.spec
     (λ c κs. search rules)
     (λ c. search rules)
-    (λ c. rw (← c.before.before.place_of.ensures))
+    (λ c. rw (← c.place_of-place.ensures))
     returns_2)

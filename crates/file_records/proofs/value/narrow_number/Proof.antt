@@ -13,5 +13,5 @@ narrow_number_spec =
     (λ c κs. search rules)
     (λ c κs. search rules)
     (λ c κs. search rules)
-    (λ c. rw (sym c.before.before.before.is-there.ensures ∙ c.before.before.if1.true, ← c.before.number-at.ensures) c.narrowed.ensures)
-    (λ c. rw (sym c.before.is-there.ensures ∙ c.if1.false)))
+    (λ c. rw (sym c.is_there.ensures ∙ c.if-is_there.true, ← c.number_at.ensures) c.narrowed.ensures)
+    (λ c. rw (sym c.is_there.ensures ∙ c.if-is_there.false)))

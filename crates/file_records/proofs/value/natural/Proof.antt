@@ -6,13 +6,13 @@ use Rattle.file_records.specs.Decoded.{natural_at}
 use Rattle.file_records.proofs.value.natural.Statement.{statement}
 use Rattle.file_records.proofs.value.natural.Tie as tie
 
-returns : tie.Need-returns
+returns : tie.Need-returns-then-is_there
 unfolding natural_at
-returns c = rw (sym c.before.before.is-there.ensures ∙ c.before.if1.true, add-one)
+returns c = rw (sym c.is_there.ensures ∙ c.if-is_there.true, add-one)
 
-returns_2 : tie.Need-returns-2
+returns_2 : tie.Need-returns
 unfolding natural_at
-returns_2 c = rw (sym c.before.is-there.ensures ∙ c.if1.false)
+returns_2 c = rw (sym c.is_there.ensures ∙ c.if-is_there.false)
 
 pub natural_spec : {M : Type 1} → statement M
 natural_spec = tie.close (tie.spec (λ c κs. search rules) (λ c. search rules) (λ c. search rules) (λ c. search rules) returns returns_2)

@@ -12,5 +12,5 @@ number_spec =
     (tie.spec
     (λ c κs. search rules)
     (λ c κs. search rules)
-    (λ c. rw (sym c.before.before.is-there.ensures ∙ c.before.if1.true) c.number-at.ensures)
-    (λ c. rw (sym c.before.is-there.ensures ∙ c.if1.false)))
+    (λ c. rw (sym c.is_there.ensures ∙ c.if-is_there.true) c.number_at.ensures)
+    (λ c. rw (sym c.is_there.ensures ∙ c.if-is_there.false)))

@@ -7,7 +7,7 @@ use Rattle.file_records.proofs.value.number_at.Tie as tie
 
 returns : tie.Need-returns
 unfolding number_at
-returns c = rw (c.signed.ensures, c.before.before.head_of.ensures, add-one _)
+returns c = rw (c.signed.ensures, c.head_of.ensures, add-one _)
 
 pub number_at_spec : {M : Type 1} → statement M
 number_at_spec = tie.close (tie.spec (λ c κs. search rules) (λ c. search rules) (λ c. search rules) (λ c. search rules) (λ c κs. search rules) returns)

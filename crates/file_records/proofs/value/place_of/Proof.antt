@@ -6,11 +6,11 @@ use Rattle.file_records.specs.Decoded.{place_of}
 use Rattle.file_records.proofs.value.place_of.Statement.{statement}
 use Rattle.file_records.proofs.value.place_of.Tie as tie
 
-returns : tie.Need-returns
+returns : tie.Need-returns-then-cell-eq0
 unfolding place_of
 returns c = omega arith
 
-returns_2 : tie.Need-returns-2
+returns_2 : tie.Need-returns
 unfolding place_of
 returns_2 c = refl
 

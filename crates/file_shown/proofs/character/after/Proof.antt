@@ -11,9 +11,9 @@ after_spec =
     tie.close
     (tie.spec
     (λ c κs. search rules)
-    (λ c. rw (eq-eqb _ _ c.before.before.if1.true, le-leb _ _ c.before.if2.true) c.state.ensures)
+    (λ c. rw (eq-eqb _ _ c.if-c-eq0.true, le-leb _ _ c.if-byte-le127.true) c.state.ensures)
     (λ c κs. search rules)
-    (λ c. rw (eq-eqb _ _ c.before.before.if1.true, lt-leb _ _ c.before.if2.false) c.lead.ensures)
+    (λ c. rw (eq-eqb _ _ c.if-c-eq0.true, lt-leb _ _ c.if-byte-le127.false) c.lead.ensures)
     (λ c. search rules)
     (λ c κs. search rules)
-    (λ c. rw (ne_eqb _ _ c.before.before.if1.false) c.state2.ensures))
+    (λ c. rw (ne_eqb _ _ c.if-c-eq0.false) c.state-2.ensures))

@@ -10,5 +10,5 @@ unfolding fits_byte is_lead
 fits_spec =
     tie.close
     (tie.spec
-    (λ c. rw (eq-eqb _ _ c.if1.true))
-    (λ c. rw (ne_eqb _ _ c.before.before.if1.false)))
+    (λ c. rw (eq-eqb _ _ c.if-c-eq0.true))
+    (λ c. rw (ne_eqb _ _ c.if-c-eq0.false)))

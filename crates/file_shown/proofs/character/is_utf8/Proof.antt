@@ -12,10 +12,10 @@ use Rattle.file_shown.proofs.Utf8.{starts, fits_on, fits_end}
 use Rattle.file_shown.proofs.character.is_utf8.Statement.{statement}
 use Rattle.file_shown.proofs.character.is_utf8.Tie as tie
 
-abbrev invariant_loop : tie.invariant_loop
+abbrev invariant_loop : tie.invariant-loop-i
 invariant_loop bytes count c₀ ok₀ i₀ c ok i = is_utf8 (counted 0 bytes count) ≡ (ok && goes_on_so c (drop i (counted 0 bytes count)))
 
-abbrev decreases_loop : tie.decreases_loop
+abbrev decreases_loop : tie.decreases-loop-i
 decreases_loop bytes count c₀ ok₀ i₀ c ok i = count - i
 
 pub is_utf8_spec : {M : Type 1} → statement M
@@ -25,7 +25,7 @@ is_utf8_spec =
     invariant_loop
     decreases_loop
     (λ c κs. search rules)
-    (λ c. starts _ ∙ rw c.state.ensures)
+    (λ c. starts _ ∙ rw c.state-c.ensures)
     (λ c. search rules)
     (λ c κs. search rules)
     (λ c κs. search rules)
@@ -33,6 +33,5 @@ is_utf8_spec =
     (λ c. search rules)
     (λ c. let k = c.before in
     let j = k.before in
-    let l = j.before.before in
-    fits_on _ _ l.loop.c _ l.loop.ok _ _ l.loop.i j.if1.byte l.loop.invariant j.before.loop-test.true (⊎_elim (λ w. inl (w.0.taken, w.2)) (λ w. inr (w.0.left, w.1)) j.if1.branch) k.fits2.ensures c.after.ensures)
-    (λ c. let l = c.before.before in fits_end _ _ l.loop.c l.loop.ok l.loop.i l.loop.invariant c.before.loop-test.false))
+    fits_on _ _ j.loop-i.c _ j.loop-i.ok _ _ j.loop-i.i j.if-i-bytes.byte j.loop-i.invariant j.loop-i-test.true (⊎_elim (λ w. inl (w.if-i-bytes.true, w.byte-is)) (λ w. inr (w.if-i-bytes.false, w.byte-is)) j.if-i-bytes.branch-raw) k.fits-ok.ensures c.after-c.ensures)
+    (λ c. fits_end _ _ c.loop-i.c c.loop-i.ok c.loop-i.i c.loop-i.invariant c.loop-i-test.false))

@@ -4,4 +4,4 @@ use Rattle.file_shown.proofs.character.name_is_utf8.Statement.{statement}
 use Rattle.file_shown.proofs.character.name_is_utf8.Tie as tie
 
 pub name_is_utf8_spec : {M : Type 1} → statement M
-name_is_utf8_spec = tie.close (tie.spec (λ c. search rules) (λ c κs. search rules) (λ c. c.is-utf8.ensures))
+name_is_utf8_spec = tie.close (tie.spec (λ c. search rules) (λ c κs. search rules) (λ c. c.is_utf8.ensures))

@@ -21,25 +21,23 @@ flagged false x = refl
 has_rows_lem : (s : Snapshot) → not s.has_rows ≡ rows_none (read_snapshot s)
 has_rows_lem s = flagged s.has_rows _
 
-abbrev invariant_loop : tie.invariant_loop
+abbrev invariant_loop : tie.invariant-loop-i
 invariant_loop t n empty ok₀ i₀ ok i = Looked read_snapshot rows_none no_snapshot t.items t.count 64 i ok
 
-abbrev decreases_loop : tie.decreases_loop
+abbrev decreases_loop : tie.decreases-loop-i
 decreases_loop t n empty ok₀ i₀ ok i = t.count - i
 
-loop_again : tie.Need-loop-preserved invariant_loop decreases_loop
+loop_again : tie.Need-loop-i-preserved invariant_loop decreases_loop
 loop_again c =
     let j = c.before in
-    let l = j.before.before in
-    let t = l.before.before.args.t1 in
-    looked_on read_snapshot rows_none no_snapshot t.items t.count 64 l.loop.i l.loop.ok _ _ j.if1.x l.loop.invariant j.before.loop-test.true
-    (⊎_elim (λ w. inl (w.0.taken, w.2)) (λ w. inr (w.0.left, w.1 ∙ l.before.blank.ensures)) j.if1.branch) (has_rows_lem j.if1.x)
+    let t = j.args.t in
+    looked_on read_snapshot rows_none no_snapshot t.items t.count 64 j.loop-i.i j.loop-i.ok _ _ j.if-i-lt-SNAPSHOTS.x j.loop-i.invariant j.loop-i-test.true
+    (⊎_elim (λ w. inl (w.if-i-lt-SNAPSHOTS.true, w.x-is)) (λ w. inr (w.if-i-lt-SNAPSHOTS.false, w.x-is ∙ j.blank-none.ensures)) j.if-i-lt-SNAPSHOTS.branch-raw) (has_rows_lem j.if-i-lt-SNAPSHOTS.x)
 
 returns : tie.Need-returns invariant_loop decreases_loop
 returns c =
-    let l = c.before in
-    let t = l.before.before.args.t1 in
-    looked_end read_snapshot rows_none no_snapshot t.items t.count 64 l.loop.i l.loop.ok l.loop.invariant c.loop-test.false
+    let t = c.args.t in
+    looked_end read_snapshot rows_none no_snapshot t.items t.count 64 c.loop-i.i c.loop-i.ok c.loop-i.invariant c.loop-i-test.false
 
 pub rows_none_spec : {M : Type 1} → statement M
 rows_none_spec =

@@ -11,25 +11,23 @@ use Rattle.file_shown.proofs.Looked.{Looked, looked_on, looked_end}
 use Rattle.file_shown.proofs.table.spec_named.Statement.{statement}
 use Rattle.file_shown.proofs.table.spec_named.Tie as tie
 
-abbrev invariant_loop : tie.invariant_loop
+abbrev invariant_loop : tie.invariant-loop-i
 invariant_loop t n empty ok₀ i₀ ok i = Looked read_partition_field partition_named no_partition_field t.items t.count 8 i ok
 
-abbrev decreases_loop : tie.decreases_loop
+abbrev decreases_loop : tie.decreases-loop-i
 decreases_loop t n empty ok₀ i₀ ok i = t.count - i
 
-loop_again : tie.Need-loop-preserved invariant_loop decreases_loop
+loop_again : tie.Need-loop-i-preserved invariant_loop decreases_loop
 loop_again c =
     let j = c.before in
-    let l = j.before.before in
-    let t = l.before.before.args.t1 in
-    looked_on read_partition_field partition_named no_partition_field t.items t.count 8 l.loop.i l.loop.ok _ _ j.if1.x l.loop.invariant j.before.loop-test.true
-    (⊎_elim (λ w. inl (w.0.taken, w.2)) (λ w. inr (w.0.left, w.1 ∙ l.before.blank.ensures)) j.if1.branch) c.name-is-utf8.ensures
+    let t = j.args.t in
+    looked_on read_partition_field partition_named no_partition_field t.items t.count 8 j.loop-i.i j.loop-i.ok _ _ j.if-i-lt-PARTITION_FIELDS.x j.loop-i.invariant j.loop-i-test.true
+    (⊎_elim (λ w. inl (w.if-i-lt-PARTITION_FIELDS.true, w.x-is)) (λ w. inr (w.if-i-lt-PARTITION_FIELDS.false, w.x-is ∙ j.blank-none.ensures)) j.if-i-lt-PARTITION_FIELDS.branch-raw) c.name_is_utf8-ok.ensures
 
 returns : tie.Need-returns invariant_loop decreases_loop
 returns c =
-    let l = c.before in
-    let t = l.before.before.args.t1 in
-    looked_end read_partition_field partition_named no_partition_field t.items t.count 8 l.loop.i l.loop.ok l.loop.invariant c.loop-test.false
+    let t = c.args.t in
+    looked_end read_partition_field partition_named no_partition_field t.items t.count 8 c.loop-i.i c.loop-i.ok c.loop-i.invariant c.loop-i-test.false
 
 pub spec_named_spec : {M : Type 1} → statement M
 spec_named_spec =

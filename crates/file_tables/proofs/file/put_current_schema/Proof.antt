@@ -9,19 +9,18 @@ use Rattle.file_tables.proofs.Texts.{current_is}
 use Rattle.file_tables.proofs.file.put_current_schema.Statement.{statement}
 use Rattle.file_tables.proofs.file.put_current_schema.Tie as tie
 
-returns : tie.Need-returns
+returns : tie.Need-returns-then-wanted
 returns c =
-    let a = c.before.before.before.before.before.before.before.before.before.before.before.before.args in
-    wanted _ c.before.before.before.before.before.before.before.before.before.before.if1.true (is (then c.before.before.before.before.before.before.before.put.ensures c.before.before.put-schema.ensures) (current_is (schema_text (schema_by_id a.id.0 (read_schemas a.t))) (ap schema_text c.before.before.before.schema-by-id.ensures)))
+    let a = c.args in
+    wanted _ c.if-wanted.true (is (then c.put-named.ensures c.put_schema.ensures) (current_is (schema_text (schema_by_id a.id.0 (read_schemas a.t))) (ap schema_text c.schema_by_id.ensures)))
 
 pub put_current_schema_spec : {M : Type 1} → statement M
 put_current_schema_spec =
     tie.close
     (tie.spec
-    (λ c. search rules)
     (λ c κs. search rules)
     (λ c κs. search rules)
     (λ c κs. search rules)
-    (λ c. c.before.before.put-schema.auto.0 ∙ c.before.before.before.before.before.before.before.put.auto.0)
+    (λ c. c.put_schema.auto.buffer ∙ c.put-named.auto.buffer)
     returns
-    (λ c. unwanted _ _ c.if1.false (omega arith)))
+    (λ c. unwanted _ _ c.if-wanted.false (omega arith)))

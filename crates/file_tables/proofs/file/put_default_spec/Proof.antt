@@ -9,21 +9,19 @@ use Rattle.file_tables.proofs.Texts.{default_is}
 use Rattle.file_tables.proofs.file.put_default_spec.Statement.{statement}
 use Rattle.file_tables.proofs.file.put_default_spec.Tie as tie
 
-returns : tie.Need-returns
+returns : tie.Need-returns-then-wanted
 returns c =
-    let a = c.before.before.before.before.before.before.before.before.before.before.before.before.before.before.before.before.before.args in
-    wanted _ c.before.before.before.before.before.before.before.before.before.before.before.before.before.before.before.if1.true (is (then (then c.before.before.before.before.before.before.before.before.before.before.before.before.put.ensures c.before.before.before.before.before.before.before.put-partition-fields.ensures) c.before.before.put2.ensures) (default_is (spec_fields a.id.0 (read_partition_specs a.t)) c.before.before.before.before.before.before.before.before.spec-by-id.ensures))
+    let a = c.args in
+    wanted _ c.if-wanted.true (is (then (then c.put-named.ensures c.put_partition_fields-listed.ensures) c.put.ensures) (default_is (spec_fields a.id.0 (read_partition_specs a.t)) c.spec_by_id.ensures))
 
 pub put_default_spec_spec : {M : Type 1} → statement M
 put_default_spec_spec =
     tie.close
     (tie.spec
-    (λ c. search rules)
     (λ c κs. search rules)
     (λ c κs. search rules)
     (λ c κs. search rules)
-    (λ c. search rules)
     (λ c κs. search rules)
-    (λ c. c.before.before.put2.auto.0 ∙ c.before.before.before.before.before.before.before.put-partition-fields.auto.0 ∙ c.before.before.before.before.before.before.before.before.before.before.before.before.put.auto.0)
+    (λ c. c.put.auto.buffer ∙ c.put_partition_fields-listed.auto.buffer ∙ c.put-named.auto.buffer)
     returns
-    (λ c. unwanted _ _ c.if1.false (omega arith)))
+    (λ c. unwanted _ _ c.if-wanted.false (omega arith)))

@@ -9,8 +9,8 @@ use Rattle.file_tables.proofs.file.put_file.Tie as tie
 
 returns : tie.Need-returns
 returns c =
-    let a = c.before.before.before.before.before.before.before.before.before.before.before.before.before.before.before.before.before.before.before.before.before.before.args in
-    is (then (then (then (then c.before.before.before.before.before.before.before.before.before.before.before.before.before.before.before.before.before.before.put-head.ensures c.before.before.before.before.before.before.before.before.before.before.before.before.before.before.put-schemas-part.ensures) c.before.before.before.before.before.before.before.before.before.before.put-specs-part.ensures) c.before.before.before.before.before.before.put-snapshots-part.ensures) c.before.before.put-tail.ensures) (whole_is (read_metadata a.m))
+    let a = c.args in
+    is (then (then (then (then c.put_head-at.ensures c.put_schemas_part-at.ensures) c.put_specs_part-at.ensures) c.put_snapshots_part-at.ensures) c.put_tail.ensures) (whole_is (read_metadata a.m))
 
 pub put_file_spec : {M : Type 1} → statement M
 put_file_spec =
@@ -21,5 +21,5 @@ put_file_spec =
     (λ c κs. search rules)
     (λ c κs. search rules)
     (λ c κs. search rules)
-    (λ c. c.before.before.put-tail.auto.0 ∙ c.before.before.before.before.before.before.put-snapshots-part.auto.0 ∙ c.before.before.before.before.before.before.before.before.before.before.put-specs-part.auto.0 ∙ c.before.before.before.before.before.before.before.before.before.before.before.before.before.before.put-schemas-part.auto.0 ∙ c.before.before.before.before.before.before.before.before.before.before.before.before.before.before.before.before.before.before.put-head.auto.0)
+    (λ c. c.put_tail.auto.buffer ∙ c.put_snapshots_part-at.auto.buffer ∙ c.put_specs_part-at.auto.buffer ∙ c.put_schemas_part-at.auto.buffer ∙ c.put_head-at.auto.buffer)
     returns)

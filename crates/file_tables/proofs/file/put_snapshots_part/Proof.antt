@@ -9,26 +9,21 @@ use Rattle.file_tables.proofs.file.put_snapshots_part.Tie as tie
 
 returns : tie.Need-returns
 returns c =
-    let a = c.before.before.before.before.before.before.before.before.before.before.before.before.before.before.before.before.before.before.before.before.before.before.before.before.before.before.before.before.before.before.before.before.before.before.before.before.before.before.before.args in
-    is (then (then (then (then (then (then (then c.before.before.before.before.before.before.before.before.before.before.before.before.before.before.before.before.before.before.before.before.before.before.before.before.before.before.before.before.before.before.before.before.before.before.put-number.ensures c.before.before.before.before.before.before.before.before.before.before.before.before.before.before.before.before.before.before.before.before.before.before.before.before.before.before.before.before.before.put.ensures) c.before.before.before.before.before.before.before.before.before.before.before.before.before.before.before.before.before.before.before.before.before.before.before.before.before.put-snapshots.ensures) c.before.before.before.before.before.before.before.before.before.before.before.before.before.before.before.before.before.before.before.before.put2.ensures) c.before.before.before.before.before.before.before.before.before.before.before.before.before.before.before.before.put-snapshot-log.ensures) c.before.before.before.before.before.before.before.before.before.before.before.put3.ensures) c.before.before.before.before.before.before.before.put-metadata-log.ensures) c.before.before.put4.ensures) (snapshots_is a.f (read_snapshots a.t) (read_snapshot_log a.log) (read_metadata_log a.files) c.before.before.before.before.before.before.before.before.before.before.before.before.before.before.before.before.before.before.before.before.before.before.before.before.before.before.before.before.before.before.before.before.before.before.before.of-snapshot.ensures)
+    let a = c.args in
+    is (then (then (then (then (then (then (then c.put_number-at.ensures c.put-at.ensures) c.put_snapshots-at.ensures) c.put-at-2.ensures) c.put_snapshot_log-at.ensures) c.put-at-3.ensures) c.put_metadata_log-at.ensures) c.put.ensures) (snapshots_is a.f (read_snapshots a.t) (read_snapshot_log a.log) (read_metadata_log a.files) c.of_snapshot.ensures)
 
 pub put_snapshots_part_spec : {M : Type 1} → statement M
 put_snapshots_part_spec =
     tie.close
     (tie.spec
-    (λ c. search rules)
     (λ c κs. search rules)
     (λ c κs. search rules)
-    (λ c. search rules)
     (λ c κs. search rules)
     (λ c κs. search rules)
-    (λ c. search rules)
     (λ c κs. search rules)
     (λ c κs. search rules)
-    (λ c. search rules)
     (λ c κs. search rules)
     (λ c κs. search rules)
-    (λ c. search rules)
     (λ c κs. search rules)
-    (λ c. c.before.before.put4.auto.0 ∙ c.before.before.before.before.before.before.before.put-metadata-log.auto.0 ∙ c.before.before.before.before.before.before.before.before.before.before.before.put3.auto.0 ∙ c.before.before.before.before.before.before.before.before.before.before.before.before.before.before.before.before.put-snapshot-log.auto.0 ∙ c.before.before.before.before.before.before.before.before.before.before.before.before.before.before.before.before.before.before.before.before.put2.auto.0 ∙ c.before.before.before.before.before.before.before.before.before.before.before.before.before.before.before.before.before.before.before.before.before.before.before.before.before.put-snapshots.auto.0 ∙ c.before.before.before.before.before.before.before.before.before.before.before.before.before.before.before.before.before.before.before.before.before.before.before.before.before.before.before.before.before.put.auto.0 ∙ c.before.before.before.before.before.before.before.before.before.before.before.before.before.before.before.before.before.before.before.before.before.before.before.before.before.before.before.before.before.before.before.before.before.before.put-number.auto.0)
+    (λ c. c.put.auto.buffer ∙ c.put_metadata_log-at.auto.buffer ∙ c.put-at-3.auto.buffer ∙ c.put_snapshot_log-at.auto.buffer ∙ c.put-at-2.auto.buffer ∙ c.put_snapshots-at.auto.buffer ∙ c.put-at.auto.buffer ∙ c.put_number-at.auto.buffer)
     returns)

@@ -9,22 +9,19 @@ use Rattle.file_tables.proofs.file.put_specs_part.Tie as tie
 
 returns : tie.Need-returns
 returns c =
-    let a = c.before.before.before.before.before.before.before.before.before.before.before.before.before.before.before.before.before.before.before.before.before.before.before.before.before.before.before.args in
-    is (then (then (then (then c.before.before.before.before.before.before.before.before.before.before.before.before.before.before.before.before.before.before.before.before.before.before.before.put-default-spec.ensures c.before.before.before.before.before.before.before.before.before.before.before.before.before.before.before.before.before.before.put.ensures) c.before.before.before.before.before.before.before.before.before.before.before.before.before.before.put-specs.ensures) c.before.before.before.before.before.before.before.before.put-number.ensures) c.before.before.put-number2.ensures) (specs_is a.f (read_partition_specs a.t) c.before.before.before.before.before.before.before.before.before.of_spec.ensures c.before.before.before.of_field.ensures)
+    let a = c.args in
+    is (then (then (then (then c.put_default_spec-at.ensures c.put-at.ensures) c.put_specs-at.ensures) c.put_number-at.ensures) c.put_number.ensures) (specs_is a.f (read_partition_specs a.t) c.of_spec.ensures c.of_field.ensures)
 
 pub put_specs_part_spec : {M : Type 1} → statement M
 put_specs_part_spec =
     tie.close
     (tie.spec
     (λ c κs. search rules)
-    (λ c. search rules)
     (λ c κs. search rules)
     (λ c κs. search rules)
-    (λ c. search rules)
     (λ c κs. search rules)
     (λ c κs. search rules)
-    (λ c. search rules)
     (λ c κs. search rules)
     (λ c κs. search rules)
-    (λ c. c.before.before.put-number2.auto.0 ∙ c.before.before.before.before.before.before.before.before.put-number.auto.0 ∙ c.before.before.before.before.before.before.before.before.before.before.before.before.before.before.put-specs.auto.0 ∙ c.before.before.before.before.before.before.before.before.before.before.before.before.before.before.before.before.before.before.put.auto.0 ∙ c.before.before.before.before.before.before.before.before.before.before.before.before.before.before.before.before.before.before.before.before.before.before.before.put-default-spec.auto.0)
+    (λ c. c.put_number.auto.buffer ∙ c.put_number-at.auto.buffer ∙ c.put_specs-at.auto.buffer ∙ c.put-at.auto.buffer ∙ c.put_default_spec-at.auto.buffer)
     returns)

@@ -23,10 +23,10 @@ use Rattle.file_tables.proofs.file.spec_by_id.Tie as tie
 abbrev has : ℤ → plain.PartitionSpec → Bool
 has id s = eq_z s.id id
 
-abbrev invariant_loop : tie.invariant_loop
+abbrev invariant_loop : tie.invariant-loop-i
 invariant_loop id t n empty i₀ i = (length t.items ≡ 16) × (first (has id.0) (map read_partition_spec (counted no_partition_spec t.items t.count)) ≡ first (has id.0) (drop i (map read_partition_spec (counted no_partition_spec t.items t.count))))
 
-abbrev decreases_loop : tie.decreases_loop
+abbrev decreases_loop : tie.decreases-loop-i
 decreases_loop id t n empty i₀ i = t.count - i
 
 abbrev fields_or : ℤ → Option plain.PartitionSpec → List plain.PartitionField
@@ -36,32 +36,28 @@ blank_is : (s : PartitionSpec) → s ≡ no_partition_spec → (read_partition_s
 unfolding no_partition_spec
 blank_is s e = rw e (ap (map read_partition_field) (none_counted no_partition_field no_partition_spec.items))
 
-spec_rest : (c : tie.After-same-spec invariant_loop decreases_loop) → drop c.before.before.before.loop.i (map read_partition_spec (counted no_partition_spec c.before.before.before.before.before.args.t1.items c.before.before.before.before.before.args.t1.count)) ≡ read_partition_spec c.before.if1.x ∷ drop (c.before.before.before.loop.i + 1) (map read_partition_spec (counted no_partition_spec c.before.before.before.before.before.args.t1.items c.before.before.before.before.before.args.t1.count))
+spec_rest : (c : tie.After-same_spec invariant_loop decreases_loop) → drop c.loop-i.i (map read_partition_spec (counted no_partition_spec c.args.t.items c.args.t.count)) ≡ read_partition_spec c.if-i-lt-PARTITION_SPECS.x ∷ drop (c.loop-i.i + 1) (map read_partition_spec (counted no_partition_spec c.args.t.items c.args.t.count))
 spec_rest c =
     let j = c.before in
-    let l = j.before.before in
-    let a = l.before.before.args in
-    rest_at read_partition_spec no_partition_spec a.t1.items a.t1.count 16 _ l.loop.i j.if1.x l.loop.invariant.0 j.before.loop-test.true
-    (⊎_elim (λ w. inl (w.0.taken, w.2)) (λ w. inr (w.0.left, w.1 ∙ l.before.blank.ensures)) j.if1.branch)
+    let a = j.args in
+    rest_at read_partition_spec no_partition_spec a.t.items a.t.count 16 _ j.loop-i.i j.if-i-lt-PARTITION_SPECS.x j.loop-i.invariant.0 j.loop-i-test.true
+    (⊎_elim (λ w. inl (w.if-i-lt-PARTITION_SPECS.true, w.x-is)) (λ w. inr (w.if-i-lt-PARTITION_SPECS.false, w.x-is ∙ j.blank-none.ensures)) j.if-i-lt-PARTITION_SPECS.branch-raw)
 
-returns : tie.Need-returns invariant_loop decreases_loop
+returns : tie.Need-returns-then-same_spec invariant_loop decreases_loop
 returns c =
     let k = c.before in
-    let l = k.before.before.before in
-    sym (ap (fields_or l.before.before.args.id.0) (found _ _ l.loop.i l.loop.invariant.1 (read_partition_spec k.before.if1.x) (spec_rest k) (sym k.same_spec.ensures ∙ c.if2.true)))
+    sym (ap (fields_or k.args.id.0) (found _ _ k.loop-i.i k.loop-i.invariant.1 (read_partition_spec k.if-i-lt-PARTITION_SPECS.x) (spec_rest k) (sym k.same_spec.ensures ∙ c.if-same_spec.true)))
 
-loop_again : tie.Need-loop-preserved invariant_loop decreases_loop
+loop_again : tie.Need-loop-i-preserved invariant_loop decreases_loop
 loop_again c =
     let k = c.before in
-    let l = k.before.before.before in
-    (l.loop.invariant.0, passed _ _ l.loop.i l.loop.invariant.1 (read_partition_spec k.before.if1.x) (spec_rest k) (sym k.same_spec.ensures ∙ c.if2.false))
+    (k.loop-i.invariant.0, passed _ _ k.loop-i.i k.loop-i.invariant.1 (read_partition_spec k.if-i-lt-PARTITION_SPECS.x) (spec_rest k) (sym k.same_spec.ensures ∙ c.if-same_spec.false))
 
-returns_2 : tie.Need-returns-2 invariant_loop decreases_loop
+returns_2 : tie.Need-returns invariant_loop decreases_loop
 returns_2 c =
-    let l = c.before in
-    let a = l.before.before.args in
-    blank_is l.before.blank.result l.before.blank.ensures
-    ∙ sym (ap (fields_or a.id.0) (missed _ _ l.loop.i l.loop.invariant.1 (omega (arith, length-map (counted no_partition_spec a.t1.items a.t1.count) read_partition_spec, length_counted no_partition_spec a.t1.items a.t1.count, c.loop-test.false))))
+    let a = c.args in
+    blank_is c.blank-none.result c.blank-none.ensures
+    ∙ sym (ap (fields_or a.id.0) (missed _ _ c.loop-i.i c.loop-i.invariant.1 (omega (arith, length-map (counted no_partition_spec a.t.items a.t.count) read_partition_spec, length_counted no_partition_spec a.t.items a.t.count, c.loop-i-test.false))))
 
 pub spec_by_id_spec : {M : Type 1} → statement M
 spec_by_id_spec =

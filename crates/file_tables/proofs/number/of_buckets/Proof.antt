@@ -5,4 +5,4 @@ use Rattle.file_tables.proofs.number.of_buckets.Statement.{statement}
 use Rattle.file_tables.proofs.number.of_buckets.Tie as tie
 
 pub of_buckets_spec : {M : Type 1} → statement M
-of_buckets_spec = tie.close (tie.spec (λ c. widens c.before.args.x.0 (sfits_of c.struct_told.given.0.1)) (λ c. widened c.before.args.x.0 (sfits_of c.struct_told.given.0.1)))
+of_buckets_spec = tie.close (tie.spec (λ c. widens c.args.x.0 (sfits_of c.struct_told-1.given.0.1)) (λ c. widened c.args.x.0 (sfits_of c.struct_told-1.given.0.1)))

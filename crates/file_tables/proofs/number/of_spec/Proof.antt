@@ -5,4 +5,4 @@ use Rattle.file_tables.proofs.number.of_spec.Statement.{statement}
 use Rattle.file_tables.proofs.number.of_spec.Tie as tie
 
 pub of_spec_spec : {M : Type 1} → statement M
-of_spec_spec = tie.close (tie.spec (λ c. widens c.before.args.x.0 (sfits_of c.struct_told.given.0.1)) (λ c. widened c.before.args.x.0 (sfits_of c.struct_told.given.0.1)))
+of_spec_spec = tie.close (tie.spec (λ c. widens c.args.x.0 (sfits_of c.struct_told-1.given.0.1)) (λ c. widened c.args.x.0 (sfits_of c.struct_told-1.given.0.1)))

@@ -8,19 +8,16 @@ use Rattle.file_tables.proofs.record.put_file_entry.Tie as tie
 
 returns : tie.Need-returns
 returns c =
-    let a = c.before.before.before.before.before.before.before.before.before.before.before.before.before.before.before.before.before.args in
-    is (then (then c.before.before.before.before.before.before.before.before.before.before.before.before.before.put-text.ensures c.before.before.before.before.before.before.before.put-number.ensures) c.before.before.put.ensures) (file_entry_is a.e c.before.before.before.before.before.before.before.before.of-time.ensures)
+    let a = c.args in
+    is (then (then c.put_text-at.ensures c.put_number-at.ensures) c.put.ensures) (file_entry_is a.e c.of_time.ensures)
 
 pub put_file_entry_spec : {M : Type 1} → statement M
 put_file_entry_spec =
     tie.close
     (tie.spec
-    (λ c. search rules)
-    (λ c κs. search rules)
-    (λ c. search rules)
     (λ c κs. search rules)
     (λ c κs. search rules)
-    (λ c. search rules)
     (λ c κs. search rules)
-    (λ c. c.before.before.put.auto.0 ∙ c.before.before.before.before.before.before.before.put-number.auto.0 ∙ c.before.before.before.before.before.before.before.before.before.before.before.before.before.put-text.auto.0)
+    (λ c κs. search rules)
+    (λ c. c.put.auto.buffer ∙ c.put_number-at.auto.buffer ∙ c.put_text-at.auto.buffer)
     returns)

@@ -8,20 +8,17 @@ use Rattle.file_tables.proofs.record.put_log_entry.Tie as tie
 
 returns : tie.Need-returns
 returns c =
-    let a = c.before.before.before.before.before.before.before.before.before.before.before.before.before.before.before.before.before.before.args in
-    is (then (then c.before.before.before.before.before.before.before.before.before.before.before.before.before.put-number.ensures c.before.before.before.before.before.before.before.put-number2.ensures) c.before.before.put.ensures) (log_entry_is a.e c.before.before.before.before.before.before.before.before.before.before.before.before.before.before.of-snapshot.ensures c.before.before.before.before.before.before.before.before.of-time.ensures)
+    let a = c.args in
+    is (then (then c.put_number-at.ensures c.put_number-at-2.ensures) c.put.ensures) (log_entry_is a.e c.of_snapshot.ensures c.of_time.ensures)
 
 pub put_log_entry_spec : {M : Type 1} → statement M
 put_log_entry_spec =
     tie.close
     (tie.spec
-    (λ c. search rules)
     (λ c κs. search rules)
     (λ c κs. search rules)
-    (λ c. search rules)
     (λ c κs. search rules)
     (λ c κs. search rules)
-    (λ c. search rules)
     (λ c κs. search rules)
-    (λ c. c.before.before.put.auto.0 ∙ c.before.before.before.before.before.before.before.put-number2.auto.0 ∙ c.before.before.before.before.before.before.before.before.before.before.before.before.before.put-number.auto.0)
+    (λ c. c.put.auto.buffer ∙ c.put_number-at-2.auto.buffer ∙ c.put_number-at.auto.buffer)
     returns)

@@ -8,8 +8,8 @@ use Rattle.file_tables.proofs.record.put_ref.Tie as tie
 
 returns : tie.Need-returns
 returns c =
-    let a = c.before.before.before.before.before.before.before.before.before.before.before.before.args in
-    is (then c.before.before.before.before.before.before.put-quoted.ensures c.before.before.put-reference.ensures) (ref_is a.x)
+    let a = c.args in
+    is (then c.put_quoted-at.ensures c.put_reference.ensures) (ref_is a.x)
 
 pub put_ref_spec : {M : Type 1} → statement M
 put_ref_spec =
@@ -18,5 +18,5 @@ put_ref_spec =
     (λ c. search rules)
     (λ c κs. search rules)
     (λ c κs. search rules)
-    (λ c. c.before.before.put-reference.auto.0 ∙ c.before.before.before.before.before.before.put-quoted.auto.0)
+    (λ c. c.put_reference.auto.buffer ∙ c.put_quoted-at.auto.buffer)
     returns)

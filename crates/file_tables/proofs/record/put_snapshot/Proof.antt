@@ -8,27 +8,22 @@ use Rattle.file_tables.proofs.record.put_snapshot.Tie as tie
 
 returns : tie.Need-returns
 returns c =
-    let a = c.before.before.before.before.before.before.before.before.before.before.before.before.before.before.before.before.before.before.before.before.before.before.before.before.before.before.before.before.before.before.before.before.before.before.before.args in
-    is (then (then (then (then (then c.before.before.before.before.before.before.before.before.before.before.before.before.before.before.before.before.before.before.before.before.before.before.before.before.before.before.before.before.before.before.put-number.ensures c.before.before.before.before.before.before.before.before.before.before.before.before.before.before.before.before.before.before.before.before.before.before.before.before.put-number2.ensures) c.before.before.before.before.before.before.before.before.before.before.before.before.before.before.before.before.before.before.put-number3.ensures) c.before.before.before.before.before.before.before.before.before.before.before.before.put-number4.ensures) c.before.before.before.before.before.before.before.put-rows.ensures) c.before.before.put.ensures) (snapshot_is a.version a.s c.before.before.before.before.before.before.before.before.before.before.before.before.before.before.before.before.before.before.before.before.before.before.before.before.before.before.before.before.before.before.before.of-snapshot.ensures c.before.before.before.before.before.before.before.before.before.before.before.before.before.before.before.before.before.before.before.before.before.before.before.before.before.of-snapshot2.ensures c.before.before.before.before.before.before.before.before.before.before.before.before.before.before.before.before.before.before.before.of-sequence.ensures c.before.before.before.before.before.before.before.before.before.before.before.before.before.of-time.ensures)
+    let a = c.args in
+    is (then (then (then (then (then c.put_number-at.ensures c.put_number-at-2.ensures) c.put_number-at-3.ensures) c.put_number-at-4.ensures) c.put_rows-at.ensures) c.put.ensures) (snapshot_is a.version a.s c.of_snapshot.ensures c.of_snapshot-2.ensures c.of_sequence.ensures c.of_time.ensures)
 
 pub put_snapshot_spec : {M : Type 1} → statement M
 put_snapshot_spec =
     tie.close
     (tie.spec
-    (λ c. search rules)
-    (λ c κs. search rules)
-    (λ c κs. search rules)
-    (λ c. search rules)
-    (λ c κs. search rules)
-    (λ c κs. search rules)
-    (λ c. search rules)
-    (λ c κs. search rules)
-    (λ c κs. search rules)
-    (λ c. search rules)
     (λ c κs. search rules)
     (λ c κs. search rules)
     (λ c κs. search rules)
-    (λ c. search rules)
     (λ c κs. search rules)
-    (λ c. c.before.before.put.auto.0 ∙ c.before.before.before.before.before.before.before.put-rows.auto.0 ∙ c.before.before.before.before.before.before.before.before.before.before.before.before.put-number4.auto.0 ∙ c.before.before.before.before.before.before.before.before.before.before.before.before.before.before.before.before.before.before.put-number3.auto.0 ∙ c.before.before.before.before.before.before.before.before.before.before.before.before.before.before.before.before.before.before.before.before.before.before.before.before.put-number2.auto.0 ∙ c.before.before.before.before.before.before.before.before.before.before.before.before.before.before.before.before.before.before.before.before.before.before.before.before.before.before.before.before.before.before.put-number.auto.0)
+    (λ c κs. search rules)
+    (λ c κs. search rules)
+    (λ c κs. search rules)
+    (λ c κs. search rules)
+    (λ c κs. search rules)
+    (λ c κs. search rules)
+    (λ c. c.put.auto.buffer ∙ c.put_rows-at.auto.buffer ∙ c.put_number-at-4.auto.buffer ∙ c.put_number-at-3.auto.buffer ∙ c.put_number-at-2.auto.buffer ∙ c.put_number-at.auto.buffer)
     returns)

@@ -8,21 +8,16 @@ use Rattle.file_tables.proofs.record.put_sort_field.Tie as tie
 
 returns : tie.Need-returns
 returns c =
-    let a = c.before.before.before.before.before.before.before.before.before.before.before.before.before.before.before.before.before.before.before.before.before.args in
-    is (then (then c.before.before.before.before.before.before.before.before.before.before.before.before.before.before.before.before.put-number.ensures c.before.before.before.before.before.before.before.before.before.put-either.ensures) c.before.before.put-either2.ensures) (sort_field_is a.f c.before.before.before.before.before.before.before.before.before.before.before.before.before.before.before.before.before.of_field.ensures)
+    let a = c.args in
+    is (then (then c.put_number-at.ensures c.put_either-at.ensures) c.put_either.ensures) (sort_field_is a.f c.of_field.ensures)
 
 pub put_sort_field_spec : {M : Type 1} → statement M
 put_sort_field_spec =
     tie.close
     (tie.spec
-    (λ c. search rules)
     (λ c κs. search rules)
     (λ c κs. search rules)
-    (λ c. search rules)
-    (λ c. search rules)
     (λ c κs. search rules)
-    (λ c. search rules)
-    (λ c. search rules)
     (λ c κs. search rules)
-    (λ c. c.before.before.put-either2.auto.0 ∙ c.before.before.before.before.before.before.before.before.before.put-either.auto.0 ∙ c.before.before.before.before.before.before.before.before.before.before.before.before.before.before.before.before.put-number.auto.0)
+    (λ c. c.put_either.auto.buffer ∙ c.put_either-at.auto.buffer ∙ c.put_number-at.auto.buffer)
     returns)

@@ -8,25 +8,19 @@ use Rattle.file_tables.proofs.record.put_transform.Tie as tie
 
 returns : tie.Need-returns
 returns c =
-    let a = c.before.before.before.before.before.before.before.before.before.before.before.before.before.before.before.before.before.before.before.before.before.before.before.before.before.before.before.before.before.before.before.before.args in
-    is (then (then (then (then (then c.before.before.before.before.before.before.before.before.before.before.before.before.before.before.before.before.before.before.before.before.before.before.before.before.before.before.before.before.put_if.ensures c.before.before.before.before.before.before.before.before.before.before.before.before.before.before.before.before.before.before.before.before.before.before.before.put-if2.ensures) c.before.before.before.before.before.before.before.before.before.before.before.before.before.before.before.before.before.before.put-if3.ensures) c.before.before.before.before.before.before.before.before.before.before.before.before.before.put-if4.ensures) c.before.before.before.before.before.before.before.put-number.ensures) c.before.before.put-if5.ensures) (transform_is a.transform a.buckets.0 c.before.before.before.before.before.before.before.before.of-buckets.ensures)
+    let a = c.args in
+    is (then (then (then (then (then c.put_if-at.ensures c.put_if-at-2.ensures) c.put_if-at-3.ensures) c.put_if-at-4.ensures) c.put_number-at.ensures) c.put_if.ensures) (transform_is a.transform a.buckets.0 c.of_buckets.ensures)
 
 pub put_transform_spec : {M : Type 1} → statement M
 put_transform_spec =
     tie.close
     (tie.spec
-    (λ c. search rules)
-    (λ c κs. search rules)
-    (λ c. search rules)
-    (λ c κs. search rules)
-    (λ c. search rules)
-    (λ c κs. search rules)
-    (λ c. search rules)
-    (λ c κs. search rules)
-    (λ c. search rules)
     (λ c κs. search rules)
     (λ c κs. search rules)
-    (λ c. search rules)
     (λ c κs. search rules)
-    (λ c. c.before.before.put-if5.auto.0 ∙ c.before.before.before.before.before.before.before.put-number.auto.0 ∙ c.before.before.before.before.before.before.before.before.before.before.before.before.before.put-if4.auto.0 ∙ c.before.before.before.before.before.before.before.before.before.before.before.before.before.before.before.before.before.before.put-if3.auto.0 ∙ c.before.before.before.before.before.before.before.before.before.before.before.before.before.before.before.before.before.before.before.before.before.before.before.put-if2.auto.0 ∙ c.before.before.before.before.before.before.before.before.before.before.before.before.before.before.before.before.before.before.before.before.before.before.before.before.before.before.before.before.put_if.auto.0)
+    (λ c κs. search rules)
+    (λ c κs. search rules)
+    (λ c κs. search rules)
+    (λ c κs. search rules)
+    (λ c. c.put_if.auto.buffer ∙ c.put_number-at.auto.buffer ∙ c.put_if-at-4.auto.buffer ∙ c.put_if-at-3.auto.buffer ∙ c.put_if-at-2.auto.buffer ∙ c.put_if-at.auto.buffer)
     returns)

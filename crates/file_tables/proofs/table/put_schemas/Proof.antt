@@ -15,31 +15,27 @@ use Rattle.file_tables.proofs.Tables.{slots, table_on, table_end}
 use Rattle.file_tables.proofs.table.put_schemas.Statement.{statement}
 use Rattle.file_tables.proofs.table.put_schemas.Tie as tie
 
-abbrev invariant_loop : tie.invariant_loop
-invariant_loop buffer₀ at t n none to₀ i₀ t10 buffer to i = Putting buffer₀ to₀ (items schema_text (map read_schema (take i (counted no_schema t.items t.count)))) to buffer i t.count × (length t.items ≡ 16)
+abbrev invariant_loop : tie.invariant-loop-i
+invariant_loop buffer₀ at t n none to₀ i₀ buffer to i = Putting buffer₀ to₀ (items schema_text (map read_schema (take i (counted no_schema t.items t.count)))) to buffer i t.count × (length t.items ≡ 16)
 
-abbrev decreases_loop : tie.decreases_loop
-decreases_loop buffer₀ at t n none to₀ i₀ t10 buffer to i = t.count - i
+abbrev decreases_loop : tie.decreases-loop-i
+decreases_loop buffer₀ at t n none to₀ i₀ buffer to i = t.count - i
 
-loop_again : tie.Need-loop-preserved invariant_loop decreases_loop
+loop_again : tie.Need-loop-i-preserved invariant_loop decreases_loop
 loop_again c =
-    let k = c.before.before in
-    let s = c.before.before.before.before.before.before in
     let j = c.before.before.before.before.before.before.before.before.before in
     let n = j.before in
-    let l = n.before in
-    let a = c.before.before.before.before.before.before.before.before.before.before.before.before.before.before.args in (
-      putting_on l.loop.invariant.0 (then s.put_if.ensures k.put-schema.ensures) (k.put-schema.auto.0 ∙ s.put_if.auto.0) n.loop-test.true
-          (table_on read_schema schema_text no_schema a.t3.items a.t3.count 16 _ l.loop.i _ l.loop.invariant.1 n.loop-test.true
-          (⊎_elim (λ w. inl (w.0.taken, w.2)) (λ w. inr (w.0.left, w.1 ∙ l.before.blank.ensures)) j.if1.branch)),
-      l.loop.invariant.1,
+    let a = c.args in (
+      putting_on n.loop-i.invariant.0 (then c.put_if-to.ensures c.put_schema-to.ensures) (c.put_schema-to.auto.buffer ∙ c.put_if-to.auto.buffer) n.loop-i-test.true
+          (table_on read_schema schema_text no_schema a.t.items a.t.count 16 _ n.loop-i.i _ n.loop-i.invariant.1 n.loop-i-test.true
+          (⊎_elim (λ w. inl (w.if-i-lt-SCHEMAS.true, w.x-is)) (λ w. inr (w.if-i-lt-SCHEMAS.false, w.x-is ∙ n.blank-none.ensures)) j.if-i-lt-SCHEMAS.branch-raw)),
+      n.loop-i.invariant.1,
     )
 
 returns : tie.Need-returns invariant_loop decreases_loop
 returns c =
-    let a = c.before.before.before.before.args in
-    let l = c.before in
-    is l.loop.invariant.0.puts (table_end read_schema schema_text no_schema a.t3.items a.t3.count l.loop.i c.loop-test.false)
+    let a = c.args in
+    is c.loop-i.invariant.0.puts (table_end read_schema schema_text no_schema a.t.items a.t.count c.loop-i.i c.loop-i-test.false)
 
 pub put_schemas_spec : {M : Type 1} → statement M
 put_schemas_spec =
@@ -51,11 +47,10 @@ put_schemas_spec =
     (λ c. (putting (omega arith), search (rules, slots)))
     (λ c. search rules)
     (λ c. search rules)
-    (λ c. search rules)
     (λ c κs. search rules)
     (λ c κs. search rules)
     (λ c. search rules)
     (λ c. search rules)
     loop_again
-    (λ c. c.before.loop.invariant.0.size)
+    (λ c. c.loop-i.invariant.0.size)
     returns)

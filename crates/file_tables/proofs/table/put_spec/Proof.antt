@@ -8,20 +8,17 @@ use Rattle.file_tables.proofs.table.put_spec.Tie as tie
 
 returns : tie.Need-returns
 returns c =
-    let a = c.before.before.before.before.before.before.before.before.before.before.before.before.before.before.before.before.before.before.before.before.before.args in
-    is (then (then (then c.before.before.before.before.before.before.before.before.before.before.before.before.before.before.before.before.put-number.ensures c.before.before.before.before.before.before.before.before.before.before.before.put.ensures) c.before.before.before.before.before.before.before.put-partition-fields.ensures) c.before.before.put2.ensures) (spec_is a.s c.before.before.before.before.before.before.before.before.before.before.before.before.before.before.before.before.before.of_spec.ensures)
+    let a = c.args in
+    is (then (then (then c.put_number-at.ensures c.put-at.ensures) c.put_partition_fields-at.ensures) c.put.ensures) (spec_is a.s c.of_spec.ensures)
 
 pub put_spec_spec : {M : Type 1} → statement M
 put_spec_spec =
     tie.close
     (tie.spec
-    (λ c. search rules)
     (λ c κs. search rules)
     (λ c κs. search rules)
-    (λ c. search rules)
     (λ c κs. search rules)
     (λ c κs. search rules)
-    (λ c. search rules)
     (λ c κs. search rules)
-    (λ c. c.before.before.put2.auto.0 ∙ c.before.before.before.before.before.before.before.put-partition-fields.auto.0 ∙ c.before.before.before.before.before.before.before.before.before.before.before.put.auto.0 ∙ c.before.before.before.before.before.before.before.before.before.before.before.before.before.before.before.before.put-number.auto.0)
+    (λ c. c.put.auto.buffer ∙ c.put_partition_fields-at.auto.buffer ∙ c.put-at.auto.buffer ∙ c.put_number-at.auto.buffer)
     returns)

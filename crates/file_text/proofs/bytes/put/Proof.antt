@@ -13,6 +13,6 @@ put_spec =
     (λ c κs. search rules)
     (λ c. search rules)
     (λ c. search rules)
-    (λ c. stored _ (omega arith) (omega arith) c.before.before.copy.ensures)
+    (λ c. stored _ (omega arith) (omega arith) c.copy.ensures)
     (λ c κs. search rules)
-    (λ c. rw c.past.ensures (counted _ (⊎_elim (λ w. omega arith) (λ w. omega arith) c.before.if1.branch))))
+    (λ c. rw c.past.ensures (counted _ (⊎_elim (λ w. omega arith) (λ w. omega arith) c.if-at-room.branch-raw))))

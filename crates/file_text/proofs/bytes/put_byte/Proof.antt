@@ -14,6 +14,6 @@ put_byte_spec =
     (λ c. search rules)
     (λ c. search rules)
     (λ c. search rules)
-    (λ c. stored (c.before.before.args.byte ∷ []) (omega arith) (omega arith) refl)
+    (λ c. stored (c.args.byte ∷ []) (omega arith) (omega arith) refl)
     (λ c κs. search rules)
-    (λ c. rw c.past.ensures (counted (c.before.before.before.args.byte ∷ []) (omega arith))))
+    (λ c. rw c.past.ensures (counted (c.args.byte ∷ []) (omega arith))))

@@ -9,7 +9,7 @@ put_either_spec =
     (tie.spec
     (λ c κs. search rules)
     (λ c. search rules)
-    (λ c. rw c.before.before.before.before.if1.true c.before.before.put.ensures)
+    (λ c. rw c.if-first.true c.put.ensures)
     (λ c κs. search rules)
     (λ c. search rules)
-    (λ c. rw c.before.before.before.before.if1.false c.before.before.put2.ensures))
+    (λ c. rw c.if-first.false c.put-2.ensures))

@@ -11,5 +11,5 @@ put_if_spec =
     (tie.spec
     (λ c κs. search rules)
     (λ c. search rules)
-    (λ c. wanted _ c.before.before.before.before.if1.true c.before.before.put.ensures)
-    (λ c. unwanted _ _ c.if1.false (omega arith)))
+    (λ c. wanted _ c.if-wanted.true c.put.ensures)
+    (λ c. unwanted _ _ c.if-wanted.false (omega arith)))

@@ -8,9 +8,9 @@ pub magnitude_spec : {M : Type 1} → statement M
 magnitude_spec =
     tie.close
     (tie.spec
-    (λ c. let k = c.before in mirror_fits k.before.args.number.0 (sfits_of k.struct_told.given.0.1) c.if1.true)
-    (λ c. let k = c.before in below_fits k.before.args.number.0 (sfits_of k.struct_told.given.0.1) c.if1.true)
-    (λ c. let k = c.before in more_fits k.before.args.number.0 (sfits_of k.struct_told.given.0.1) c.if1.true)
-    (λ c. let k = c.before in magnitude_is k.before.args.number.0 (sfits_of k.struct_told.given.0.1) c.if1.true)
-    (λ c. let k = c.before in above_fits k.before.args.number.0 (sfits_of k.struct_told.given.0.1) c.if1.false)
-    (λ c. let k = c.before in above_is k.before.args.number.0 (sfits_of k.struct_told.given.0.1)))
+    (λ c. mirror_fits c.args.number.0 (sfits_of c.struct_told-1.given.0.1) c.if-x-lt0.true)
+    (λ c. below_fits c.args.number.0 (sfits_of c.struct_told-1.given.0.1) c.if-x-lt0.true)
+    (λ c. more_fits c.args.number.0 (sfits_of c.struct_told-1.given.0.1) c.if-x-lt0.true)
+    (λ c. magnitude_is c.args.number.0 (sfits_of c.struct_told-1.given.0.1) c.if-x-lt0.true)
+    (λ c. above_fits c.args.number.0 (sfits_of c.struct_told-1.given.0.1) c.if-x-lt0.false)
+    (λ c. above_is c.args.number.0 (sfits_of c.struct_told-1.given.0.1)))

@@ -12,5 +12,5 @@ put_natural_spec =
     (λ c κs. search rules)
     (λ c κs. search rules)
     (λ c. search rules)
-    (λ c. let k = c.before.before in let p = k.before.before.before.before in wanted _ p.before.before.if1.true (then p.put.ensures k.put-digits.ensures))
-    (λ c. unwanted _ _ c.if1.false (omega arith)))
+    (λ c. let k = c.before.before in wanted _ k.if-wanted.true (then k.put-named.ensures k.put_digits.ensures))
+    (λ c. unwanted _ _ c.if-wanted.false (omega arith)))

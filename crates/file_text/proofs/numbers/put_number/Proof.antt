@@ -12,14 +12,12 @@ put_number_spec =
     (tie.spec
     (λ c κs. search rules)
     (λ c κs. search rules)
-    (λ c. search rules)
     (λ c κs. search rules)
     (λ c κs. search rules)
     (λ c κs. search rules)
     (λ c. search rules)
     (λ c. let k = c.before.before in
     let s = k.before.before.before.before.before in
-    let p = s.before.before.before.before.before.before in
-    let a = p.before.before.before.before.before.args in
-    wanted _ p.before.before.if1.true (is (then (then p.put.ensures s.put_if.ensures) k.put-digits.ensures) (signed a.before.now a.number.0 s.before.before.is_negative.ensures k.before.magnitude.ensures)))
-    (λ c. unwanted _ _ c.if1.false (omega arith)))
+    let a = s.args in
+    wanted _ s.if-wanted.true (is (then (then s.put-named.ensures s.put_if-signed.ensures) k.put_digits.ensures) (signed a.before.now a.number.0 s.is_negative.ensures k.magnitude.ensures)))
+    (λ c. unwanted _ _ c.if-wanted.false (omega arith)))

@@ -13,4 +13,4 @@ put_hex_spec =
     (λ c. search rules)
     (λ c κs. search rules)
     (λ c. search rules)
-    (λ c. let h = c.before.before.before.before.before in is c.before.before.put.ensures (rw (h.hex-digit2.ensures, h.before.hex-digit.ensures))))
+    (λ c. is c.put.ensures (rw (c.hex_digit-2.ensures, c.hex_digit.ensures))))

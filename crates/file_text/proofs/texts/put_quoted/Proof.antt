@@ -12,10 +12,10 @@ use Rattle.file_text.proofs.Escapes.{text_on, text_end}
 use Rattle.file_text.proofs.texts.put_quoted.Statement.{statement}
 use Rattle.file_text.proofs.texts.put_quoted.Tie as tie
 
-abbrev invariant_loop : tie.invariant_loop
+abbrev invariant_loop : tie.invariant-loop-i
 invariant_loop buffer₀ at bytes count to₀ i₀ buffer to i = Putting buffer₀ to₀ (escaped_bytes (take i (counted 0 bytes count))) to buffer i count
 
-abbrev decreases_loop : tie.decreases_loop
+abbrev decreases_loop : tie.decreases-loop-i
 decreases_loop buffer₀ at bytes count to₀ i₀ buffer to i = count - i
 
 pub put_quoted_spec : {M : Type 1} → statement M
@@ -32,9 +32,8 @@ put_quoted_spec =
     (λ c. search rules)
     (λ c. let k = c.before.before in
     let j = k.before.before in
-    let l = j.before.before in
-    let n = j.before.loop-test.true in
-    putting_on l.loop.invariant k.put-escaped.ensures (search rules) n (text_on _ _ _ _ n (⊎_elim (λ w. inl (w.0.taken, w.2)) (λ w. inr (w.0.left, w.1)) j.if1.branch)))
+    let n = j.loop-i-test.true in
+    putting_on j.loop-i.invariant k.put_escaped-to.ensures (search rules) n (text_on _ _ _ _ n (⊎_elim (λ w. inl (w.if-i-bytes.true, w.byte-is)) (λ w. inr (w.if-i-bytes.false, w.byte-is)) j.if-i-bytes.branch-raw)))
     (λ c κs. search rules)
-    (λ c. omega (arith, c.before.before.before.before.before.loop.invariant.size))
-    (λ c. let k = c.before.before in let l = k.before.before.before in is (then (then l.before.before.before.put_byte.ensures l.loop.invariant.puts) k.put-byte2.ensures) (text_end _ _ _ k.before.before.loop-test.false)))
+    (λ c. omega (arith, c.loop-i.invariant.size))
+    (λ c. let k = c.before.before in is (then (then k.put_byte-to.ensures k.loop-i.invariant.puts) k.put_byte.ensures) (text_end _ _ _ k.loop-i-test.false)))

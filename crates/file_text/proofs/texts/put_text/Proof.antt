@@ -12,4 +12,4 @@ put_text_spec =
     (λ c. search rules)
     (λ c κs. search rules)
     (λ c. search rules)
-    (λ c. let k = c.before.before in then k.before.before.before.before.before.put.ensures k.put-quoted.ensures))
+    (λ c. then c.put-named.ensures c.put_quoted.ensures))

@@ -9,25 +9,23 @@ use Rattle.file_text.proofs.Escapes.{uuid_on, uuid_end}
 use Rattle.file_text.proofs.texts.put_uuid.Statement.{statement}
 use Rattle.file_text.proofs.texts.put_uuid.Tie as tie
 
-abbrev invariant_loop : tie.invariant_loop
-invariant_loop buffer₀ at before uuid named to₀ i₀ t9 buffer to i = Putting buffer₀ to₀ (uuid_from 0 (take i uuid)) to buffer i (length uuid)
+abbrev invariant_loop : tie.invariant-loop-i
+invariant_loop buffer₀ at before uuid named to₀ i₀ buffer to i = Putting buffer₀ to₀ (uuid_from 0 (take i uuid)) to buffer i (length uuid)
 
-abbrev decreases_loop : tie.decreases_loop
-decreases_loop buffer₀ at before uuid named to₀ i₀ t9 buffer to i = length uuid - i
+abbrev decreases_loop : tie.decreases-loop-i
+decreases_loop buffer₀ at before uuid named to₀ i₀ buffer to i = length uuid - i
 
-loop_again : tie.Need-loop-preserved invariant_loop decreases_loop
+loop_again : tie.Need-loop-i-preserved invariant_loop decreases_loop
 loop_again c =
-    let n = c.before.before.before.before.before.before.before.before.before.before in
-    putting_on n.before.loop.invariant (then c.before.before.before.before.before.before.before.put_if.ensures c.before.before.put-hex.ensures) (search rules) n.loop-test.true (uuid_on _ _ n.loop-test.true)
+    putting_on c.loop-i.invariant (then c.put_if-to.ensures c.put_hex-to.ensures) (search rules) c.loop-i-test.true (uuid_on _ _ c.loop-i-test.true)
 
 returns : tie.Need-returns invariant_loop decreases_loop
 returns c =
     let k = c.before.before in
     let l = k.before.before.before in
     let b = l.before.before.before in
-    let p = b.before.before.before.before in
-    let a = p.before.before.before.before.before.args in
-    is (then (then (then p.put.ensures b.put_byte.ensures) l.loop.invariant.puts) k.put-byte2.ensures) (uuid_end a.before.now a.uuid.now l.loop.i k.before.before.loop-test.false)
+    let a = b.args in
+    is (then (then (then b.put-named.ensures b.put_byte-to.ensures) l.loop-i.invariant.puts) k.put_byte.ensures) (uuid_end a.before.now a.uuid.now l.loop-i.i k.loop-i-test.false)
 
 pub put_uuid_spec : {M : Type 1} → statement M
 put_uuid_spec =
@@ -38,7 +36,6 @@ put_uuid_spec =
     (λ c κs. search rules)
     (λ c κs. search rules)
     (λ c. putting (omega arith))
-    (λ c. search rules)
     (λ c κs. search rules)
     (λ c. search rules)
     (λ c κs. search rules)
@@ -46,5 +43,5 @@ put_uuid_spec =
     (λ c. search rules)
     loop_again
     (λ c κs. search rules)
-    (λ c. omega (arith, c.before.before.before.before.before.loop.invariant.size))
+    (λ c. omega (arith, c.loop-i.invariant.size))
     returns)

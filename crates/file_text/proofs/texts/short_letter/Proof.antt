@@ -9,12 +9,12 @@ unfolding short_letter
 short_letter_spec =
     tie.close
     (tie.spec
-    (λ c. rw c.match.keys1)
-    (λ c. rw c.match.keys2)
-    (λ c. rw c.match.keys3)
-    (λ c. rw c.match.keys4)
-    (λ c. rw c.match.keys5)
-    (λ c. rw c.match.keys6)
-    (λ c. rw c.match.keys7)
-    (λ c. let n = c.match.rest in
+    (λ c. rw c.in-34.is)
+    (λ c. rw c.in-92.is)
+    (λ c. rw c.in-8.is)
+    (λ c. rw c.in-12.is)
+    (λ c. rw c.in-10.is)
+    (λ c. rw c.in-13.is)
+    (λ c. rw c.in-9.is)
+    (λ c. let n = c.in_default.in_default-own.rest in
     rw (ne_eqb _ _ n.0.0.0.0.0.0.1, ne_eqb _ _ n.0.0.0.0.0.1, ne_eqb _ _ n.0.0.0.0.1, ne_eqb _ _ n.0.0.0.1, ne_eqb _ _ n.0.0.1, ne_eqb _ _ n.0.1, ne_eqb _ _ n.1)))

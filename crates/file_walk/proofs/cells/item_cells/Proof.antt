@@ -12,6 +12,6 @@ item_cells_spec =
     (tie.spec
     (λ c. search rules)
     (λ c κs. search rules)
-    (λ c. rw c.type_size.ensures (record { fits = omega (arith, product_small _ _ c.before.requires.1.0 c.before.requires.1.1) }))
-    (λ c. rw c.type_size.ensures (record { fits = omega (arith, product_small _ _ c.before.requires.1.0 c.before.requires.1.1) }))
-    (λ c. rw (c.type_size.ensures, add-one c.before.args.base)))
+    (λ c. rw c.size_of.ensures (record { fits = omega (arith, product_small _ _ c.requires.1.0 c.requires.1.1) }))
+    (λ c. rw c.size_of.ensures (record { fits = omega (arith, product_small _ _ c.requires.1.0 c.requires.1.1) }))
+    (λ c. rw (c.size_of.ensures, add-one c.args.base)))

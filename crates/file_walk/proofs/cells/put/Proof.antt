@@ -14,4 +14,4 @@ put_spec =
     (λ c. search rules)
     (λ c. search rules)
     (λ c. search rules)
-    (λ c. sym (set_out _ _ _ (omega (arith, c.before.room.ensures, c.if1.false)))))
+    (λ c. sym (set_out _ _ _ (omega (arith, c.room.ensures, c.if-base-lt-CELLS.false)))))

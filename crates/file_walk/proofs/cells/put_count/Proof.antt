@@ -14,6 +14,6 @@ put_count_spec =
     (tie.spec
     (λ c. search rules)
     (λ c κs. search rules)
-    (λ c. c.put.ensures ∙ rw (eq-eqb _ _ c.before.before.before.if1.true, ne_eqb _ _ c.before.before.if2.true, add-one c.before.before.before.before.before.args.seat.count))
-    (λ c. rw (eq-eqb _ _ c.before.if1.true, eq-eqb _ _ c.if2.false))
-    (λ c. rw (ne_eqb _ _ c.if1.false)))
+    (λ c. c.put.ensures ∙ rw (eq-eqb _ _ c.if-seat-eq-READ.true, ne_eqb _ _ c.if-each-ne0.true, add-one c.args.seat.count))
+    (λ c. rw (eq-eqb _ _ c.if-seat-eq-READ.true, eq-eqb _ _ c.if-each-ne0.false))
+    (λ c. rw (ne_eqb _ _ c.if-seat-eq-READ.false)))

@@ -12,4 +12,4 @@ put_value_spec =
     (λ c κs. search rules)
     (λ c. search rules)
     (λ c κs. search rules)
-    (λ c. c.put2.ensures ∙ rw (c.before.before.put.ensures, add-one c.before.before.before.before.args.base)))
+    (λ c. c.put-2.ensures ∙ rw (c.put.ensures, add-one c.args.base)))

@@ -12,7 +12,7 @@ after_colon_spec =
     (tie.spec
     (λ c κs. search rules)
     (λ c κs. search rules)
-    (λ c. rw (sym c.before.before.is-mark.ensures ∙ c.before.if1.true, c.next-skip.ensures))
+    (λ c. rw (sym c.is_mark.ensures ∙ c.if-is_mark.true, c.next_skip.ensures))
     (λ c κs. search rules)
     (λ c κs. search rules)
-    (λ c. c.stop.ensures ∙ rw (sym c.before.before.before.is-mark.ensures ∙ c.before.before.if1.false, c.before.stop-place.ensures)))
+    (λ c. c.stop.ensures ∙ rw (sym c.is_mark.ensures ∙ c.if-is_mark.false, c.stop_place.ensures)))

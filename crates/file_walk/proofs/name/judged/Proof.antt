@@ -10,4 +10,4 @@ judged_spec =
     (λ c κs. search rules)
     (λ c κs. search rules)
     (λ c κs. search rules)
-    (λ c. rw (c.before.refuse.ensures, c.fresh-spot.ensures, c.before.before.name-number.ensures)))
+    (λ c. rw (c.refuse-s.ensures, c.fresh_spot.ensures, c.name_number.ensures)))

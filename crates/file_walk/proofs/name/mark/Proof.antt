@@ -9,7 +9,7 @@ unfolding marked
 mark_spec =
     tie.close
     (tie.spec
-    (λ c. c.before.requires.above c.if1.true)
-    (λ c. c.before.requires.below c.if1.true)
-    (λ c. rw (ne_eqb _ _ c.if1.true))
-    (λ c. rw (eq-eqb _ _ c.if1.false)))
+    (λ c. c.requires.above c.if-known-ne0.true)
+    (λ c. c.requires.below c.if-known-ne0.true)
+    (λ c. rw (ne_eqb _ _ c.if-known-ne0.true))
+    (λ c. rw (eq-eqb _ _ c.if-known-ne0.false)))

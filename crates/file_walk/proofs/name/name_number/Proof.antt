@@ -7,8 +7,8 @@ pub name_number_spec : {M : Type 1} → statement M
 name_number_spec =
     tie.close
     (tie.spec
-    (λ c. rw (le-leb _ _ c.if1.true))
-    (λ c. rw (lt-leb _ _ c.before.before.if1.false, eq-eqb _ _ c.before.if2.true, eq-eqb _ _ c.if3.true))
-    (λ c. rw (lt-leb _ _ c.before.before.if1.false, eq-eqb _ _ c.before.if2.true, ne_eqb _ _ c.if3.false))
-    (λ c. rw (lt-leb _ _ c.before.before.if1.false, ne_eqb _ _ c.before.if2.false, c.if4.true))
-    (λ c. rw (lt-leb _ _ c.before.before.if1.false, ne_eqb _ _ c.before.if2.false, c.if4.false)))
+    (λ c. rw (le-leb _ _ c.if-kind-ge-NO_RECORD.true))
+    (λ c. rw (lt-leb _ _ c.if-kind-ge-NO_RECORD.false, eq-eqb _ _ c.if-known-eq0.true, eq-eqb _ _ c.if-kind-eq0.true))
+    (λ c. rw (lt-leb _ _ c.if-kind-ge-NO_RECORD.false, eq-eqb _ _ c.if-known-eq0.true, ne_eqb _ _ c.if-kind-eq0.false))
+    (λ c. rw (lt-leb _ _ c.if-kind-ge-NO_RECORD.false, ne_eqb _ _ c.if-known-eq0.false, c.if-repeated.true))
+    (λ c. rw (lt-leb _ _ c.if-kind-ge-NO_RECORD.false, ne_eqb _ _ c.if-known-eq0.false, c.if-repeated.false)))

@@ -10,6 +10,6 @@ next_skip_spec =
     tie.close
     (tie.spec
     (λ c. search rules)
-    (λ c. rw (eq-eqb _ _ c.before.if1.true, eq-eqb _ _ c.if2.true) (add-one _))
-    (λ c. rw (eq-eqb _ _ c.before.if1.true, ne_eqb _ _ c.if2.false))
-    (λ c. rw (ne_eqb _ _ c.if1.false)))
+    (λ c. rw (eq-eqb _ _ c.if-kind-eq0.true, eq-eqb _ _ c.if-known-eq0.true) (add-one _))
+    (λ c. rw (eq-eqb _ _ c.if-kind-eq0.true, ne_eqb _ _ c.if-known-eq0.false))
+    (λ c. rw (ne_eqb _ _ c.if-kind-eq0.false)))

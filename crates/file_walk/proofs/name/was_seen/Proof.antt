@@ -7,7 +7,7 @@ pub was_seen_spec : {M : Type 1} → statement M
 was_seen_spec =
     tie.close
     (tie.spec
-    (λ c. rw (eq-eqb _ _ c.if1.true))
-    (λ c. c.before.requires.above c.if1.false)
-    (λ c. c.before.requires.below c.if1.false)
-    (λ c. rw (ne_eqb _ _ c.before.if1.false)))
+    (λ c. rw (eq-eqb _ _ c.if-known-eq0.true))
+    (λ c. c.requires.above c.if-known-eq0.false)
+    (λ c. c.requires.below c.if-known-eq0.false)
+    (λ c. rw (ne_eqb _ _ c.if-known-eq0.false)))

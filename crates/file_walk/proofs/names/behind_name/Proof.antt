@@ -11,7 +11,7 @@ behind_name_spec =
     tie.close
     (tie.spec
     (λ c κs. search rules)
-    (λ c. rw (sym c.before.is-mark.ensures ∙ c.if1.true))
+    (λ c. rw (sym c.is_mark.ensures ∙ c.if-is_mark.true))
     (λ c κs. search rules)
     (λ c κs. search rules)
-    (λ c. c.stop.ensures ∙ rw (c.before.stop-place.ensures, sym c.before.before.before.is-mark.ensures ∙ c.before.before.if1.false)))
+    (λ c. c.stop.ensures ∙ rw (c.stop_place.ensures, sym c.is_mark.ensures ∙ c.if-is_mark.false)))

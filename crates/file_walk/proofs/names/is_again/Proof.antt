@@ -18,11 +18,11 @@ is_again_spec =
     (tie.spec
     (λ c κs. search rules)
     (λ c κs. search rules)
-    (λ c. sym (rw (no_name_lem _ _ _ _ c.before.before.next.ensures (sym c.before.is-mark.ensures ∙ not-true _ c.if1.true))))
-    (λ c. sym (again_long _ _ _ _ c.before.before.before.next.ensures (sym c.before.before.is-mark.ensures ∙ not-false _ c.before.if1.false) _ _ c.if2.true c.before.before.before.before.before.before.requires))
+    (λ c. sym (rw (no_name_lem _ _ _ _ c.next-t.ensures (sym c.is_mark.ensures ∙ not-true _ c.if-not-is_mark.true-raw))))
+    (λ c. sym (again_long _ _ _ _ c.next-t.ensures (sym c.is_mark.ensures ∙ not-false _ c.if-not-is_mark.false-raw) _ _ c.if-n-ge-KEPT.true c.requires))
     (λ c. search rules)
-    (λ c. sym (length-take _ _ ∙ short _ _ c.before.before.before.before.next.ensures.long c.before.if2.false))
-    (λ c κs. rw length-take (omega (arith, c.before.if2.false)))
+    (λ c. sym (length-take _ _ ∙ short _ _ c.next-t.ensures.long c.if-n-ge-KEPT.false))
+    (λ c κs. rw length-take (omega (arith, c.if-n-ge-KEPT.false)))
     (λ c.
-    c.is_IsWord.ensures
-    ∙ sym (rw (again_short _ _ _ _ c.before.before.before.before.before.next.ensures (sym c.before.before.before.before.is-mark.ensures ∙ not-false _ c.before.before.before.if1.false) c.before.before.if2.false))))
+    c.is_word.ensures
+    ∙ sym (rw (again_short _ _ _ _ c.next-t.ensures (sym c.is_mark.ensures ∙ not-false _ c.if-not-is_mark.false-raw) c.if-n-ge-KEPT.false))))

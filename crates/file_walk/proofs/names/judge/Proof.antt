@@ -10,6 +10,6 @@ judge_spec =
     (tie.spec
     (λ c κs. search rules)
     (λ c κs. search rules)
-    (λ c κs. rw c.refuse.ensures c.before.before.before.requires)
+    (λ c κs. rw c.refuse-over.ensures c.requires)
     (λ c κs. search rules)
-    (λ c. c.refuse2.ensures ∙ rw (c.before.name-fault.ensures, c.before.before.refuse.ensures, c.before.before.before.over-room.ensures)))
+    (λ c. c.refuse.ensures ∙ rw (c.name_fault.ensures, c.refuse-over.ensures, c.over_room.ensures)))

@@ -24,19 +24,19 @@ name_fault_spec =
     tie.close
     (tie.spec
     (λ c κs. search rules)
-    (λ c. rw (← c.before.own-fault.ensures, ne_eqb _ _ c.if1.true))
+    (λ c. rw (← c.own_fault-own.ensures, ne_eqb _ _ c.if-own-ne0.true))
     (λ c κs. search rules)
-    (λ c. rw (← c.before.before.before.own-fault.ensures, eq-eqb _ _ c.before.before.if1.false, sym c.before.is-early.ensures ∙ c.if2.true))
-    (λ c κs. (search rules, short _ (sym c.before.before.before.own-fault.ensures ∙ c.before.before.if1.false)))
+    (λ c. rw (← c.own_fault-own.ensures, eq-eqb _ _ c.if-own-ne0.false, sym c.is_early.ensures ∙ c.if-is_early.true))
+    (λ c κs. (search rules, short _ (sym c.own_fault-own.ensures ∙ c.if-own-ne0.false)))
     (λ c. rw (
-      ← c.before.before.before.before.before.own-fault.ensures,
-      eq-eqb _ _ c.before.before.before.before.if1.false,
-      sym c.before.before.before.is-early.ensures ∙ c.before.before.if2.false,
-      sym c.before.was-there.ensures ∙ c.if3.true,
+      ← c.own_fault-own.ensures,
+      eq-eqb _ _ c.if-own-ne0.false,
+      sym c.is_early.ensures ∙ c.if-is_early.false,
+      sym c.was_there.ensures ∙ c.if-was_there.true,
     ))
     (λ c. rw (
-      ← c.before.before.before.before.before.own-fault.ensures,
-      eq-eqb _ _ c.before.before.before.before.if1.false,
-      sym c.before.before.before.is-early.ensures ∙ c.before.before.if2.false,
-      sym c.before.was-there.ensures ∙ c.if3.false,
+      ← c.own_fault-own.ensures,
+      eq-eqb _ _ c.if-own-ne0.false,
+      sym c.is_early.ensures ∙ c.if-is_early.false,
+      sym c.was_there.ensures ∙ c.if-was_there.false,
     )))

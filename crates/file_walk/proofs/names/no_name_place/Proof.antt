@@ -10,7 +10,7 @@ no_name_place_spec =
     tie.close
     (tie.spec
     (λ c κs. search rules)
-    (λ c. c.stop-place.ensures ∙ rw (ne_eqb _ _ c.before.if1.true))
+    (λ c. c.stop_place.ensures ∙ rw (ne_eqb _ _ c.if-t-ne-BROKEN.true))
     (λ c κs. search rules)
-    (λ c. c.stop-place2.ensures ∙ rw (eq-eqb _ _ c.before.before.before.if1.false, ne_eqb _ _ c.before.if2.true))
-    (λ c. rw (eq-eqb _ _ c.before.before.if1.false, eq-eqb _ _ c.if2.false)))
+    (λ c. c.stop_place-then-t-ne34.ensures ∙ rw (eq-eqb _ _ c.if-t-ne-BROKEN.false, ne_eqb _ _ c.if-t-ne34.true))
+    (λ c. rw (eq-eqb _ _ c.if-t-ne-BROKEN.false, eq-eqb _ _ c.if-t-ne34.false)))

@@ -7,5 +7,5 @@ pub over_room_spec : {M : Type 1} → statement M
 over_room_spec =
     tie.close
     (tie.spec
-    (λ c. rw (lt-ltb _ _ c.if1.true))
-    (λ c. rw (le-ltb _ _ c.if1.false)))
+    (λ c. rw (lt-ltb _ _ c.if-count-room.true))
+    (λ c. rw (le-ltb _ _ c.if-count-room.false)))

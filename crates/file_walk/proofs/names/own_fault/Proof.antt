@@ -7,6 +7,6 @@ pub own_fault_spec : {M : Type 1} → statement M
 own_fault_spec =
     tie.close
     (tie.spec
-    (λ c. rw (eq-eqb _ _ c.if1.true))
-    (λ c. rw (ne_eqb _ _ c.before.if1.false, le-leb _ _ c.if2.true))
-    (λ c. rw (ne_eqb _ _ c.before.if1.false, lt-leb _ _ c.if2.false)))
+    (λ c. rw (eq-eqb _ _ c.if-len-eq-LONE.true))
+    (λ c. rw (ne_eqb _ _ c.if-len-eq-LONE.false, le-leb _ _ c.if-len-le-LONGEST.true))
+    (λ c. rw (ne_eqb _ _ c.if-len-eq-LONE.false, lt-leb _ _ c.if-len-le-LONGEST.false)))

@@ -14,5 +14,5 @@ put_name_spec =
     (tie.spec
     (λ c. search rules)
     (λ c κs. search rules)
-    (λ c. c.put-value.ensures ∙ rw (ne_eqb _ _ c.before.before.if1.true, add-one c.before.before.before.before.args.place))
-    (λ c. rw (eq-eqb _ _ c.if1.false)))
+    (λ c. c.put_value.ensures ∙ rw (ne_eqb _ _ c.if-seat-ne-MISSING.true, add-one c.args.place))
+    (λ c. rw (eq-eqb _ _ c.if-seat-ne-MISSING.false)))

@@ -14,4 +14,4 @@ put_place_spec =
     (λ c. search rules)
     (λ c. search rules)
     (λ c. search rules)
-    (λ c. sym (set_out _ _ _ (omega (arith, c.before.see-places.ensures, c.if1.false)))))
+    (λ c. sym (set_out _ _ _ (omega (arith, c.see_places.ensures, c.if-count-lt-NAMES.false)))))

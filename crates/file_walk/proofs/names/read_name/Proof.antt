@@ -15,10 +15,10 @@ read_name_spec =
     (λ c κs. search rules)
     (λ c κs. search rules)
     (λ c κs. search rules)
-    (λ c. no_name_so _ _ _ _ _ c.before.before.before.before.before.before.before.before.before.requires _ _ c.before.before.before.before.next.ensures _ _ c.before.no-name-place.ensures c.stop.ensures (sym c.before.before.before.is-mark.ensures ∙ not-true _ c.before.before.if1.true))
+    (λ c. no_name_so _ _ _ _ _ c.requires _ _ c.next-t.ensures _ _ c.no_name_place.ensures c.stop.ensures (sym c.is_mark.ensures ∙ not-true _ c.if-not-is_mark.true-raw))
     (λ c κs. search rules)
     (λ c κs. search rules)
     (λ c κs. search rules)
     (λ c κs. search rules)
-    (λ c. name_so _ _ _ _ _ c.before.before.before.before.before.before.before.before.before.before.before.before.before.before.before.requires _ _ c.before.before.before.before.before.before.before.before.before.before.next.ensures (sym c.before.before.before.before.before.before.before.before.before.is-mark.ensures ∙ not-false _ c.before.before.before.before.before.before.before.before.if1.false) _ _ c.before.next2.ensures c.before.before.before.before.before.before.before.before.before.before.before.before.see-places.ensures _ _ _
-    c.before.before.before.before.before.judge.ensures c.behind-name.ensures c.before.before.before.put-place.ensures))
+    (λ c. name_so _ _ _ _ _ c.requires _ _ c.next-t.ensures (sym c.is_mark.ensures ∙ not-false _ c.if-not-is_mark.false-raw) _ _ c.next-c.ensures c.see_places.ensures _ _ _
+    c.judge-judged.ensures c.behind_name.ensures c.put_place.ensures))

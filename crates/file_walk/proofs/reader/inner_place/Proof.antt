@@ -7,5 +7,5 @@ pub inner_place_spec : {M : Type 1} → statement M
 inner_place_spec =
     tie.close
     (tie.spec
-    (λ c. rw (eq-eqb _ _ c.if1.true))
-    (λ c. rw (ne_eqb _ _ c.if1.false)))
+    (λ c. rw (eq-eqb _ _ c.if-kind-eq-HELD_SCHEMA.true))
+    (λ c. rw (ne_eqb _ _ c.if-kind-eq-HELD_SCHEMA.false)))

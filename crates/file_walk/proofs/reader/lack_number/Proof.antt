@@ -9,8 +9,8 @@ pub lack_number_spec : {M : Type 1} → statement M
 lack_number_spec =
     tie.close
     (tie.spec
-    (λ c. rw (ne_eqb _ _ c.if1.true))
-    (λ c. rw (eq-eqb _ _ c.before.if1.false, le-leb _ _ c.if2.true))
+    (λ c. rw (ne_eqb _ _ c.if-state-ne-READ.true))
+    (λ c. rw (eq-eqb _ _ c.if-state-ne-READ.false, le-leb _ _ c.if-kind-ge-NO_RECORD.true))
     (λ c κs. search rules)
-    (λ c. rw (eq-eqb _ _ c.before.before.before.if1.false, lt-leb _ _ c.before.before.if2.false, sym c.before.lacks.ensures ∙ c.if3.true))
-    (λ c. rw (eq-eqb _ _ c.before.before.before.if1.false, lt-leb _ _ c.before.before.if2.false, sym c.before.lacks.ensures ∙ c.if3.false)))
+    (λ c. rw (eq-eqb _ _ c.if-state-ne-READ.false, lt-leb _ _ c.if-kind-ge-NO_RECORD.false, sym c.lacks.ensures ∙ c.if-lacks.true))
+    (λ c. rw (eq-eqb _ _ c.if-state-ne-READ.false, lt-leb _ _ c.if-kind-ge-NO_RECORD.false, sym c.lacks.ensures ∙ c.if-lacks.false)))

@@ -7,6 +7,6 @@ pub misplaced_number_spec : {M : Type 1} → statement M
 misplaced_number_spec =
     tie.close
     (tie.spec
-    (λ c. rw (eq-eqb _ _ c.if1.true))
-    (λ c. rw (ne_eqb _ _ c.before.if1.false, eq-eqb _ _ c.if2.true))
-    (λ c. rw (ne_eqb _ _ c.before.if1.false, ne_eqb _ _ c.if2.false)))
+    (λ c. rw (eq-eqb _ _ c.if-want-eq0.true))
+    (λ c. rw (ne_eqb _ _ c.if-want-eq0.false, eq-eqb _ _ c.if-each-eq0.true))
+    (λ c. rw (ne_eqb _ _ c.if-want-eq0.false, ne_eqb _ _ c.if-each-eq0.false)))

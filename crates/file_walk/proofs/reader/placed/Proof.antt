@@ -11,4 +11,4 @@ placed_spec =
     (λ c κs. search rules)
     (λ c κs. search rules)
     (λ c κs. search rules)
-    (λ c. c.refuse.ensures ∙ rw (c.before.own-place.ensures, c.before.before.misplaced-number.ensures)))
+    (λ c. c.refuse.ensures ∙ rw (c.own_place.ensures, c.misplaced_number.ensures)))

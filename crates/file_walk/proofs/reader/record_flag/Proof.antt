@@ -7,5 +7,5 @@ pub record_flag_spec : {M : Type 1} → statement M
 record_flag_spec =
     tie.close
     (tie.spec
-    (λ c. rw (le-leb _ _ c.if1.true))
-    (λ c. rw (lt-leb _ _ c.if1.false)))
+    (λ c. rw (le-leb _ _ c.if-kind-ge-NO_RECORD.true))
+    (λ c. rw (lt-leb _ _ c.if-kind-ge-NO_RECORD.false)))

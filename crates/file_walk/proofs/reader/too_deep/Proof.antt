@@ -8,4 +8,4 @@ too_deep_spec =
     tie.close
     (tie.spec
     (λ c κs. search rules)
-    (λ c. rw c.stop.ensures))
+    (λ c. rw c.stop-s.ensures))

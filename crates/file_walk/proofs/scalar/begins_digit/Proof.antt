@@ -9,5 +9,5 @@ unfolding is_digit
 begins_digit_spec =
     tie.close
     (tie.spec
-    (λ c. rw (lt-leb _ _ c.if1.true))
-    (λ c. rw (le-leb _ _ c.if1.false)))
+    (λ c. rw (lt-leb _ _ c.if-head-lt48.true))
+    (λ c. rw (le-leb _ _ c.if-head-lt48.false)))

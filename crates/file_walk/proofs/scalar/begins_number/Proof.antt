@@ -9,6 +9,6 @@ pub begins_number_spec : {M : Type 1} → statement M
 begins_number_spec =
     tie.close
     (tie.spec
-    (λ c. rw (eq-eqb _ _ c.if1.true))
+    (λ c. rw (eq-eqb _ _ c.if-head-eq45.true))
     (λ c κs. search rules)
-    (λ c. c.begins-digit.ensures ∙ rw (ne_eqb _ _ c.before.if1.false)))
+    (λ c. c.begins_digit.ensures ∙ rw (ne_eqb _ _ c.if-head-eq45.false)))

@@ -7,6 +7,6 @@ pub begins_word_spec : {M : Type 1} → statement M
 begins_word_spec =
     tie.close
     (tie.spec
-    (λ c. rw (eq-eqb _ _ c.if1.true))
-    (λ c. rw (ne_eqb _ _ c.before.if1.false, eq-eqb _ _ c.if2.true))
-    (λ c. rw (ne_eqb _ _ c.before.if1.false, ne_eqb _ _ c.if2.false)))
+    (λ c. rw (eq-eqb _ _ c.if-head-eq116.true))
+    (λ c. rw (ne_eqb _ _ c.if-head-eq116.false, eq-eqb _ _ c.if-head-eq102.true))
+    (λ c. rw (ne_eqb _ _ c.if-head-eq116.false, ne_eqb _ _ c.if-head-eq102.false)))

@@ -12,4 +12,4 @@ fault_spec =
     tie.close
     (tie.spec
     (λ c κs. search rules)
-    (λ c k. let a = c.before.args in c.fault-of.ensures ∙ (ap (λ (h : ℕ). fault_in a.want a.kept.now h a.t.len a.t.integer a.t.magnitude) k.head ∙ fault_in_lem a.kept.now a.t.len a.t.integer a.t.magnitude k.lexeme k.kept a.want)))
+    (λ c k. let a = c.args in c.fault_of.ensures ∙ (ap (λ (h : ℕ). fault_in a.want a.kept.now h a.t.len a.t.integer a.t.magnitude) k.head ∙ fault_in_lem a.kept.now a.t.len a.t.integer a.t.magnitude k.lexeme k.kept a.want)))

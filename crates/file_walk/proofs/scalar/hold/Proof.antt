@@ -16,5 +16,5 @@ hold_spec =
     (λ c. search rules)
     (λ c κs. search rules)
     (λ c κs. search rules)
-    (λ c. let a = c.before.before.before.before.before.before.before.args in held a.kept.now a.want a.schema a.base a.t a.seat a.cells.now c.before.before.before.before.before.before.fault.result c.before.before.before.before.before.own-place.result 0 c.before.before.before.before.refuse.result _ c.before.before.before.before.before.before.fault.ensures c.before.before.before.before.before.own-place.ensures c.before.before.before.before.refuse.ensures (c.put-value.ensures ∙ rw (ne_eqb _ _ c.before.before.before.if1.true, c.before.size-kept.ensures)))
-    (λ c. let a = c.before.before.before.before.args in held a.kept.now a.want a.schema a.base a.t a.seat a.cells.now c.before.before.before.fault.result c.before.before.own-place.result 0 c.before.refuse.result _ c.before.before.before.fault.ensures c.before.before.own-place.ensures c.before.refuse.ensures (rw (eq-eqb _ _ c.if1.false))))
+    (λ c. let a = c.args in held a.kept.now a.want a.schema a.base a.t a.seat a.cells.now c.fault.result c.own_place.result 0 c.refuse-s.result _ c.fault.ensures c.own_place.ensures c.refuse-s.ensures (c.put_value.ensures ∙ rw (ne_eqb _ _ c.if-want-ne0.true, c.size_kept.ensures)))
+    (λ c. let a = c.args in held a.kept.now a.want a.schema a.base a.t a.seat a.cells.now c.fault.result c.own_place.result 0 c.refuse-s.result _ c.fault.ensures c.own_place.ensures c.refuse-s.ensures (rw (eq-eqb _ _ c.if-want-ne0.false))))

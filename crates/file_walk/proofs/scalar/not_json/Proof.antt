@@ -8,4 +8,4 @@ not_json_spec =
     tie.close
     (tie.spec
     (λ c κs. search rules)
-    (λ c. rw c.stop.ensures))
+    (λ c. rw c.stop-s.ensures))

@@ -9,5 +9,5 @@ own_place_spec =
     tie.close
     (tie.spec
     (λ c κs. search rules)
-    (λ c. rw (sym c.before.is-at-schema.ensures ∙ c.if1.true))
-    (λ c. rw (sym c.before.is-at-schema.ensures ∙ c.if1.false)))
+    (λ c. rw (sym c.is_at_schema.ensures ∙ c.if-is_at_schema.true))
+    (λ c. rw (sym c.is_at_schema.ensures ∙ c.if-is_at_schema.false)))

@@ -10,11 +10,11 @@ scalar_spec =
     tie.close
     (tie.spec
     (λ c κs. search rules)
-    (λ c. stops_none c.before.before.before.before.args.bytes.now c.before.before.before.before.args.kept.now c.before.before.before.before.args.want c.before.before.before.before.args.schema c.before.before.before.before.args.base c.before.before.before.before.args.t c.before.before.before.before.args.seat c.before.before.before.before.args.cells.now c.before.before.before.before.requires.0 c.before.before.before.before.requires.1.1 c.not-json.result c.before.if1.true c.not-json.ensures)
+    (λ c. stops_none c.args.bytes.now c.args.kept.now c.args.want c.args.schema c.args.base c.args.t c.args.seat c.args.cells.now c.requires.0 c.requires.1.1 c.not_json.result c.if-t-eq-END.true c.not_json.ensures)
     (λ c κs. search rules)
-    (λ c. stops_broken c.before.before.before.before.before.before.args.bytes.now c.before.before.before.before.before.before.args.kept.now c.before.before.before.before.before.before.args.want c.before.before.before.before.before.before.args.schema c.before.before.before.before.before.before.args.base c.before.before.before.before.before.before.args.t c.before.before.before.before.before.before.args.seat c.before.before.before.before.before.before.args.cells.now c.before.before.before.before.before.before.requires.0 c.before.before.before.before.before.before.requires.1.1 c.not-json2.result c.before.if2.true c.not-json2.ensures)
+    (λ c. stops_broken c.args.bytes.now c.args.kept.now c.args.want c.args.schema c.args.base c.args.t c.args.seat c.args.cells.now c.requires.0 c.requires.1.1 c.not_json-then-t-eq-BROKEN.result c.if-t-eq-BROKEN.true c.not_json-then-t-eq-BROKEN.ensures)
     (λ c κs. search rules)
-    (λ c κs. (c.before.before.before.before.before.before.before.before.requires.1.0, whole_bounds c.before.before.before.before.before.before.before.before.args.bytes.now c.before.before.before.before.before.before.before.before.args.kept.now c.before.before.before.before.before.before.before.before.args.want c.before.before.before.before.before.before.before.before.args.schema c.before.before.before.before.before.before.before.before.args.base c.before.before.before.before.before.before.before.before.args.t c.before.before.before.before.before.before.before.before.args.seat c.before.before.before.before.before.before.before.before.args.cells.now c.before.before.before.before.before.before.before.before.requires.0 c.before.before.before.before.before.before.before.before.requires.1.1 c.before.before.before.before.before.if1.false c.before.before.before.if2.false))
-    (λ c. reads c.before.before.before.before.before.before.before.before.before.args.bytes.now c.before.before.before.before.before.before.before.before.before.args.kept.now c.before.before.before.before.before.before.before.before.before.args.want c.before.before.before.before.before.before.before.before.before.args.schema c.before.before.before.before.before.before.before.before.before.args.base c.before.before.before.before.before.before.before.before.before.args.t c.before.before.before.before.before.before.before.before.before.args.seat c.before.before.before.before.before.before.before.before.before.args.cells.now c.before.before.before.before.before.before.before.before.before.requires.0 c.before.before.before.before.before.before.before.before.before.requires.1.1 c.hold.result _ c.before.before.before.before.before.before.if1.false c.before.before.before.before.if2.false (sym c.before.before.before.stands-alone.ensures ∙ c.before.before.if3.true) c.hold.ensures)
+    (λ c κs. (c.requires.1.0, whole_bounds c.args.bytes.now c.args.kept.now c.args.want c.args.schema c.args.base c.args.t c.args.seat c.args.cells.now c.requires.0 c.requires.1.1 c.if-t-eq-END.false c.if-t-eq-BROKEN.false))
+    (λ c. reads c.args.bytes.now c.args.kept.now c.args.want c.args.schema c.args.base c.args.t c.args.seat c.args.cells.now c.requires.0 c.requires.1.1 c.hold.result _ c.if-t-eq-END.false c.if-t-eq-BROKEN.false (sym c.stands_alone.ensures ∙ c.if-stands_alone.true) c.hold.ensures)
     (λ c κs. search rules)
-    (λ c. stops_whole c.before.before.before.before.before.before.before.before.args.bytes.now c.before.before.before.before.before.before.before.before.args.kept.now c.before.before.before.before.before.before.before.before.args.want c.before.before.before.before.before.before.before.before.args.schema c.before.before.before.before.before.before.before.before.args.base c.before.before.before.before.before.before.before.before.args.t c.before.before.before.before.before.before.before.before.args.seat c.before.before.before.before.before.before.before.before.args.cells.now c.before.before.before.before.before.before.before.before.requires.0 c.before.before.before.before.before.before.before.before.requires.1.1 c.not-json3.result c.before.before.before.before.before.if1.false c.before.before.before.if2.false (sym c.before.before.stands-alone.ensures ∙ c.before.if3.false) c.not-json3.ensures))
+    (λ c. stops_whole c.args.bytes.now c.args.kept.now c.args.want c.args.schema c.args.base c.args.t c.args.seat c.args.cells.now c.requires.0 c.requires.1.1 c.not_json-2.result c.if-t-eq-END.false c.if-t-eq-BROKEN.false (sym c.stands_alone.ensures ∙ c.if-stands_alone.false) c.not_json-2.ensures))

@@ -9,6 +9,6 @@ size_kept_spec =
     tie.close
     (tie.spec
     (λ c κs. search rules)
-    (λ c. rw (sym c.before.before.begins-number.ensures ∙ c.before.if1.true, c.if2.true))
-    (λ c. rw (sym c.before.before.begins-number.ensures ∙ c.before.if1.true, c.if2.false))
-    (λ c. rw (sym c.before.begins-number.ensures ∙ c.if1.false)))
+    (λ c. rw (sym c.begins_number.ensures ∙ c.if-begins_number.true, c.if-integer.true))
+    (λ c. rw (sym c.begins_number.ensures ∙ c.if-begins_number.true, c.if-integer.false))
+    (λ c. rw (sym c.begins_number.ensures ∙ c.if-begins_number.false)))

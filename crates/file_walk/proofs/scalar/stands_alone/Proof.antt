@@ -11,9 +11,9 @@ unfolding stands_alone
 stands_alone_spec =
     tie.close
     (tie.spec
-    (λ c. rw (eq-eqb _ _ c.if1.true))
-    (λ c. rw (ne_eqb _ _ c.before.if1.false, eq-eqb _ _ c.if2.true))
+    (λ c. rw (eq-eqb _ _ c.if-head-eq34.true))
+    (λ c. rw (ne_eqb _ _ c.if-head-eq34.false, eq-eqb _ _ c.if-head-eq45.true))
     (λ c κs. search rules)
-    (λ c. rw (ne_eqb _ _ c.before.before.before.if1.false, ne_eqb _ _ c.before.before.if2.false, sym c.before.begins-digit.ensures ∙ c.if3.true))
+    (λ c. rw (ne_eqb _ _ c.if-head-eq34.false, ne_eqb _ _ c.if-head-eq45.false, sym c.begins_digit.ensures ∙ c.if-begins_digit.true))
     (λ c κs. search rules)
-    (λ c. c.begins-word.ensures ∙ rw (ne_eqb _ _ c.before.before.before.before.if1.false, ne_eqb _ _ c.before.before.before.if2.false, sym c.before.before.begins-digit.ensures ∙ c.before.if3.false)))
+    (λ c. c.begins_word.ensures ∙ rw (ne_eqb _ _ c.if-head-eq34.false, ne_eqb _ _ c.if-head-eq45.false, sym c.begins_digit.ensures ∙ c.if-begins_digit.false)))

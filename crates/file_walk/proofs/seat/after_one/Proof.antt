@@ -11,9 +11,9 @@ after_one_spec =
     tie.close
     (tie.spec
     (λ c κs. search rules)
-    (λ c. rw (sym c.before.is-mark.ensures ∙ c.if1.true))
+    (λ c. rw (sym c.is_mark.ensures ∙ c.if-is_mark.true))
     (λ c κs. search rules)
-    (λ c. rw (sym c.before.before.before.is-mark.ensures ∙ c.before.before.if1.false, sym c.before.is-mark2.ensures ∙ c.if2.true))
+    (λ c. rw (sym c.is_mark.ensures ∙ c.if-is_mark.false, sym c.is_mark-2.ensures ∙ c.if-is_mark-2.true))
     (λ c κs. search rules)
     (λ c κs. search rules)
-    (λ c. c.stop.ensures ∙ rw (c.before.stop-place.ensures, sym c.before.before.before.before.before.is-mark.ensures ∙ c.before.before.before.before.if1.false, sym c.before.before.before.is-mark2.ensures ∙ c.before.before.if2.false)))
+    (λ c. c.stop.ensures ∙ rw (c.stop_place.ensures, sym c.is_mark.ensures ∙ c.if-is_mark.false, sym c.is_mark-2.ensures ∙ c.if-is_mark-2.false)))

@@ -11,5 +11,5 @@ begun_spec =
     tie.close
     (tie.spec
     (λ c κs. search rules)
-    (λ c. rw (sym c.before.is-mark.ensures ∙ c.if1.true))
-    (λ c. rw (sym c.before.is-mark.ensures ∙ c.if1.false)))
+    (λ c. rw (sym c.is_mark.ensures ∙ c.if-is_mark.true))
+    (λ c. rw (sym c.is_mark.ensures ∙ c.if-is_mark.false)))

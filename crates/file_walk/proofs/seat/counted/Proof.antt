@@ -11,8 +11,8 @@ unfolding counted
 counted_spec =
     tie.close
     (tie.spec
-    (λ c. rw (eq-eqb _ _ c.if1.true))
+    (λ c. rw (eq-eqb _ _ c.if-seat-eq-MISSING.true))
     (λ c κs. search rules)
     (λ c κs. search rules)
     (λ c κs. search rules)
-    (λ c. c.refuse.ensures ∙ rw (ne_eqb _ _ c.before.before.before.if1.false, c.before.over-number.ensures, c.before.before.next-count.ensures)))
+    (λ c. c.refuse.ensures ∙ rw (ne_eqb _ _ c.if-seat-eq-MISSING.false, c.over_number.ensures, c.next_count.ensures)))

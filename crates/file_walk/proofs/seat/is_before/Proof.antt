@@ -9,7 +9,7 @@ unfolding is_before
 is_before_spec =
     tie.close
     (tie.spec
-    (λ c. rw (eq-eqb _ _ c.if1.true))
-    (λ c. rw (ne_eqb _ _ c.before.before.if1.false, eq-eqb _ _ c.if2.true))
-    (λ c. rw (ne_eqb _ _ c.before.before.before.before.before.if1.false, ne_eqb _ _ c.before.before.before.if2.false, eq-eqb _ _ c.before.if3.true))
-    (λ c. rw (ne_eqb _ _ c.before.before.before.before.before.if1.false, ne_eqb _ _ c.before.before.before.if2.false, ne_eqb _ _ c.before.if3.false)))
+    (λ c. rw (eq-eqb _ _ c.if-number-eq0.true))
+    (λ c. rw (ne_eqb _ _ c.if-number-eq0.false, eq-eqb _ _ c.if-seat-eq0.true))
+    (λ c. rw (ne_eqb _ _ c.if-number-eq0.false, ne_eqb _ _ c.if-seat-eq0.false, eq-eqb _ _ c.if-seat-place.true))
+    (λ c. rw (ne_eqb _ _ c.if-number-eq0.false, ne_eqb _ _ c.if-seat-eq0.false, ne_eqb _ _ c.if-seat-place.false)))

@@ -7,5 +7,5 @@ pub is_mark_spec : {M : Type 1} → statement M
 is_mark_spec =
     tie.close
     (tie.spec
-    (λ c. rw (eq-eqb _ _ c.before.if1.true))
-    (λ c. rw (ne_eqb _ _ c.if1.false)))
+    (λ c. rw (eq-eqb _ _ c.if-t-eq-WHOLE.true))
+    (λ c. rw (ne_eqb _ _ c.if-t-eq-WHOLE.false)))

@@ -10,5 +10,5 @@ next_count_spec =
     tie.close
     (tie.spec
     (λ c. search rules)
-    (λ c. rw (lt-ltb _ _ c.if1.true) (add-one _))
-    (λ c. rw (le-ltb _ _ c.if1.false)))
+    (λ c. rw (lt-ltb _ _ c.if-count-room.true) (add-one _))
+    (λ c. rw (le-ltb _ _ c.if-count-room.false)))

@@ -7,6 +7,6 @@ pub over_number_spec : {M : Type 1} → statement M
 over_number_spec =
     tie.close
     (tie.spec
-    (λ c. rw (lt-ltb _ _ c.if1.true))
-    (λ c. rw (le-ltb _ _ c.before.if1.false, eq-eqb _ _ c.if2.true))
-    (λ c. rw (le-ltb _ _ c.before.if1.false, ne_eqb _ _ c.if2.false)))
+    (λ c. rw (lt-ltb _ _ c.if-count-room.true))
+    (λ c. rw (le-ltb _ _ c.if-count-room.false, eq-eqb _ _ c.if-each-eq0.true))
+    (λ c. rw (le-ltb _ _ c.if-count-room.false, ne_eqb _ _ c.if-each-eq0.false)))

@@ -9,5 +9,5 @@ refuse_spec =
     tie.close
     (tie.spec
     (λ c κs. search rules)
-    (λ c. rw (sym c.before.is-before.ensures ∙ c.if1.true))
-    (λ c. rw (sym c.before.is-before.ensures ∙ c.if1.false)))
+    (λ c. rw (sym c.is_before.ensures ∙ c.if-is_before.true))
+    (λ c. rw (sym c.is_before.ensures ∙ c.if-is_before.false)))

@@ -9,5 +9,5 @@ unfolding settled_by
 settled_spec =
     tie.close
     (tie.spec
-    (λ c. rw (eq-eqb _ _ c.if1.true))
-    (λ c. rw (ne_eqb _ _ c.if1.false)))
+    (λ c. rw (eq-eqb _ _ c.if-seat-eq-MISSING.true))
+    (λ c. rw (ne_eqb _ _ c.if-seat-eq-MISSING.false)))

@@ -8,4 +8,4 @@ stop_spec =
     tie.close
     (tie.spec
     (λ c κs. search rules)
-    (λ c. rw c.refuse.ensures))
+    (λ c. rw c.refuse-s.ensures))

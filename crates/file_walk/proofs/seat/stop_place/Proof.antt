@@ -7,5 +7,5 @@ pub stop_place_spec : {M : Type 1} → statement M
 stop_place_spec =
     tie.close
     (tie.spec
-    (λ c. rw (eq-eqb _ _ c.if1.true))
-    (λ c. rw (ne_eqb _ _ c.if1.false)))
+    (λ c. rw (eq-eqb _ _ c.if-t-eq-END.true))
+    (λ c. rw (ne_eqb _ _ c.if-t-eq-END.false)))

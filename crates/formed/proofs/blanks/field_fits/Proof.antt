@@ -13,5 +13,5 @@ field_fits_spec =
     (tie.spec
     (λ c κs. search rules)
     (λ c κs. search rules)
-    (λ c. let a = c.before.before.before.before.args in
-    rw c.before.same-field.ensures (one_arm a.used (is_zero_z a.f.id.0 && is_zero a.f.field_type) (is_tidy_name a.f.name) (is_blank_name a.f.name) c.name-fits.ensures)))
+    (λ c. let a = c.args in
+    rw c.same_field.ensures (one_arm a.used (is_zero_z a.f.id.0 && is_zero a.f.field_type) (is_tidy_name a.f.name) (is_blank_name a.f.name) c.name_fits.ensures)))

@@ -14,5 +14,5 @@ name_fits_spec =
     (λ c κs. search rules)
     (λ c. search rules)
     (λ c κs. search rules)
-    (λ c. let u = c.before.before in let a = u.before.before.args in
-    from_place a.used (is_zero a.t.len) a.t.len (λ (k : ℕ). rest_blank 32 is_zero a.t.bytes k) u.unused-from.ensures (with_slots is_zero a.t.bytes u.unused-from.result 32 (search rules) c.zeros-from.ensures)))
+    (λ c. let a = c.args in
+    from_place a.used (is_zero a.t.len) a.t.len (λ (k : ℕ). rest_blank 32 is_zero a.t.bytes k) c.unused_from-from.ensures (with_slots is_zero a.t.bytes c.unused_from-from.result 32 (search rules) c.zeros_from.ensures)))

@@ -8,5 +8,5 @@ offered_id_fits_spec =
     tie.close
     (tie.spec
     (λ c κs. search rules)
-    (λ c. rw (c.if1.true, c.before.same-field.ensures))
-    (λ c. rw (c.if1.false, c.before.same-field.ensures)))
+    (λ c. rw (c.if-used.true, c.same_field-zero.ensures))
+    (λ c. rw (c.if-used.false, c.same_field-zero.ensures)))

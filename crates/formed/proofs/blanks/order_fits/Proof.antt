@@ -14,6 +14,6 @@ order_fits_spec =
     (λ c κs. search rules)
     (λ c κs. search rules)
     (λ c κs. search rules)
-    (λ c. let u = c.before.before in let a = u.before.before.args in
-    rw c.before.same-order.ensures
-    (from_place_two a.used (is_zero_z a.o.order_id.0) (is_zero a.o.count) a.o.count (λ (k : ℕ). rest_blank 8 is_blank_sort_field a.o.items k) u.unused-from.ensures c.sort-fields-blank-from.ensures)))
+    (λ c. let a = c.args in
+    rw c.same_order.ensures
+    (from_place_two a.used (is_zero_z a.o.order_id.0) (is_zero a.o.count) a.o.count (λ (k : ℕ). rest_blank 8 is_blank_sort_field a.o.items k) c.unused_from-from.ensures c.sort_fields_blank_from.ensures)))

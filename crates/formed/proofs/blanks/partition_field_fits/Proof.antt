@@ -26,6 +26,6 @@ partition_field_fits_spec =
     (λ c κs. search rules)
     (λ c κs. search rules)
     (λ c κs. search rules)
-    (λ c. let a = c.before.before.before.before.before.before.args in
-    rw (c.before.before.before.same-field.ensures, c.before.before.same-field2.ensures, c.before.same-buckets.ensures, c.name-fits.ensures)
+    (λ c. let a = c.args in
+    rw (c.same_field-none.ensures, c.same_field.ensures, c.same_buckets.ensures, c.name_fits.ensures)
     (one_way a.used a.f.has_id (is_zero_z a.f.source_id.0) (is_zero_z a.f.field_id.0) (is_zero_z a.f.buckets.0) (is_zero a.f.transform) (is_tidy_name a.f.name) (is_blank_name a.f.name))))

@@ -6,10 +6,10 @@ use Rattle.formed.proofs.Scans.{slots, Slotted, slotted_start, slotted_on, slott
 use Rattle.formed.proofs.blanks.schema_ids_blank_from.Statement.{statement}
 use Rattle.formed.proofs.blanks.schema_ids_blank_from.Tie as tie
 
-abbrev invariant_loop : tie.invariant_loop
+abbrev invariant_loop : tie.invariant-loop-i
 invariant_loop from t ok₀ i₀ ok i = Slotted is_blank_schema_id 16 t.items from i ok
 
-abbrev decreases_loop : tie.decreases_loop
+abbrev decreases_loop : tie.decreases-loop-i
 decreases_loop from t ok₀ i₀ ok i = 16 - i
 
 pub schema_ids_blank_from_spec : {M : Type 1} → statement M
@@ -24,5 +24,5 @@ schema_ids_blank_from_spec =
     (λ c κs. search rules)
     (λ c. search rules)
     (λ c. search rules)
-    (λ c. let l = c.before.before.before in slotted_on l.loop.invariant _ c.before.before.loop-test.true c.same-schema.ensures)
-    (λ c. slotted_end c.before.loop.invariant c.loop-test.false))
+    (λ c. slotted_on c.loop-i.invariant _ c.loop-i-test.true c.same_schema-ok.ensures)
+    (λ c. slotted_end c.loop-i.invariant c.loop-i-test.false))

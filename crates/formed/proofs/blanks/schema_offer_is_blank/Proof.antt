@@ -8,4 +8,4 @@ schema_offer_is_blank_spec =
     tie.close
     (tie.spec
     (λ c κs. search rules)
-    (λ c. rw c.before.before.same-schema.ensures))
+    (λ c. rw c.same_schema.ensures))

@@ -11,7 +11,7 @@ snapshot_fits_spec =
     tie.close
     (tie.spec
     (λ c κs. search rules)
-    (λ c. rw (c.before.if1.true, c.same-snapshot.ensures))
+    (λ c. rw (c.if-used.true, c.same_snapshot.ensures))
     (λ c κs. search rules)
     (λ c κs. search rules)
-    (λ c. rw (c.before.before.if1.false, c.same-snapshot2.ensures, c.before.blank.ensures, same_as_no_snapshot)))
+    (λ c. rw (c.if-used.false, c.same_snapshot-2.ensures, c.blank.ensures, same_as_no_snapshot)))

@@ -8,10 +8,10 @@ use Rattle.formed.proofs.Unused.{same_as_no_field}
 use Rattle.formed.proofs.blanks.sort_fields_blank_from.Statement.{statement}
 use Rattle.formed.proofs.blanks.sort_fields_blank_from.Tie as tie
 
-abbrev invariant_loop : tie.invariant_loop
+abbrev invariant_loop : tie.invariant-loop-i
 invariant_loop from o none ok₀ i₀ ok i = Slotted is_blank_sort_field 8 o.items from i ok
 
-abbrev decreases_loop : tie.decreases_loop
+abbrev decreases_loop : tie.decreases-loop-i
 decreases_loop from o none ok₀ i₀ ok i = 8 - i
 
 pub sort_fields_blank_from_spec : {M : Type 1} → statement M
@@ -27,6 +27,5 @@ sort_fields_blank_from_spec =
     (λ c κs. search rules)
     (λ c. search rules)
     (λ c. search rules)
-    (λ c. let l = c.before.before.before in
-    slotted_on l.loop.invariant _ c.before.before.loop-test.true (rw l.before.blank.ensures at c.same-sort-field.ensures ∙ same_as_no_field _))
-    (λ c. slotted_end c.before.loop.invariant c.loop-test.false))
+    (λ c. slotted_on c.loop-i.invariant _ c.loop-i-test.true (rw c.blank-none.ensures at c.same_sort_field-ok.ensures ∙ same_as_no_field _))
+    (λ c. slotted_end c.loop-i.invariant c.loop-i-test.false))

@@ -13,5 +13,5 @@ spec_ids_fit_spec =
     (tie.spec
     (λ c κs. search rules)
     (λ c κs. search rules)
-    (λ c. let u = c.before in let a = u.before.args in
-    from_place a.used (is_zero a.t.count) a.t.count (λ (k : ℕ). rest_blank 16 is_blank_spec_id a.t.items k) u.unused-from.ensures c.spec-ids-blank-from.ensures))
+    (λ c. let a = c.args in
+    from_place a.used (is_zero a.t.count) a.t.count (λ (k : ℕ). rest_blank 16 is_blank_spec_id a.t.items k) c.unused_from-from.ensures c.spec_ids_blank_from.ensures))

@@ -10,10 +10,10 @@ use Rattle.formed.proofs.Unused.{from_place_two}
 use Rattle.formed.proofs.blanks.spec_offer_fits.Statement.{statement}
 use Rattle.formed.proofs.blanks.spec_offer_fits.Tie as tie
 
-abbrev invariant_loop : tie.invariant_loop
+abbrev invariant_loop : tie.invariant-loop-i
 invariant_loop used o at n from ok₀ i₀ ok i = Slots is_tidy_offered_id is_blank_offered_id 8 from o.ids i (used || (is_zero_z o.spec_id.0 && is_zero o.at && is_zero o.count)) ok
 
-abbrev decreases_loop : tie.decreases_loop
+abbrev decreases_loop : tie.decreases-loop-i
 decreases_loop used o at n from ok₀ i₀ ok i = 8 - i
 
 pub spec_offer_fits_spec : {M : Type 1} → statement M
@@ -31,8 +31,8 @@ spec_offer_fits_spec =
     (λ c κs. search rules)
     (λ c. search rules)
     (λ c. search rules)
-    (λ c. let l = c.before.before.before in slots_on l.loop.invariant _ c.before.before.loop-test.true c.offered-id-fits.ensures)
-    (λ c. let u = c.before.before.before in let a = u.before.before.args in
-    slots_end c.before.loop.invariant c.loop-test.false
-    ∙ from_place_two a.used (is_zero_z a.t2.spec_id.0 && is_zero a.t2.at) (is_zero a.t2.count) a.t2.count (λ (k : ℕ). tidy_slots 8 is_tidy_offered_id is_blank_offered_id a.t2.ids k) u.unused-from.ensures refl
-    ∙ rw (and-true (rest_blank 8 is_blank_offered_id a.t2.ids 0))))
+    (λ c. slots_on c.loop-i.invariant _ c.loop-i-test.true c.offered_id_fits-ok.ensures)
+    (λ c. let a = c.args in
+    slots_end c.loop-i.invariant c.loop-i-test.false
+    ∙ from_place_two a.used (is_zero_z a.o.spec_id.0 && is_zero a.o.at) (is_zero a.o.count) a.o.count (λ (k : ℕ). tidy_slots 8 is_tidy_offered_id is_blank_offered_id a.o.ids k) c.unused_from-from.ensures refl
+    ∙ rw (and-true (rest_blank 8 is_blank_offered_id a.o.ids 0))))

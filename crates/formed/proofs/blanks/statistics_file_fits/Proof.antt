@@ -10,8 +10,8 @@ statistics_file_fits_spec =
     tie.close
     (tie.spec
     (λ c κs. search rules)
-    (λ c. rw (c.before.if1.true, c.text-fits.ensures))
+    (λ c. rw (c.if-used.true, c.text_fits.ensures))
     (λ c κs. search rules)
     (λ c κs. search rules)
     (λ c κs. search rules)
-    (λ c. rw (c.before.before.before.if1.false, c.before.before.same-snapshot.ensures, c.before.text-fits2.ensures, c.same-file-size.ensures)))
+    (λ c. rw (c.if-used.false, c.same_snapshot.ensures, c.text_fits-2.ensures, c.same_file_size.ensures)))

@@ -13,9 +13,9 @@ text_fits_spec =
     (tie.spec
     (λ c. search rules)
     (λ c κs. search rules)
-    (λ c. let t = c.before.before in let b = t.before.before.args.t in
-    rw t.if1.true (with_slots is_zero b.bytes b.len 96 (search rules) c.zeros-from.ensures))
+    (λ c. let b = c.args.t in
+    rw c.if-used.true (with_slots is_zero b.bytes b.len 96 (search rules) c.zeros_from.ensures))
     (λ c. search rules)
     (λ c κs. search rules)
-    (λ c. let t = c.before.before in let b = t.before.before.args.t in
-    rw t.if1.false (ap (λ z. is_zero b.len && z) (with_slots is_zero b.bytes 0 96 (search rules) c.zeros-from2.ensures))))
+    (λ c. let b = c.args.t in
+    rw c.if-used.false (ap (λ z. is_zero b.len && z) (with_slots is_zero b.bytes 0 96 (search rules) c.zeros_from-2.ensures))))

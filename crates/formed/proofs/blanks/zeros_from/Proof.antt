@@ -9,10 +9,10 @@ use Rattle.formed.proofs.Scans.{Scanned, scan_start, each, each_on, each_end}
 use Rattle.formed.proofs.blanks.zeros_from.Statement.{statement}
 use Rattle.formed.proofs.blanks.zeros_from.Tie as tie
 
-abbrev invariant_loop : tie.invariant_loop
+abbrev invariant_loop : tie.invariant-loop-i
 invariant_loop bytes from ok₀ i₀ ok i = Scanned (each is_zero) bytes from i true ok
 
-abbrev decreases_loop : tie.decreases_loop
+abbrev decreases_loop : tie.decreases-loop-i
 decreases_loop bytes from ok₀ i₀ ok i = length bytes - i
 
 pub zeros_from_spec : {M : Type 1} → statement M
@@ -25,5 +25,5 @@ zeros_from_spec =
     (λ c. search rules)
     (λ c. search rules)
     (λ c. search rules)
-    (λ c. let l = c.before.before in each_on l.loop.invariant 0 (search rules) refl)
-    (λ c. each_end c.before.loop.invariant c.loop-test.false))
+    (λ c. each_on is_zero c.loop-i.invariant 0 (search rules) refl)
+    (λ c. each_end is_zero c.loop-i.invariant c.loop-i-test.false))

@@ -6,4 +6,4 @@ use Rattle.formed.proofs.bounds.file_size_formed.Statement.{statement}
 use Rattle.formed.proofs.bounds.file_size_formed.Tie as tie
 
 pub file_size_formed_spec : {M : Type 1} → statement M
-file_size_formed_spec = tie.close (tie.spec (λ c. rw (to_z-of_z (sfits_of c.struct_told.given.0.1)) (at_least_zero c.before.args.x.0)))
+file_size_formed_spec = tie.close (tie.spec (λ c. rw (to_z-of_z (sfits_of c.struct_told-1.given.0.1)) (at_least_zero c.args.x.0)))

@@ -7,4 +7,4 @@ use Rattle.formed.proofs.bounds.partition_id_formed.Statement.{statement}
 use Rattle.formed.proofs.bounds.partition_id_formed.Tie as tie
 
 pub partition_id_formed_spec : {M : Type 1} → statement M
-partition_id_formed_spec = tie.close (tie.spec (λ c. rw (to_z-of_z (sfits_of c.struct_told.given.0.1)) (behind_flag at_least_one c.before.args.has c.before.args.x.0)))
+partition_id_formed_spec = tie.close (tie.spec (λ c. rw (to_z-of_z (sfits_of c.struct_told-1.given.0.1)) (behind_flag at_least_one c.args.has c.args.x.0)))

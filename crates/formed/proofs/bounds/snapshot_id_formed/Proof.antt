@@ -6,4 +6,4 @@ use Rattle.formed.proofs.bounds.snapshot_id_formed.Statement.{statement}
 use Rattle.formed.proofs.bounds.snapshot_id_formed.Tie as tie
 
 pub snapshot_id_formed_spec : {M : Type 1} → statement M
-snapshot_id_formed_spec = tie.close (tie.spec (λ c. rw (to_z-of_z (sfits_of c.struct_told.given.0.1)) (at_least_zero c.before.args.x.0)))
+snapshot_id_formed_spec = tie.close (tie.spec (λ c. rw (to_z-of_z (sfits_of c.struct_told-1.given.0.1)) (at_least_zero c.args.x.0)))

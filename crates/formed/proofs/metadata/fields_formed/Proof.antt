@@ -15,6 +15,5 @@ fields_formed_spec =
     (λ c κs. search rules)
     (λ c κs. search rules)
     (λ c κs. search rules)
-    (λ c. let s = c.before in
-    let l = s.before.before.before.before.before.before.before.args.f.location in
-    rw (s.before.before.text-fits.ensures, s.before.same-snapshot.ensures, s.sequence-formed.ensures, c.last-partition-formed.ensures, length_counted 0 l.bytes l.len)))
+    (λ c. let l = c.args.f.location in
+    rw (c.text_fits.ensures, c.same_snapshot.ensures, c.sequence_formed.ensures, c.last_partition_formed.ensures, length_counted 0 l.bytes l.len)))

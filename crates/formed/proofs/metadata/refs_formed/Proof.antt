@@ -17,8 +17,8 @@ refs_formed_spec =
     tie.close
     (tie.spec
     (λ c κs. search rules)
-    (λ c κs. laid_refs_lem c.before.before.args.t c.before.refs-filled.ensures c.if1.true)
-    (λ c. let t = c.before.before.before.args.t in
-    asked (is_tidy_refs t) (log_formed ref_room ref_formed (read_refs t)) (ascending ref_below (read_refs t)) c.before.before.refs-filled.ensures c.before.if1.true c.refs-ascend.ensures)
-    (λ c. let t = c.before.before.args.t in
-    not_asked (is_tidy_refs t) (log_formed ref_room ref_formed (read_refs t)) (ascending ref_below (read_refs t)) c.before.refs-filled.ensures c.if1.false))
+    (λ c κs. laid_refs_lem c.args.t c.refs_filled.ensures c.if-refs_filled.true)
+    (λ c. let t = c.args.t in
+    asked (is_tidy_refs t) (log_formed ref_room ref_formed (read_refs t)) (ascending ref_below (read_refs t)) c.refs_filled.ensures c.if-refs_filled.true c.refs_ascend.ensures)
+    (λ c. let t = c.args.t in
+    not_asked (is_tidy_refs t) (log_formed ref_room ref_formed (read_refs t)) (ascending ref_below (read_refs t)) c.refs_filled.ensures c.if-refs_filled.false))

@@ -17,16 +17,15 @@ use Rattle.formed.proofs.Laid.{refs_fit}
 use Rattle.formed.proofs.metadata.refs_held.Statement.{statement}
 use Rattle.formed.proofs.metadata.refs_held.Tie as tie
 
-abbrev invariant_loop : tie.invariant_loop
+abbrev invariant_loop : tie.invariant-loop-i
 invariant_loop t n held ids ok₀ i₀ ok i = Taken (λ (x : NamedRef). is_in (take held ids) (read_ref x).reference.snapshot) t.count t.items 0 i true ok
 
-abbrev decreases_loop : tie.decreases_loop
+abbrev decreases_loop : tie.decreases-loop-i
 decreases_loop t n held ids ok₀ i₀ ok i = n - i
 
-within : tie.Need-array-share-prefix-ids invariant_loop decreases_loop
-within c = let s = c.before.before.before.before.before.before in
-    let e : length s.args.k.ids ≡ 64 = search (rules, slots) in
-    omega (arith, s.requires.1)
+within : tie.Need-slice_bounds-ids-end invariant_loop decreases_loop
+within c = let e : length c.args.k.ids ≡ 64 = search (rules, slots) in
+    omega (arith, c.requires.1)
 
 pub refs_held_spec : {M : Type 1} → statement M
 refs_held_spec =
@@ -34,16 +33,15 @@ refs_held_spec =
     (tie.spec
     invariant_loop
     decreases_loop
-    (λ c. taken_start 16 (search (rules, slots)) (refs_fit c.before.requires.0))
-    (λ c. omega (arith, refs_fit c.before.before.before.requires.0))
-    (λ c. omega (arith, refs_fit c.before.before.before.requires.0))
+    (λ c. taken_start 16 (search (rules, slots)) (refs_fit c.requires.0))
+    (λ c. omega (arith, refs_fit c.requires.0))
+    (λ c. omega (arith, refs_fit c.requires.0))
     (λ c κs. search rules)
     within
     (λ c. sym (length-take-le _ _ (within c.before)))
     (λ c κs. search rules)
-    (λ c. omega (arith, refs_fit c.before.before.before.before.before.before.before.before.requires.0))
+    (λ c. omega (arith, refs_fit c.requires.0))
     (λ c. search rules)
-    (λ c. let b = c.before.before.before.before.before in
-    taken_on b.before.loop.invariant _ b.loop-test.true (rw c.before.before.snapshot-key.ensures at c.is-in.ensures))
-    (λ c. let l = c.before.loop.invariant in let s = c.before.before.before.args in
-    taken_end l c.loop-test.false ∙ sym (all_counted read_ref no_ref s.t1.items s.t1.count (λ (x : plain.NamedRef). is_in (take s.k.count s.k.ids) x.reference.snapshot) l.fits)))
+    (λ c. taken_on c.loop-i.invariant _ c.loop-i-test.true (rw c.snapshot_key-y.ensures at c.is_in-ok.ensures))
+    (λ c. let l = c.loop-i.invariant in let s = c.args in
+    taken_end l c.loop-i-test.false ∙ sym (all_counted read_ref no_ref s.t.items s.t.count (λ (x : plain.NamedRef). is_in (take s.k.count s.k.ids) x.reference.snapshot) l.fits)))

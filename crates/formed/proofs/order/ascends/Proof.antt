@@ -10,10 +10,10 @@ use Rattle.formed.proofs.Ascends.{Ascended, ascended_start, ascended_on, ascende
 use Rattle.formed.proofs.order.ascends.Statement.{statement}
 use Rattle.formed.proofs.order.ascends.Tie as tie
 
-abbrev invariant_loop : tie.invariant_loop
+abbrev invariant_loop : tie.invariant-loop-i
 invariant_loop ids ok₀ i₀ ok i = Ascended lt_z (λ (x : ℤ). x) ids i ok
 
-abbrev decreases_loop : tie.decreases_loop
+abbrev decreases_loop : tie.decreases-loop-i
 decreases_loop ids ok₀ i₀ ok i = length ids - i
 
 pub ascends_spec : {M : Type 1} → statement M
@@ -30,6 +30,5 @@ ascends_spec =
     (λ c. search rules)
     (λ c. search rules)
     (λ c. search rules)
-    (λ c. let l = c.before.before.before in
-    ascended_on l.loop.invariant numbers_ordered (pos 0) c.before.before.loop-test.true (rw (to_z-of_z (sfits_of c.before.ok.given), to_z-of_z (sfits_of c.ok2.given))))
-    (λ c. ascended_end c.before.loop.invariant c.loop-test.false))
+    (λ c. ascended_on c.loop-i.invariant numbers_ordered (pos 0) c.loop-i-test.true (rw (to_z-of_z (sfits_of c.ok-1.given), to_z-of_z (sfits_of c.ok-in-loop-i-1.given))))
+    (λ c. ascended_end c.loop-i.invariant c.loop-i-test.false))

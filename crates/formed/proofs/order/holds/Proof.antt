@@ -9,11 +9,11 @@ use Rattle.formed.proofs.Scans.{slots}
 use Rattle.formed.proofs.order.holds.Statement.{statement}
 use Rattle.formed.proofs.order.holds.Tie as tie
 
-within : (c : tie.After-ids) → c.before.args.k.count ≤ length c.before.args.k.ids
-within c = let e : length c.before.args.k.ids ≡ 64 = search (rules, slots) in omega (arith, c.before.requires)
+within : (c : tie.After-ids-1) → c.args.k.count ≤ length c.args.k.ids
+within c = let e : length c.args.k.ids ≡ 64 = search (rules, slots) in omega (arith, c.requires)
 
-pub holds_spec_lem : {M : Type 1} → statement M
-holds_spec_lem =
+pub holds_spec : {M : Type 1} → statement M
+holds_spec =
     tie.close
     (tie.spec
     within

@@ -23,10 +23,10 @@ use Rattle.formed.proofs.order.refs_ascend.Tie as tie
 abbrev ref_name : NamedRef → List ℕ
 ref_name r = read_name r.name
 
-abbrev invariant_loop : tie.invariant_loop
+abbrev invariant_loop : tie.invariant-loop-i
 invariant_loop t n ok₀ i₀ ok i = Ascended name_below ref_name (take t.count t.items) i ok
 
-abbrev decreases_loop : tie.decreases_loop
+abbrev decreases_loop : tie.decreases-loop-i
 decreases_loop t n ok₀ i₀ ok i = n - i
 
 within : {t : Refs} → LaidRefs t → t.count ≤ length t.items
@@ -40,17 +40,17 @@ refs_ascend_spec =
     decreases_loop
     (λ c. ascended_start)
     (λ c. search rules)
-    (λ c. omega (arith, refs_fit c.before.before.requires))
-    (λ c. omega (arith, refs_fit c.before.before.requires))
-    (λ c. omega (arith, refs_fit c.before.before.before.requires))
-    (λ c. omega (arith, refs_fit c.before.before.before.requires))
-    (λ c κs. let i = c.before.before.before.before.before.loop.i in
-    let h = c.before.before.before.before.before.before.requires in
+    (λ c. omega (arith, refs_fit c.requires))
+    (λ c. omega (arith, refs_fit c.requires))
+    (λ c. omega (arith, refs_fit c.requires))
+    (λ c. omega (arith, refs_fit c.requires))
+    (λ c κs. let i = c.loop-i.i in
+    let h = c.requires in
     (laid_name_lem h (i - 1) _ (omega arith), laid_name_lem h i _ (omega arith)))
-    (λ c. omega (arith, refs_fit c.before.before.before.before.before.before.before.requires))
+    (λ c. omega (arith, refs_fit c.requires))
     (λ c. search rules)
-    (λ c. let b = c.before.before.before.before.before in let t = b.before.before.args.t1 in
-    slots_on t.count t.items b.before.loop.invariant (within b.before.before.requires) names_ordered _ b.loop-test.true c.name-is-below.ensures)
-    (λ c. let h = within c.before.before.requires in let t = c.before.before.args.t1 in
-    slots_end t.count t.items c.before.loop.invariant h c.loop-test.false
+    (λ c. let t = c.args.t in
+    slots_on t.count t.items c.loop-i.invariant (within c.requires) names_ordered _ c.loop-i-test.true c.name_is_below-ok.ensures)
+    (λ c. let h = within c.requires in let t = c.args.t in
+    slots_end t.count t.items c.loop-i.invariant h c.loop-i-test.false
     ∙ sym (rw (read_taken read_ref no_ref t.items t.count h) (pairs_read read_ref (by_key name_below (λ (x : plain.NamedRef). x.name)) (take t.count t.items)))))

@@ -9,4 +9,4 @@ field_formed_spec =
     tie.close
     (tie.spec
     (λ c κs. search rules)
-    (λ c. let n = c.before.before.before.args.f.name in rw (c.field-id-formed.ensures, length_counted 0 n.bytes n.len)))
+    (λ c. let n = c.args.f.name in rw (c.field_id_formed.ensures, length_counted 0 n.bytes n.len)))

@@ -9,4 +9,4 @@ fields_differ_spec =
     (tie.spec
     (λ c κs. search rules)
     (λ c κs. search rules)
-    (λ c. rw (c.before.same-field.ensures, c.names-differ.ensures)))
+    (λ c. rw (c.same_field.ensures, c.names_differ.ensures)))

@@ -13,4 +13,4 @@ is_redundant_spec =
     (λ c κs. search rules)
     (λ c κs. search rules)
     (λ c κs. search rules)
-    (λ c. rw (c.before.before.before.same-field.ensures, c.before.before.same-buckets.ensures, c.before.is-time.ensures, c.is-time2.ensures)))
+    (λ c. rw (c.same_field.ensures, c.same_buckets.ensures, c.is_time.ensures, c.is_time-2.ensures)))

@@ -11,6 +11,6 @@ unfolding same_name
 names_differ_spec =
     tie.close
     (tie.spec
-    (λ c. sym (rw (ne_eqb _ _ c.if1.true)))
+    (λ c. sym (rw (ne_eqb _ _ c.if-x-y.true)))
     (λ c κs. search rules)
-    (λ c. rw c.same-name.ensures))
+    (λ c. rw c.same_name.ensures))

@@ -12,10 +12,10 @@ use Rattle.formed.proofs.Counted.{Taken, taken_start, taken_on, read_end, read_m
 use Rattle.formed.proofs.record.offered_ids_formed.Statement.{statement}
 use Rattle.formed.proofs.record.offered_ids_formed.Tie as tie
 
-abbrev invariant_loop : tie.invariant_loop
+abbrev invariant_loop : tie.invariant-loop-i
 invariant_loop o n ok₀ i₀ ok i = Taken (λ (x : OfferedId). if_some at_least_one (read_offered_id x)) o.count o.ids 0 i (non_neg o.spec_id.0) ok
 
-abbrev decreases_loop : tie.decreases_loop
+abbrev decreases_loop : tie.decreases-loop-i
 decreases_loop o n ok₀ i₀ ok i = n - i
 
 pub offered_ids_formed_spec : {M : Type 1} → statement M
@@ -24,15 +24,14 @@ offered_ids_formed_spec =
     (tie.spec
     invariant_loop
     decreases_loop
-    (λ c. let o = c.before.before.args.t1 in read_many read_offered_id (if_some at_least_one) no_offered_id 8 o.count o.ids (non_neg o.spec_id.0) c.if1.true)
+    (λ c. let o = c.args.o in read_many read_offered_id (if_some at_least_one) no_offered_id 8 o.count o.ids (non_neg o.spec_id.0) c.if-n-gt-PARTITION_FIELDS.true)
     (λ c κs. search rules)
-    (λ c. rw c.spec-id-formed.ensures (taken_start 8 (search (rules, slots)) c.before.if1.false))
+    (λ c. rw c.spec_id_formed-ok.ensures (taken_start 8 (search (rules, slots)) c.if-n-gt-PARTITION_FIELDS.false))
     (λ c. search rules)
     (λ c. search rules)
     (λ c κs. search rules)
     (λ c. search rules)
     (λ c. search rules)
-    (λ c. let l = c.before.before.before in taken_on l.loop.invariant _ c.before.before.loop-test.true c.partition-id-formed.ensures)
-    (λ c. let e = c.before.before.before in
-    let o = e.before.before.args.t1 in
-    read_end read_offered_id (if_some at_least_one) no_offered_id 8 o.count o.ids (non_neg o.spec_id.0) c.before.loop.invariant e.if1.false c.loop-test.false))
+    (λ c. taken_on c.loop-i.invariant _ c.loop-i-test.true c.partition_id_formed-ok.ensures)
+    (λ c. let o = c.args.o in
+    read_end read_offered_id (if_some at_least_one) no_offered_id 8 o.count o.ids (non_neg o.spec_id.0) c.loop-i.invariant c.if-n-gt-PARTITION_FIELDS.false c.loop-i-test.false))

@@ -11,10 +11,10 @@ use Rattle.formed.proofs.Counted.{Taken, taken_start, taken_on, read_end, read_m
 use Rattle.formed.proofs.record.offered_order_formed.Statement.{statement}
 use Rattle.formed.proofs.record.offered_order_formed.Tie as tie
 
-abbrev invariant_loop : tie.invariant_loop
+abbrev invariant_loop : tie.invariant-loop-i
 invariant_loop o n ok₀ i₀ ok i = Taken (λ (f : SortField). sort_field_formed (read_sort_field f)) o.count o.items 0 i (non_neg o.order_id.0) ok
 
-abbrev decreases_loop : tie.decreases_loop
+abbrev decreases_loop : tie.decreases-loop-i
 decreases_loop o n ok₀ i₀ ok i = n - i
 
 pub offered_order_formed_spec : {M : Type 1} → statement M
@@ -23,15 +23,14 @@ offered_order_formed_spec =
     (tie.spec
     invariant_loop
     decreases_loop
-    (λ c. let o = c.before.before.args.t1 in read_many read_sort_field sort_field_formed no_sort_field 8 o.count o.items (non_neg o.order_id.0) c.if1.true)
+    (λ c. let o = c.args.o in read_many read_sort_field sort_field_formed no_sort_field 8 o.count o.items (non_neg o.order_id.0) c.if-n-gt-SORT_FIELDS.true)
     (λ c κs. search rules)
-    (λ c. rw c.order-id-formed.ensures (taken_start 8 (search (rules, slots)) c.before.if1.false))
+    (λ c. rw c.order_id_formed-ok.ensures (taken_start 8 (search (rules, slots)) c.if-n-gt-SORT_FIELDS.false))
     (λ c. search rules)
     (λ c. search rules)
     (λ c κs. search rules)
     (λ c. search rules)
     (λ c. search rules)
-    (λ c. let l = c.before.before.before in taken_on l.loop.invariant _ c.before.before.loop-test.true c.sort-field-formed.ensures)
-    (λ c. let e = c.before.before.before in
-    let o = e.before.before.args.t1 in
-    read_end read_sort_field sort_field_formed no_sort_field 8 o.count o.items (non_neg o.order_id.0) c.before.loop.invariant e.if1.false c.loop-test.false))
+    (λ c. taken_on c.loop-i.invariant _ c.loop-i-test.true c.sort_field_formed-ok.ensures)
+    (λ c. let o = c.args.o in
+    read_end read_sort_field sort_field_formed no_sort_field 8 o.count o.items (non_neg o.order_id.0) c.loop-i.invariant c.if-n-gt-SORT_FIELDS.false c.loop-i-test.false))

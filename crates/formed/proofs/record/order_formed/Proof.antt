@@ -12,5 +12,5 @@ order_formed_spec =
     (tie.spec
     (λ c κs. search rules)
     (λ c κs. search rules)
-    (λ c. let o = c.before.before.before.args.o in
-    rw (c.before.same-order.ensures, c.offered-order-formed.ensures, read_none read_sort_field no_sort_field o.items o.count)))
+    (λ c. let o = c.args.o in
+    rw (c.same_order-zero.ensures, c.offered_order_formed.ensures, read_none read_sort_field no_sort_field o.items o.count)))

@@ -34,20 +34,20 @@ asked false long e = absurd (true≢false e)
 the_second : (o : ℕ) (main r : Bool) → o ≡ second_office → r ≡ main → not r ≡ (eqb o first_office || (eqb o second_office && not main))
 the_second o main r e f = rw (e, f)
 
-within : (c : tie.Else1) → c.before.before.args.name.len ≤ length c.before.before.args.name.bytes
+within : (c : tie.Else-owner-l) → c.args.name.len ≤ length c.args.name.bytes
 within c =
-    let a = c.before.before.args in
+    let a = c.args in
     let e : length a.name.bytes ≡ name_room = search (rules, slots) in
-    omega (arith, ltb-false name_room a.name.len (asked (eqb a.owner second_office) (ltb name_room a.name.len) c.if1.false).1)
+    omega (arith, ltb-false name_room a.name.len (asked (eqb a.owner second_office) (ltb name_room a.name.len) c.if-owner-l.false).1)
 
 pub owner_formed_spec : {M : Type 1} → statement M
 owner_formed_spec =
     tie.close
     (tie.spec
-    (λ c. let a = c.before.before.args in
-    ap (λ z. eqb a.owner first_office || z) (not_asked (eqb a.owner second_office) (ltb name_room a.name.len) (is_main (read_name a.name)) c.if1.true (λ e. too_long a.name (ltb-true name_room a.name.len e))))
+    (λ c. let a = c.args in
+    ap (λ z. eqb a.owner first_office || z) (not_asked (eqb a.owner second_office) (ltb name_room a.name.len) (is_main (read_name a.name)) c.if-owner-l.true (λ e. too_long a.name (ltb-true name_room a.name.len e))))
     within
     (λ c. sym (length-take-le _ _ (within c.before)))
     (λ c κs. search rules)
-    (λ c. let e = c.before.before in let a = e.before.before.args in
-    the_second a.owner _ _ (eqb-true a.owner second_office (asked (eqb a.owner second_office) (ltb name_room a.name.len) e.if1.false).0) (c.is-main.ensures ∙ ap is_main (sym (counted_take 0 a.name.bytes a.name.len (within e))))))
+    (λ c. let e = c.before.before in let a = e.args in
+    the_second a.owner _ _ (eqb-true a.owner second_office (asked (eqb a.owner second_office) (ltb name_room a.name.len) e.if-owner-l.false).0) (c.is_main.ensures ∙ ap is_main (sym (counted_take 0 a.name.bytes a.name.len (within e))))))

@@ -11,5 +11,5 @@ partition_field_formed_spec =
     (λ c κs. search rules)
     (λ c κs. search rules)
     (λ c κs. search rules)
-    (λ c. let n = c.before.before.before.before.args.f.name in
-    rw (c.before.before.field-id-formed.ensures, c.before.partition-id-formed.ensures, c.transform-formed.ensures, length_counted 0 n.bytes n.len)))
+    (λ c. let n = c.args.f.name in
+    rw (c.field_id_formed.ensures, c.partition_id_formed.ensures, c.transform_formed.ensures, length_counted 0 n.bytes n.len)))

@@ -8,10 +8,10 @@ use Rattle.formed.proofs.Fields.{partitions_apart}
 use Rattle.formed.proofs.record.partition_is_new.Statement.{statement}
 use Rattle.formed.proofs.record.partition_is_new.Tie as tie
 
-abbrev invariant_loop : tie.invariant_loop
+abbrev invariant_loop : tie.invariant-loop-i
 invariant_loop x from s n ok₀ i₀ ok i = Taken (partitions_apart x) s.count s.items from i true ok
 
-abbrev decreases_loop : tie.decreases_loop
+abbrev decreases_loop : tie.decreases-loop-i
 decreases_loop x from s n ok₀ i₀ ok i = n - i
 
 pub partition_is_new_spec : {M : Type 1} → statement M
@@ -26,5 +26,5 @@ partition_is_new_spec =
     (λ c κs. search rules)
     (λ c. search rules)
     (λ c. search rules)
-    (λ c. let l = c.before.before.before in taken_on l.loop.invariant _ c.before.before.loop-test.true c.partitions-differ.ensures)
-    (λ c. taken_end c.before.loop.invariant c.loop-test.false))
+    (λ c. taken_on c.loop-i.invariant _ c.loop-i-test.true c.partitions_differ-ok.ensures)
+    (λ c. taken_end c.loop-i.invariant c.loop-i-test.false))

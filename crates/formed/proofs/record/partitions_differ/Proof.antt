@@ -10,4 +10,4 @@ partitions_differ_spec =
     (λ c κs. search rules)
     (λ c κs. search rules)
     (λ c κs. search rules)
-    (λ c. rw (c.before.before.names-differ.ensures, c.before.same-field.ensures, c.is-redundant.ensures)))
+    (λ c. rw (c.names_differ.ensures, c.same_field.ensures, c.is_redundant.ensures)))

@@ -12,5 +12,5 @@ reference_formed_spec =
     (λ c κs. search rules)
     (λ c κs. search rules)
     (λ c κs. search rules)
-    (λ c. let r = c.before.before.before.before.before.before.before.before.args.r in
-    rw (c.before.before.before.snapshot-id-formed.ensures, c.before.before.min-formed.ensures, c.before.age-formed.ensures, c.age-formed2.ensures, flag_given r.has_min r.min_snapshots_to_keep.0, flag_given r.has_age r.max_snapshot_age_ms.0)))
+    (λ c. let r = c.args.r in
+    rw (c.snapshot_id_formed.ensures, c.min_formed.ensures, c.age_formed.ensures, c.age_formed-2.ensures, flag_given r.has_min r.min_snapshots_to_keep.0, flag_given r.has_age r.max_snapshot_age_ms.0)))

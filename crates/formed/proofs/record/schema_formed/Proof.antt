@@ -17,10 +17,10 @@ use Rattle.formed.proofs.Fields.{field_formed, fields_apart, schema_fields_lem}
 use Rattle.formed.proofs.record.schema_formed.Statement.{statement}
 use Rattle.formed.proofs.record.schema_formed.Tie as tie
 
-abbrev invariant_loop : tie.invariant_loop
+abbrev invariant_loop : tie.invariant-loop-i
 invariant_loop s n ok₀ i₀ ok i = Taken field_formed s.count s.items 0 i (non_neg s.schema_id.0) ok
 
-abbrev decreases_loop : tie.decreases_loop
+abbrev decreases_loop : tie.decreases-loop-i
 decreases_loop s n ok₀ i₀ ok i = n - i
 
 pub schema_formed_spec : {M : Type 1} → statement M
@@ -30,20 +30,20 @@ schema_formed_spec =
     (tie.spec
     invariant_loop
     decreases_loop
-    (λ c. let s = c.before.before.args.t1 in
-    sym (rw (too_many read_schema_field no_schema_field s.items s.count 32 c.if1.true, and-false (non_neg s.schema_id.0))))
+    (λ c. let s = c.args.s in
+    sym (rw (too_many read_schema_field no_schema_field s.items s.count 32 c.if-n-gt-SCHEMA_FIELDS.true, and-false (non_neg s.schema_id.0))))
     (λ c κs. search rules)
-    (λ c. rw c.schema-id-formed.ensures (taken_start 32 (search (rules, slots)) c.before.if1.false))
+    (λ c. rw c.schema_id_formed-ok.ensures (taken_start 32 (search (rules, slots)) c.if-n-gt-SCHEMA_FIELDS.false))
     (λ c. search rules)
     (λ c. search rules)
     (λ c κs. search rules)
     (λ c. search rules)
     (λ c. search rules)
-    (λ c. let l = c.before.before in taken_on l.before.loop.invariant _ l.loop-test.true c.field-formed.ensures)
+    (λ c. taken_on c.loop-i.invariant _ c.loop-i-test.true c.field_formed-ok.ensures)
     (λ c κs. search rules)
-    (λ c. let e = c.before.before.before.before in let s = e.before.before.args.t1 in let v = c.before.before.loop.invariant in
+    (λ c. let s = c.args.s in let v = c.loop-i.invariant in
     let id = non_neg s.schema_id.0 in let l = take s.count s.items in
-    ap₂ ◌&&◌ (taken_end v c.before.loop-test.false) c.fields-are-apart.ensures
+    ap₂ ◌&&◌ (taken_end v c.loop-i-test.false) c.fields_are_apart.ensures
     ∙ and_assoc id (all field_formed l) (each_pair fields_apart l)
-    ∙ schema_fields_lem l (and_right (rest_blank 32 is_blank_schema_field s.items s.count) _ e.before.before.requires) id
-    ∙ sym (rw (few_enough read_schema_field no_schema_field s.items s.count 32 e.if1.false, and-true id, counted_take no_schema_field s.items s.count v.fits))))
+    ∙ schema_fields_lem l (and_right (rest_blank 32 is_blank_schema_field s.items s.count) _ c.requires) id
+    ∙ sym (rw (few_enough read_schema_field no_schema_field s.items s.count 32 c.if-n-gt-SCHEMA_FIELDS.false, and-true id, counted_take no_schema_field s.items s.count v.fits))))

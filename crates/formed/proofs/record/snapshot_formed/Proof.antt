@@ -12,5 +12,5 @@ snapshot_formed_spec =
     (λ c κs. search rules)
     (λ c κs. search rules)
     (λ c κs. search rules)
-    (λ c. let s = c.before.before.before.before.before.before.args.s in
-    rw (c.before.before.snapshot-id-formed.ensures, c.before.snapshot-id-formed2.ensures, c.sequence-formed.ensures, behind_flag non_neg s.has_parent s.parent_snapshot_id.0)))
+    (λ c. let s = c.args.s in
+    rw (c.snapshot_id_formed.ensures, c.snapshot_id_formed-2.ensures, c.sequence_formed.ensures, behind_flag non_neg s.has_parent s.parent_snapshot_id.0)))

@@ -8,4 +8,4 @@ sort_field_formed_spec =
     tie.close
     (tie.spec
     (λ c κs. search rules)
-    (λ c. rw c.field-id-formed.ensures))
+    (λ c. rw c.field_id_formed.ensures))

@@ -25,10 +25,10 @@ use Rattle.formed.proofs.Fields.{has_id, partitions_apart, spec_fields_lem}
 use Rattle.formed.proofs.record.spec_formed.Statement.{statement}
 use Rattle.formed.proofs.record.spec_formed.Tie as tie
 
-abbrev invariant_loop : tie.invariant_loop
+abbrev invariant_loop : tie.invariant-loop-i
 invariant_loop s n ok₀ i₀ ok i = (s.count ≤ 8) × Checked has_id partitions_apart s.count s.items i true ok
 
-abbrev decreases_loop : tie.decreases_loop
+abbrev decreases_loop : tie.decreases-loop-i
 decreases_loop s n ok₀ i₀ ok i = n - i
 
 room_for : (s : PartitionSpec) → offered_spec_formed (read_partition_spec s) ≡ true → s.count ≤ 8
@@ -37,8 +37,8 @@ room_for s e =
     omega (arith, leb-true (length (read_partition_spec s).fields) partition_field_room k.1.0, read_length read_partition_field no_partition_field s.items s.count)
 
 -- what every spec is asked passed
-passed : (c : tie.Else1 invariant_loop decreases_loop) → offered_spec_formed (read_partition_spec c.before.before.args.t1) ≡ true
-passed c = let o = c.before.offered-spec-formed in sym o.ensures ∙ not-false o.result c.if1.false
+passed : (c : tie.Else-not-offered_spec_formed invariant_loop decreases_loop) → offered_spec_formed (read_partition_spec c.args.s) ≡ true
+passed c = let o = c.offered_spec_formed in sym o.ensures ∙ not-false o.result c.if-not-offered_spec_formed.false-raw
 
 pub spec_formed_spec : {M : Type 1} → statement M
 unfolding is_tidy_partition_spec
@@ -48,16 +48,15 @@ spec_formed_spec =
     invariant_loop
     decreases_loop
     (λ c κs. search rules)
-    (λ c. let o = c.before.offered-spec-formed in sym (rw (sym o.ensures ∙ not-true o.result c.if1.true)))
-    (λ c. let h = room_for c.before.before.args.t1 (passed c) in (h, checked_start 8 (search (rules, slots)) h))
+    (λ c. let o = c.offered_spec_formed in sym (rw (sym o.ensures ∙ not-true o.result c.if-not-offered_spec_formed.true-raw)))
+    (λ c. let h = room_for c.args.s (passed c) in (h, checked_start 8 (search (rules, slots)) h))
     (λ c. search rules)
     (λ c. search rules)
     (λ c. search rules)
     (λ c κs. search rules)
     (λ c. search rules)
-    (λ c. let l = c.before.before.before in
-    (l.before.loop.invariant.0, checked_on l.before.loop.invariant.1 _ l.loop-test.true refl c.before.partition-is-new.ensures))
-    (λ c. let e = c.before.before in let b = e.before.before in let s = b.args.t1 in let v = c.before.loop.invariant.1 in
-    checked_end v c.loop-test.false
-    ∙ spec_fields_lem (take s.count s.items) (and_right (rest_blank 8 is_blank_partition_field s.items s.count) _ b.requires)
+    (λ c. (c.loop-i.invariant.0, checked_on c.loop-i.invariant.1 _ c.loop-i-test.true refl c.partition_is_new.ensures))
+    (λ c. let e = c.before.before in let s = e.args.s in let v = c.loop-i.invariant.1 in
+    checked_end v c.loop-i-test.false
+    ∙ spec_fields_lem (take s.count s.items) (and_right (rest_blank 8 is_blank_partition_field s.items s.count) _ e.requires)
     ∙ sym (rw (passed e, counted_take no_partition_field s.items s.count v.fits))))

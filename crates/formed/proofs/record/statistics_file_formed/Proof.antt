@@ -10,5 +10,5 @@ statistics_file_formed_spec =
     (tie.spec
     (λ c κs. search rules)
     (λ c κs. search rules)
-    (λ c. let p = c.before.before.before.before.before.args.f.statistics_path in
-    rw (c.before.snapshot-id-formed.ensures, c.file-size-formed.ensures, length_counted 0 p.bytes p.len)))
+    (λ c. let p = c.args.f.statistics_path in
+    rw (c.snapshot_id_formed.ensures, c.file_size_formed.ensures, length_counted 0 p.bytes p.len)))

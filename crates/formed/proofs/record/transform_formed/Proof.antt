@@ -9,4 +9,4 @@ transform_formed_spec =
     (tie.spec
     (λ c κs. search rules)
     (λ c κs. search rules)
-    (λ c. rw (c.before.same-buckets.ensures, c.buckets-formed.ensures)))
+    (λ c. rw (c.same_buckets.ensures, c.buckets_formed.ensures)))

@@ -11,7 +11,7 @@ file_slot_spec =
     tie.close
     (tie.spec
     (λ c κs. search rules)
-    (λ c. let f = c.before.before.before.before.args.e.metadata_file in rw (c.before.if1.true, c.text-fits.ensures, length_counted 0 f.bytes f.len))
+    (λ c. let f = c.args.e.metadata_file in rw (c.if-used.true, c.text_fits.ensures, length_counted 0 f.bytes f.len))
     (λ c κs. search rules)
     (λ c κs. search rules)
-    (λ c. rw (c.before.before.if1.false, c.before.text-fits2.ensures, c.same-time.ensures)))
+    (λ c. rw (c.if-used.false, c.text_fits-2.ensures, c.same_time.ensures)))

@@ -9,7 +9,7 @@ log_slot_spec =
     tie.close
     (tie.spec
     (λ c κs. search rules)
-    (λ c. rw (c.before.if1.true, c.snapshot-id-formed.ensures))
+    (λ c. rw (c.if-used.true, c.snapshot_id_formed.ensures))
     (λ c κs. search rules)
     (λ c κs. search rules)
-    (λ c. rw (c.before.before.if1.false, c.same-log-entry.ensures, c.before.blank.ensures, same_as_no_entry)))
+    (λ c. rw (c.if-used.false, c.same_log_entry.ensures, c.blank.ensures, same_as_no_entry)))

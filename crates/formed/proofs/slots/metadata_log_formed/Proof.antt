@@ -11,11 +11,11 @@ use Rattle.formed.proofs.Filled.{Filled, filled_start, filled_on, filled_end}
 use Rattle.formed.proofs.slots.metadata_log_formed.Statement.{statement}
 use Rattle.formed.proofs.slots.metadata_log_formed.Tie as tie
 
-abbrev invariant_loop : tie.invariant_loop
+abbrev invariant_loop : tie.invariant-loop-i
 invariant_loop t n ok₀ i₀ ok i =
     Filled read_metadata_log_entry is_tidy_metadata_log_entry (λ (e : plain.FileEntry). file_name_formed e.file) is_blank_metadata_log_entry 128 t.count t.items i ok
 
-abbrev decreases_loop : tie.decreases_loop
+abbrev decreases_loop : tie.decreases-loop-i
 decreases_loop t n ok₀ i₀ ok i = 128 - i
 
 pub metadata_log_formed_spec : {M : Type 1} → statement M
@@ -31,5 +31,5 @@ metadata_log_formed_spec =
     (λ c κs. search rules)
     (λ c. search rules)
     (λ c. search rules)
-    (λ c. let l = c.before.before.before in filled_on l.loop.invariant _ c.before.before.loop-test.true c.file-slot.ensures)
-    (λ c. filled_end c.before.loop.invariant no_metadata_log_entry c.loop-test.false))
+    (λ c. filled_on c.loop-i.invariant _ c.loop-i-test.true c.file_slot-ok.ensures)
+    (λ c. filled_end c.loop-i.invariant no_metadata_log_entry c.loop-i-test.false))

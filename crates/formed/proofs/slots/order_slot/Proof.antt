@@ -9,6 +9,6 @@ order_slot_spec =
     (tie.spec
     (λ c κs. search rules)
     (λ c κs. search rules)
-    (λ c. rw (c.before.before.if1.true, c.before.order-fits.ensures, c.order-formed.ensures))
+    (λ c. rw (c.if-used.true, c.order_fits.ensures, c.order_formed.ensures))
     (λ c κs. search rules)
-    (λ c. rw (c.before.if1.false, c.order-fits2.ensures)))
+    (λ c. rw (c.if-used.false, c.order_fits-2.ensures)))

@@ -14,8 +14,8 @@ ref_slot_spec =
     (λ c κs. search rules)
     (λ c κs. search rules)
     (λ c κs. search rules)
-    (λ c. let f = c.before.before.before in let n = f.before.before.before.before.args.r.name in
-    rw (f.before.if1.true, f.name-fits.ensures, c.before.before.reference-fits.ensures, c.before.reference-formed.ensures, c.owner-formed.ensures, length_counted 0 n.bytes n.len))
+    (λ c. let n = c.args.r.name in
+    rw (c.if-used.true, c.name_fits.ensures, c.reference_fits.ensures, c.reference_formed.ensures, c.owner_formed.ensures, length_counted 0 n.bytes n.len))
     (λ c κs. search rules)
     (λ c κs. search rules)
-    (λ c. rw (c.before.before.if1.false, c.before.name-fits2.ensures, c.reference-fits2.ensures)))
+    (λ c. rw (c.if-used.false, c.name_fits-2.ensures, c.reference_fits-2.ensures)))

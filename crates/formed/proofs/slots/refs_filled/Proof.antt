@@ -10,10 +10,10 @@ use Rattle.formed.proofs.Filled.{Filled, filled_start, filled_on, filled_end}
 use Rattle.formed.proofs.slots.refs_filled.Statement.{statement}
 use Rattle.formed.proofs.slots.refs_filled.Tie as tie
 
-abbrev invariant_loop : tie.invariant_loop
+abbrev invariant_loop : tie.invariant-loop-i
 invariant_loop t n ok₀ i₀ ok i = Filled read_ref is_tidy_ref ref_formed is_blank_ref 16 t.count t.items i ok
 
-abbrev decreases_loop : tie.decreases_loop
+abbrev decreases_loop : tie.decreases-loop-i
 decreases_loop t n ok₀ i₀ ok i = 16 - i
 
 pub refs_filled_spec : {M : Type 1} → statement M
@@ -29,5 +29,5 @@ refs_filled_spec =
     (λ c κs. search rules)
     (λ c. search rules)
     (λ c. search rules)
-    (λ c. let l = c.before.before.before in filled_on l.loop.invariant _ c.before.before.loop-test.true c.ref-slot.ensures)
-    (λ c. filled_end c.before.loop.invariant no_ref c.loop-test.false))
+    (λ c. filled_on c.loop-i.invariant _ c.loop-i-test.true c.ref_slot-ok.ensures)
+    (λ c. filled_end c.loop-i.invariant no_ref c.loop-i-test.false))

@@ -11,16 +11,16 @@ use Rattle.formed.proofs.slots.schema_slot.Statement.{statement}
 use Rattle.formed.proofs.slots.schema_slot.Tie as tie
 
 -- one that is used is tidy
-tidy_used : (c : tie.Then2) → is_tidy_schema c.before.before.before.args.s ≡ true
-tidy_used c = let f = c.before.before.schema-fits in sym (rw c.if2.true at f.ensures) ∙ not-false f.result c.before.if1.false
+tidy_used : (c : tie.Then-used) → is_tidy_schema c.args.s ≡ true
+tidy_used c = let f = c.schema_fits in sym (rw c.if-used.true at f.ensures) ∙ not-false f.result c.if-not-schema_fits.false-raw
 
 pub schema_slot_spec : {M : Type 1} → statement M
 schema_slot_spec =
     tie.close
     (tie.spec
     (λ c κs. search rules)
-    (λ c. let f = c.before.schema-fits in let a = c.before.before.args in
-    unfit a.used (is_tidy_schema a.s) (schema_formed (read_schema a.s)) (is_blank_schema a.s) (sym f.ensures ∙ not-true f.result c.if1.true))
+    (λ c. let f = c.schema_fits in let a = c.args in
+    unfit a.used (is_tidy_schema a.s) (schema_formed (read_schema a.s)) (is_blank_schema a.s) (sym f.ensures ∙ not-true f.result c.if-not-schema_fits.true-raw))
     (λ c κs. tidy_used c)
-    (λ c. rw (c.before.if2.true, tidy_used c.before) c.schema-formed.ensures)
-    (λ c. let f = c.before.before.schema-fits in rw c.if2.false (sym (not-false f.result c.before.if1.false) ∙ rw c.if2.false at f.ensures)))
+    (λ c. rw (c.if-used.true, tidy_used c.before) c.schema_formed.ensures)
+    (λ c. let f = c.schema_fits in rw c.if-used.false (sym (not-false f.result c.if-not-schema_fits.false-raw) ∙ rw c.if-used.false at f.ensures)))

@@ -15,11 +15,11 @@ use Rattle.formed.proofs.Filled.{Filled, filled_start, filled_on, filled_end, al
 use Rattle.formed.proofs.slots.snapshot_log_formed.Statement.{statement}
 use Rattle.formed.proofs.slots.snapshot_log_formed.Tie as tie
 
-abbrev invariant_loop : tie.invariant_loop
+abbrev invariant_loop : tie.invariant-loop-i
 invariant_loop t n ok₀ i₀ ok i =
     Filled read_log_entry (λ (e : SnapshotLogEntry). true) (λ (e : plain.LogEntry). non_neg e.snapshot) is_blank_log_entry 128 t.count t.items i ok
 
-abbrev decreases_loop : tie.decreases_loop
+abbrev decreases_loop : tie.decreases-loop-i
 decreases_loop t n ok₀ i₀ ok i = 128 - i
 
 pub snapshot_log_formed_spec : {M : Type 1} → statement M
@@ -35,6 +35,6 @@ snapshot_log_formed_spec =
     (λ c κs. search rules)
     (λ c. search rules)
     (λ c. search rules)
-    (λ c. let l = c.before.before.before in filled_on l.loop.invariant _ c.before.before.loop-test.true c.log-slot.ensures)
-    (λ c. let t = c.before.before.args.t1 in
-    filled_end c.before.loop.invariant no_log_entry c.loop-test.false ∙ rw (all_tidy 128 is_blank_log_entry t.items t.count)))
+    (λ c. filled_on c.loop-i.invariant _ c.loop-i-test.true c.log_slot-ok.ensures)
+    (λ c. let t = c.args.t in
+    filled_end c.loop-i.invariant no_log_entry c.loop-i-test.false ∙ rw (all_tidy 128 is_blank_log_entry t.items t.count)))

@@ -9,6 +9,6 @@ snapshot_slot_spec =
     (tie.spec
     (λ c κs. search rules)
     (λ c κs. search rules)
-    (λ c. rw (c.before.before.if1.true, c.before.snapshot-fits.ensures, c.snapshot-formed.ensures))
+    (λ c. rw (c.if-used.true, c.snapshot_fits.ensures, c.snapshot_formed.ensures))
     (λ c κs. search rules)
-    (λ c. rw (c.before.if1.false, c.snapshot-fits2.ensures)))
+    (λ c. rw (c.if-used.false, c.snapshot_fits-2.ensures)))

@@ -1,4 +1,5 @@
 -- The loop asks of each slot what the rule asks of it, counted or not, and puts its key beside those before it.
+use mir.Syntax.{w64}
 use Prim.Native.Nat.{◌-◌}
 use native.Mathlib.Omega.{arith}
 use mathlib.Core.Path.{ap, ◌∙◌}
@@ -14,10 +15,10 @@ use Rattle.formed.proofs.Gathered.{Gathered, gathered_start, gathered_on, gather
 use Rattle.formed.proofs.slots.statistics_keys.Statement.{statement}
 use Rattle.formed.proofs.slots.statistics_keys.Tie as tie
 
-abbrev invariant_loop : tie.invariant_loop
+abbrev invariant_loop : tie.invariant-loop-i
 invariant_loop t n ids₀ ok₀ i₀ ids ok i = Gathered read_statistics_file is_tidy_statistics_file statistics_file_formed is_blank_statistics_file (λ x. x.snapshot) 32 t.count t.items i ok ids
 
-abbrev decreases_loop : tie.decreases_loop
+abbrev decreases_loop : tie.decreases-loop-i
 decreases_loop t n ids₀ ok₀ i₀ ids ok i = 32 - i
 
 pub statistics_keys_spec : {M : Type 1} → statement M
@@ -36,8 +37,7 @@ statistics_keys_spec =
     (λ c. search rules)
     (λ c. search rules)
     (λ c. search rules)
-    (λ c. let k = c.before in let b = k.before.before.before in let l = b.before in
-    let z = to_z-of_z (sfits_of c.struct_told.given.0.1) in
-    gathered_on l.loop.invariant (omega arith) _ b.loop-test.true k.before.statistics-slot.ensures (ap (set l.loop.ids l.loop.i) (z ∙ k.snapshot-key.ensures)))
-    (λ c κs. gathered_few c.before.loop.invariant (omega arith) no_statistics_file c.loop-test.false)
-    (λ c. let e = c.before in gathered_end e.before.loop.invariant (omega arith) no_statistics_file e.loop-test.false c.told.ensures))
+    (λ c. let k = c.before in let b = k.before.before.before in let z = to_z-of_z {w = w64} (sfits_of c.struct_told-1.given.0.1) in
+    gathered_on b.loop-i.invariant (omega arith) _ b.loop-i-test.true k.statistics_slot-ok.ensures (ap (set b.loop-i.ids b.loop-i.i) (z ∙ k.snapshot_key-k.ensures)))
+    (λ c κs. gathered_few c.loop-i.invariant (omega arith) no_statistics_file c.loop-i-test.false)
+    (λ c. gathered_end c.loop-i.invariant (omega arith) no_statistics_file c.loop-i-test.false c.told.ensures))

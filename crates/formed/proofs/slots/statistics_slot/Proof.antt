@@ -9,6 +9,6 @@ statistics_slot_spec =
     (tie.spec
     (λ c κs. search rules)
     (λ c κs. search rules)
-    (λ c. rw (c.before.before.if1.true, c.before.statistics-file-fits.ensures, c.statistics-file-formed.ensures))
+    (λ c. rw (c.if-used.true, c.statistics_file_fits.ensures, c.statistics_file_formed.ensures))
     (λ c κs. search rules)
-    (λ c. rw (c.before.if1.false, c.statistics-file-fits2.ensures)))
+    (λ c. rw (c.if-used.false, c.statistics_file_fits-2.ensures)))

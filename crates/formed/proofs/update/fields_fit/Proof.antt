@@ -16,6 +16,5 @@ fields_fit_spec =
     (λ c. search rules)
     (λ c κs. search rules)
     (λ c κs. search rules)
-    (λ c. let z = c.before in
-    let a = z.before.before.before.args in
-    rw (with_slots is_zero a.p.uuid 0 16 (search rules) z.zeros-from.ensures, fits location_kinds a.k (one_kind a.k set_location_kind) (none_rest text_room is_zero a.p.location.bytes a.p.location.len) c.text-fits.ensures, one_kind a.k assign_uuid_kind, one_kind a.k upgrade_format_version_kind)))
+    (λ c. let a = c.args in
+    rw (with_slots is_zero a.p.uuid 0 16 (search rules) c.zeros_from.ensures, fits location_kinds a.k (one_kind a.k set_location_kind) (none_rest text_room is_zero a.p.location.bytes a.p.location.len) c.text_fits.ensures, one_kind a.k assign_uuid_kind, one_kind a.k upgrade_format_version_kind)))

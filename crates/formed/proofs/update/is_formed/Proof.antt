@@ -12,5 +12,5 @@ is_formed_spec =
     (tie.spec
     (λ c κs. search rules)
     (λ c κs. search rules)
-    (λ c. let u = c.before.before.args.u in
-    rw (c.before.is-tidy.ensures, c.used-formed.ensures) (tidy_first (is_tidy_update u) (read_kind u) (kind_weight u.kind))))
+    (λ c. let u = c.args.u in
+    rw (c.is_tidy.ensures, c.used_formed.ensures) (tidy_first (is_tidy_update u) (read_kind u) (kind_weight u.kind))))

@@ -3,8 +3,8 @@ use borrow.Author.Rules.{rules}
 use Rattle.formed.proofs.update.is_tidy.Statement.{statement}
 use Rattle.formed.proofs.update.is_tidy.Tie as tie
 
-pub is_tidy_spec_lem : {M : Type 1} → statement M
-is_tidy_spec_lem =
+pub is_tidy_spec : {M : Type 1} → statement M
+is_tidy_spec =
     tie.close
     (tie.spec
     (λ c κs. search rules)
@@ -14,4 +14,4 @@ is_tidy_spec_lem =
     (λ c κs. search rules)
     (λ c κs. search rules)
     (λ c κs. search rules)
-    (λ c. rw (c.before.before.before.before.before.before.fields_fit.ensures, c.before.before.before.before.before.snapshots-fit.ensures, c.before.before.before.before.refs-fit.ensures, c.before.before.before.schemas-fit.ensures, c.before.before.sort-orders-fit.ensures, c.before.statistics-fit.ensures, c.partition-specs-fit.ensures)))
+    (λ c. rw (c.fields_fit.ensures, c.snapshots_fit.ensures, c.refs_fit.ensures, c.schemas_fit.ensures, c.sort_orders_fit.ensures, c.statistics_fit.ensures, c.partition_specs_fit.ensures)))

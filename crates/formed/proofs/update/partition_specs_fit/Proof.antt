@@ -13,5 +13,5 @@ partition_specs_fit_spec =
     (λ c κs. search rules)
     (λ c κs. search rules)
     (λ c κs. search rules)
-    (λ c. let a = c.before.before.before.args in
-    rw (fits spec_kinds a.k (one_kind a.k add_partition_spec_kind) (blank_spec_offer_tidy a.p.added) c.before.before.spec-offer-fits.ensures, c.before.same_spec.ensures, one_kind a.k set_default_partition_spec_kind, fits spec_ids_kinds a.k (one_kind a.k remove_partition_specs_kind) (blank_spec_ids_tidy a.p.removed) c.spec-ids-fit.ensures)))
+    (λ c. let a = c.args in
+    rw (fits spec_kinds a.k (one_kind a.k add_partition_spec_kind) (blank_spec_offer_tidy a.p.added) c.spec_offer_fits.ensures, c.same_spec.ensures, one_kind a.k set_default_partition_spec_kind, fits spec_ids_kinds a.k (one_kind a.k remove_partition_specs_kind) (blank_spec_ids_tidy a.p.removed) c.spec_ids_fit.ensures)))

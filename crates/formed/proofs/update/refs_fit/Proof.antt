@@ -14,5 +14,5 @@ refs_fit_spec =
     (tie.spec
     (λ c κs. search rules)
     (λ c κs. search rules)
-    (λ c. let a = c.before.before.args in
-    rw (fits ref_name_kinds a.k (three_kinds a.k set_branch_snapshot_kind set_ref_kind remove_ref_kind) (none_rest name_room is_zero a.p.name.bytes a.p.name.len) c.before.name-fits.ensures, fits reference_kinds a.k (one_kind a.k set_ref_kind) (blank_reference_tidy a.p.reference) c.reference-fits.ensures)))
+    (λ c. let a = c.args in
+    rw (fits ref_name_kinds a.k (three_kinds a.k set_branch_snapshot_kind set_ref_kind remove_ref_kind) (none_rest name_room is_zero a.p.name.bytes a.p.name.len) c.name_fits.ensures, fits reference_kinds a.k (one_kind a.k set_ref_kind) (blank_reference_tidy a.p.reference) c.reference_fits.ensures)))

@@ -13,5 +13,5 @@ schemas_fit_spec =
     (λ c κs. search rules)
     (λ c κs. search rules)
     (λ c κs. search rules)
-    (λ c. let a = c.before.before.before.args in
-    rw (c.before.before.schema-offer-is-blank.ensures, one_kind a.k add_schema_kind, c.before.same-schema.ensures, one_kind a.k set_current_schema_kind, fits schema_ids_kinds a.k (one_kind a.k remove_schemas_kind) (blank_schema_ids_tidy a.p.removed) c.schema-ids-fit.ensures)))
+    (λ c. let a = c.args in
+    rw (c.schema_offer_is_blank.ensures, one_kind a.k add_schema_kind, c.same_schema.ensures, one_kind a.k set_current_schema_kind, fits schema_ids_kinds a.k (one_kind a.k remove_schemas_kind) (blank_schema_ids_tidy a.p.removed) c.schema_ids_fit.ensures)))

@@ -12,5 +12,5 @@ snapshots_fit_spec =
     (tie.spec
     (λ c κs. search rules)
     (λ c κs. search rules)
-    (λ c. let a = c.before.before.args in
-    rw (fits snapshot_kinds a.k (two_kinds a.k add_snapshot_kind set_branch_snapshot_kind) (blank_snapshot_tidy a.p.added) c.before.snapshot-fits.ensures, fits snapshot_ids_kinds a.k (one_kind a.k remove_snapshots_kind) (blank_snapshot_ids_tidy a.p.removed) c.snapshot-ids-fit.ensures)))
+    (λ c. let a = c.args in
+    rw (fits snapshot_kinds a.k (two_kinds a.k add_snapshot_kind set_branch_snapshot_kind) (blank_snapshot_tidy a.p.added) c.snapshot_fits.ensures, fits snapshot_ids_kinds a.k (one_kind a.k remove_snapshots_kind) (blank_snapshot_ids_tidy a.p.removed) c.snapshot_ids_fit.ensures)))

@@ -12,5 +12,5 @@ sort_orders_fit_spec =
     (tie.spec
     (λ c κs. search rules)
     (λ c κs. search rules)
-    (λ c. let a = c.before.before.args in
-    rw (fits sort_order_kinds a.k (one_kind a.k add_sort_order_kind) (blank_order_tidy a.p.added) c.before.order-fits.ensures, c.same-order.ensures, one_kind a.k set_default_sort_order_kind)))
+    (λ c. let a = c.args in
+    rw (fits sort_order_kinds a.k (one_kind a.k add_sort_order_kind) (blank_order_tidy a.p.added) c.order_fits.ensures, c.same_order.ensures, one_kind a.k set_default_sort_order_kind)))

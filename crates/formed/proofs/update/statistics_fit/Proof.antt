@@ -12,5 +12,5 @@ statistics_fit_spec =
     (tie.spec
     (λ c κs. search rules)
     (λ c κs. search rules)
-    (λ c. let a = c.before.before.args in
-    rw (fits statistics_file_kinds a.k (two_kinds a.k set_statistics_kind set_partition_statistics_kind) (blank_statistics_file_tidy a.p.file) c.before.statistics-file-fits.ensures, c.same-snapshot.ensures, two_kinds a.k remove_statistics_kind remove_partition_statistics_kind)))
+    (λ c. let a = c.args in
+    rw (fits statistics_file_kinds a.k (two_kinds a.k set_statistics_kind set_partition_statistics_kind) (blank_statistics_file_tidy a.p.file) c.statistics_file_fits.ensures, c.same_snapshot.ensures, two_kinds a.k remove_statistics_kind remove_partition_statistics_kind)))

@@ -10,12 +10,12 @@ unfolding is_short escaped_of
 escaped_spec =
     tie.close
     (tie.spec
-    (λ c. rw c.match.keys1)
-    (λ c. rw c.match.keys2)
-    (λ c. rw c.match.keys3)
-    (λ c. rw c.match.keys4)
-    (λ c. rw c.match.keys5)
-    (λ c. rw c.match.keys6)
-    (λ c. rw c.match.keys7)
-    (λ c. rw c.match.keys8)
-    (λ c. let n = c.match.rest in rw (ne_eqb _ _ n.0.0.0.0.0.0.0.1, ne_eqb _ _ n.0.0.0.0.0.0.1, ne_eqb _ _ n.0.0.0.0.0.1, ne_eqb _ _ n.0.0.0.0.1, ne_eqb _ _ n.0.0.0.1, ne_eqb _ _ n.0.0.1, ne_eqb _ _ n.0.1, ne_eqb _ _ n.1)))
+    (λ c. rw c.in-34.is)
+    (λ c. rw c.in-92.is)
+    (λ c. rw c.in-47.is)
+    (λ c. rw c.in-98.is)
+    (λ c. rw c.in-102.is)
+    (λ c. rw c.in-110.is)
+    (λ c. rw c.in-114.is)
+    (λ c. rw c.in-116.is)
+    (λ c. let n = c.in_default.in_default-own.rest in rw (ne_eqb _ _ n.0.0.0.0.0.0.0.1, ne_eqb _ _ n.0.0.0.0.0.0.1, ne_eqb _ _ n.0.0.0.0.0.1, ne_eqb _ _ n.0.0.0.0.1, ne_eqb _ _ n.0.0.0.1, ne_eqb _ _ n.0.0.1, ne_eqb _ _ n.0.1, ne_eqb _ _ n.1)))

@@ -10,4 +10,4 @@ beginning_spec =
     (λ c κs. search rules)
     (λ c κs. search rules)
     (λ c κs. search rules)
-    (λ c. rw (c.before.before.blank.ensures, c.with_byte.ensures, c.before.blank2.ensures)))
+    (λ c. rw (c.blank-text.ensures, c.with_byte-number.ensures, c.blank.ensures)))

@@ -9,4 +9,4 @@ between_spec =
     (tie.spec
     (λ c κs. search rules)
     (λ c κs. search rules)
-    (λ c. rw (c.before.blank.ensures, c.blank2.ensures)))
+    (λ c. rw (c.blank-text.ensures, c.blank-number.ensures)))

@@ -10,6 +10,6 @@ unfolding is_whole_number
 is_whole_number_spec =
     tie.close
     (tie.spec
-    (λ c. rw (lt-ltb _ _ c.if1.true))
+    (λ c. rw (lt-ltb _ _ c.if-l-gt0.true))
     (λ c κs. search rules)
-    (λ c. rw (le-ltb _ _ c.before.if1.false, c.is-integer.ensures)))
+    (λ c. rw (le-ltb _ _ c.if-l-gt0.false, c.is_integer.ensures)))

@@ -13,10 +13,10 @@ with_next_spec =
     tie.close
     (tie.spec
     (λ c κs. search rules)
-    (λ c. rw (eq-eqb _ _ c.before.if1.true, c.beginning.ensures))
+    (λ c. rw (eq-eqb _ _ c.if-mode-eq-BETWEEN.true, c.beginning.ensures))
     (λ c κs. search rules)
-    (λ c. ap (λ (h : Held). text_read h c.before.before.before.before.args.l) c.with_byte.ensures ∙ rw (ne_eqb _ _ c.before.before.before.if1.false, le-leb _ _ c.before.before.if2.true))
+    (λ c. ap (λ (h : Held). text_read h c.args.l) c.with_byte-text.ensures ∙ rw (ne_eqb _ _ c.if-mode-eq-BETWEEN.false, le-leb _ _ c.if-mode-le-AFTER_F4.true))
     (λ c κs. search rules)
     (λ c κs. search rules)
-    (λ c. rw (ne_eqb _ _ c.before.before.before.before.if1.false, lt-leb _ _ c.before.before.before.if2.false, sym c.before.before.is-before-point.ensures ∙ c.before.if3.true, c.with-byte2.ensures))
-    (λ c. rw (ne_eqb _ _ c.before.before.before.if1.false, lt-leb _ _ c.before.before.if2.false, sym c.before.is-before-point.ensures ∙ c.if3.false)))
+    (λ c. rw (ne_eqb _ _ c.if-mode-eq-BETWEEN.false, lt-leb _ _ c.if-mode-le-AFTER_F4.false, sym c.is_before_point.ensures ∙ c.if-is_before_point.true, c.with_byte-number.ensures))
+    (λ c. rw (ne_eqb _ _ c.if-mode-eq-BETWEEN.false, lt-leb _ _ c.if-mode-le-AFTER_F4.false, sym c.is_before_point.ensures ∙ c.if-is_before_point.false)))

@@ -11,10 +11,10 @@ after_spec =
     tie.close
     (tie.spec
     (λ c κs. search rules)
-    (λ c. rw (c.before.if1.true, c.begun.ensures))
+    (λ c. rw (c.if-mode-eq-BETWEEN.true, c.begun.ensures))
     (λ c κs. search rules)
-    (λ c. rw (ne_eqb _ _ c.before.before.if1.false, le-leb _ _ c.before.if2.true, c.after_text.ensures))
+    (λ c. rw (ne_eqb _ _ c.if-mode-eq-BETWEEN.false, le-leb _ _ c.if-mode-le-AFTER_F4.true, c.after_text.ensures))
     (λ c κs. search rules)
-    (λ c. rw (ne_eqb _ _ c.before.before.before.if1.false, lt-leb _ _ c.before.before.if2.false, le-leb _ _ c.before.if3.true, c.after-number.ensures))
+    (λ c. rw (ne_eqb _ _ c.if-mode-eq-BETWEEN.false, lt-leb _ _ c.if-mode-le-AFTER_F4.false, le-leb _ _ c.if-mode-le-POWER.true, c.after_number.ensures))
     (λ c κs. search rules)
-    (λ c. rw (ne_eqb _ _ c.before.before.before.if1.false, lt-leb _ _ c.before.before.if2.false, lt-leb _ _ c.before.if3.false, c.after-word.ensures)))
+    (λ c. rw (ne_eqb _ _ c.if-mode-eq-BETWEEN.false, lt-leb _ _ c.if-mode-le-AFTER_F4.false, lt-leb _ _ c.if-mode-le-POWER.false, c.after_word.ensures)))

@@ -7,6 +7,6 @@ pub at_exponent_spec : {M : Type 1} → statement M
 at_exponent_spec =
     tie.close
     (tie.spec
-    (λ c. rw c.match.keys1)
-    (λ c. rw c.match.keys2)
-    (λ c. let n = c.match.rest in rw (ne_eqb _ _ n.0.1, ne_eqb _ _ n.1)))
+    (λ c. rw c.in-101.is)
+    (λ c. rw c.in-69.is)
+    (λ c. let n = c.in_default.in_default-own.rest in rw (ne_eqb _ _ n.0.1, ne_eqb _ _ n.1)))

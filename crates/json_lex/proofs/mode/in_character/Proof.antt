@@ -7,6 +7,6 @@ pub in_character_spec : {M : Type 1} → statement M
 in_character_spec =
     tie.close
     (tie.spec
-    (λ c. rw (below c.before.args.least c.before.args.most c.before.args.byte c.if1.true))
-    (λ c. rw (above c.before.before.args.least c.before.before.args.most c.before.before.args.byte c.if2.true))
-    (λ c. rw (inside c.before.before.args.least c.before.before.args.most c.before.before.args.byte c.before.if1.false c.if2.false)))
+    (λ c. rw (below c.args.least c.args.most c.args.byte c.if-byte-least.true))
+    (λ c. rw (above c.args.least c.args.most c.args.byte c.if-byte-most.true))
+    (λ c. rw (inside c.args.least c.args.most c.args.byte c.if-byte-least.false c.if-byte-most.false)))

@@ -10,7 +10,7 @@ pub in_character_begun_spec : {M : Type 1} → statement M
 in_character_begun_spec =
     tie.close
     (tie.spec
-    (λ c. let b = c.before.args.byte in rw (below 32 127 b c.if1.true, wide_below b (omega arith)))
-    (λ c. let b = c.before.before.args.byte in rw (inside 32 127 b c.before.if1.false (omega arith)))
+    (λ c. let b = c.args.byte in rw (below 32 127 b c.if-byte-lt32.true, wide_below b (omega arith)))
+    (λ c. let b = c.args.byte in rw (inside 32 127 b c.if-byte-lt32.false (omega arith)))
     (λ c κs. search rules)
-    (λ c. let b = c.before.before.before.args.byte in rw (above 32 127 b c.before.if2.false, c.in-wide.ensures)))
+    (λ c. let b = c.args.byte in rw (above 32 127 b c.if-byte-lt128.false, c.in_wide.ensures)))

@@ -13,7 +13,7 @@ unfolding is_short in_escape
 in_escape_spec =
     tie.close
     (tie.spec
-    (λ c. rw c.if1.true)
+    (λ c. rw c.if-byte-eq117.true)
     (λ c κs. search rules)
-    (λ c. let b = c.before.before.before.args.byte in rw (short_is_not b (sym c.before.escaped.ensures ∙ c.if2.true), ne_eqb _ _ c.before.before.if1.false))
-    (λ c. let b = c.before.before.before.args.byte in rw (short_is_some b (λ e. c.if2.false (c.before.escaped.ensures ∙ e)))))
+    (λ c. let b = c.args.byte in rw (short_is_not b (sym c.escaped.ensures ∙ c.if-escaped-eq-NO_ESCAPE.true), ne_eqb _ _ c.if-byte-eq117.false))
+    (λ c. let b = c.args.byte in rw (short_is_some b (λ e. c.if-escaped-eq-NO_ESCAPE.false (c.escaped.ensures ∙ e)))))

@@ -12,6 +12,6 @@ in_exponent_spec =
     tie.close
     (tie.spec
     (λ c κs. search rules)
-    (λ c. rw c.match.keys1)
-    (λ c. rw c.match.keys2)
-    (λ c. let n = c.before.match.rest in rw (ne_eqb _ _ n.0.1, ne_eqb _ _ n.1, c.at-digit.ensures)))
+    (λ c. rw c.in-43.is)
+    (λ c. rw c.in-45.is)
+    (λ c. let n = c.in_default.in_default-own.rest in rw (ne_eqb _ _ n.0.1, ne_eqb _ _ n.1, c.at_digit.ensures)))

@@ -11,6 +11,6 @@ in_fraction_spec =
     tie.close
     (tie.spec
     (λ c κs. search rules)
-    (λ c. rw (sym c.before.is_digit.ensures ∙ c.if1.true))
+    (λ c. rw (sym c.is_digit.ensures ∙ c.if-is_digit.true))
     (λ c κs. search rules)
-    (λ c. rw (sym c.before.before.is_digit.ensures ∙ c.before.if1.false, c.at-exponent.ensures)))
+    (λ c. rw (sym c.is_digit.ensures ∙ c.if-is_digit.false, c.at_exponent.ensures)))

@@ -10,5 +10,5 @@ in_hex_spec =
     tie.close
     (tie.spec
     (λ c κs. search rules)
-    (λ c. let b = c.before.before.args.byte in rw (hex_is_not b (sym c.before.hex-of.ensures ∙ c.if1.true)))
-    (λ c. let b = c.before.before.args.byte in rw (hex_is_some b (λ e. c.if1.false (c.before.hex-of.ensures ∙ e)))))
+    (λ c. let b = c.args.byte in rw (hex_is_not b (sym c.hex_of.ensures ∙ c.if-hex_of-eq-NO_HEX.true)))
+    (λ c. let b = c.args.byte in rw (hex_is_some b (λ e. c.if-hex_of-eq-NO_HEX.false (c.hex_of.ensures ∙ e)))))

@@ -11,6 +11,6 @@ unfolding is_digit in_minus
 in_minus_spec =
     tie.close
     (tie.spec
-    (λ c. rw c.if1.true)
+    (λ c. rw c.if-byte-eq48.true)
     (λ c κs. search rules)
-    (λ c. rw (ne_eqb _ _ c.before.if1.false, c.at-digit.ensures)))
+    (λ c. rw (ne_eqb _ _ c.if-byte-eq48.false, c.at_digit.ensures)))

@@ -9,5 +9,5 @@ in_power_spec =
     tie.close
     (tie.spec
     (λ c κs. search rules)
-    (λ c. rw (sym c.before.is_digit.ensures ∙ c.if1.true))
-    (λ c. rw (sym c.before.is_digit.ensures ∙ c.if1.false)))
+    (λ c. rw (sym c.is_digit.ensures ∙ c.if-is_digit.true))
+    (λ c. rw (sym c.is_digit.ensures ∙ c.if-is_digit.false)))

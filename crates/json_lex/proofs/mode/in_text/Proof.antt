@@ -11,6 +11,6 @@ in_text_spec =
     tie.close
     (tie.spec
     (λ c κs. search rules)
-    (λ c. rw c.match.keys1)
-    (λ c. rw c.match.keys2)
-    (λ c. let n = c.before.match.rest in rw (ne_eqb _ _ n.0.1, ne_eqb _ _ n.1, c.in-character-begun.ensures)))
+    (λ c. rw c.in-34.is)
+    (λ c. rw c.in-92.is)
+    (λ c. let n = c.in_default.in_default-own.rest in rw (ne_eqb _ _ n.0.1, ne_eqb _ _ n.1, c.in_character_begun.ensures)))

@@ -10,12 +10,12 @@ unfolding in_wide
 in_wide_spec =
     tie.close
     (tie.spec
-    (λ c. let b = c.before.args.byte in sym (wide_below b c.if1.true))
-    (λ c. let b = c.before.before.args.byte in sym (wide_two b c.before.if1.false c.if2.true))
-    (λ c. rw c.if3.true)
-    (λ c. rw c.if4.true)
-    (λ c. let b = c.before.before.before.before.before.args.byte in sym (wide_three b c.before.before.before.if2.false c.before.before.if3.false c.before.if4.false c.if5.true))
-    (λ c. rw c.if6.true)
-    (λ c. let b = c.before.before.before.before.before.before.before.args.byte in sym (wide_four b c.before.before.if5.false c.before.if6.false c.if7.true))
-    (λ c. rw c.if8.true)
-    (λ c. let b = c.before.before.before.before.before.before.before.before.args.byte in sym (wide_above b c.before.if7.false c.if8.false)))
+    (λ c. let b = c.args.byte in sym (wide_below b c.if-byte-lt194.true))
+    (λ c. let b = c.args.byte in sym (wide_two b c.if-byte-lt194.false c.if-byte-le223.true))
+    (λ c. rw c.if-byte-eq224.true)
+    (λ c. rw c.if-byte-eq237.true)
+    (λ c. let b = c.args.byte in sym (wide_three b c.if-byte-le223.false c.if-byte-eq224.false c.if-byte-eq237.false c.if-byte-le239.true))
+    (λ c. rw c.if-byte-eq240.true)
+    (λ c. let b = c.args.byte in sym (wide_four b c.if-byte-le239.false c.if-byte-eq240.false c.if-byte-le243.true))
+    (λ c. rw c.if-byte-eq244.true)
+    (λ c. let b = c.args.byte in sym (wide_above b c.if-byte-le243.false c.if-byte-eq244.false)))

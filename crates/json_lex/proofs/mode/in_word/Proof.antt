@@ -7,5 +7,5 @@ pub in_word_spec : {M : Type 1} → statement M
 in_word_spec =
     tie.close
     (tie.spec
-    (λ c. rw (eq-eqb _ _ c.if1.true))
-    (λ c. rw (ne_eqb _ _ c.if1.false)))
+    (λ c. rw (eq-eqb _ _ c.if-byte-letter.true))
+    (λ c. rw (ne_eqb _ _ c.if-byte-letter.false)))

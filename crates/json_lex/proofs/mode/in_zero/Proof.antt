@@ -10,6 +10,6 @@ unfolding in_zero
 in_zero_spec =
     tie.close
     (tie.spec
-    (λ c. rw c.if1.true)
+    (λ c. rw c.if-byte-eq46.true)
     (λ c κs. search rules)
-    (λ c. rw (ne_eqb _ _ c.before.if1.false, c.at-exponent.ensures)))
+    (λ c. rw (ne_eqb _ _ c.if-byte-eq46.false, c.at_exponent.ensures)))

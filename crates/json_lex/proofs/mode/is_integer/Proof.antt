@@ -9,6 +9,6 @@ unfolding is_integer
 is_integer_spec =
     tie.close
     (tie.spec
-    (λ c. rw c.match.keys1)
-    (λ c. rw c.match.keys2)
-    (λ c. let n = c.match.rest in rw (ne_eqb _ _ n.0.1, ne_eqb _ _ n.1)))
+    (λ c. rw c.in-15.is)
+    (λ c. rw c.in-16.is)
+    (λ c. let n = c.in_default.in_default-own.rest in rw (ne_eqb _ _ n.0.1, ne_eqb _ _ n.1)))

@@ -14,8 +14,8 @@ with_byte_spec =
     tie.close
     (tie.spec
     (λ c κs. search rules)
-    (λ c. omega (arith, from_least 48 57 c.before.before.args.byte (sym c.before.is_digit.ensures ∙ c.if1.true)))
+    (λ c. omega (arith, from_least 48 57 c.args.byte (sym c.is_digit.ensures ∙ c.if-is_digit.true)))
     (λ c. search rules)
     (λ c κs. search rules)
-    (λ c. rw (sym c.before.before.is_digit.ensures ∙ c.before.if1.true, c.with-digit.ensures))
-    (λ c. rw (sym c.before.is_digit.ensures ∙ c.if1.false)))
+    (λ c. rw (sym c.is_digit.ensures ∙ c.if-is_digit.true, c.with_digit.ensures))
+    (λ c. rw (sym c.is_digit.ensures ∙ c.if-is_digit.false)))

@@ -13,9 +13,9 @@ unfolding with_digit
 with_digit_spec =
     tie.close
     (tie.spec
-    (λ c. rw (lt-ltb _ _ c.if1.true))
+    (λ c. rw (lt-ltb _ _ c.if-n-gt0.true))
     (λ c κs. search rules)
-    (λ c. let a = c.before.before.before.before.args in omega (arith, ltb-true (a.n.magnitude * 10 + a.digit) (2 ^ 64) (sym c.before.has_room.ensures ∙ c.if2.true)))
-    (λ c. let a = c.before.before.before.before.args in omega (arith, ltb-true (a.n.magnitude * 10 + a.digit) (2 ^ 64) (sym c.before.has_room.ensures ∙ c.if2.true)))
-    (λ c. rw (le-ltb _ _ c.before.before.if1.false, sym c.before.has_room.ensures ∙ c.if2.true))
-    (λ c. rw (le-ltb _ _ c.before.before.if1.false, sym c.before.has_room.ensures ∙ c.if2.false)))
+    (λ c. let a = c.args in omega (arith, ltb-true (a.n.magnitude * 10 + a.digit) (2 ^ 64) (sym c.has_room.ensures ∙ c.if-has_room.true)))
+    (λ c. let a = c.args in omega (arith, ltb-true (a.n.magnitude * 10 + a.digit) (2 ^ 64) (sym c.has_room.ensures ∙ c.if-has_room.true)))
+    (λ c. rw (le-ltb _ _ c.if-n-gt0.false, sym c.has_room.ensures ∙ c.if-has_room.true))
+    (λ c. rw (le-ltb _ _ c.if-n-gt0.false, sym c.has_room.ensures ∙ c.if-has_room.false)))

@@ -11,6 +11,6 @@ is_plain_spec =
     tie.close
     (tie.spec
     (λ c κs. search rules)
-    (λ c. rw c.match.keys1)
-    (λ c. rw c.match.keys2)
-    (λ c. rw (ne_eqb _ _ c.before.match.rest.0.1, ne_eqb _ _ c.before.match.rest.1, c.is-character.ensures)))
+    (λ c. rw c.in-34.is)
+    (λ c. rw c.in-92.is)
+    (λ c. rw (ne_eqb _ _ c.in_default.in_default-own.rest.0.1, ne_eqb _ _ c.in_default.in_default-own.rest.1, c.is_character.ensures)))

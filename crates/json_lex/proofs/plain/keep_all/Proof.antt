@@ -9,25 +9,24 @@ use Rattle.json_lex.proofs.Parts.{Left, left_full, left_none, left_more}
 use Rattle.json_lex.proofs.plain.keep_all.Statement.{statement}
 use Rattle.json_lex.proofs.plain.keep_all.Tie as tie
 
-abbrev invariant_loop : tie.invariant_loop
+abbrev invariant_loop : tie.invariant-loop-i
 invariant_loop kept₀ len part from end n₀ i₀ kept n i = Left kept₀ len (slice from end part) kept n (slice i end part)
 
-abbrev decreases_loop : tie.decreases_loop
+abbrev decreases_loop : tie.decreases-loop-i
 decreases_loop kept₀ len part from end n₀ i₀ kept n i = end - i
 
-loop_again : tie.Need-loop-preserved invariant_loop decreases_loop
+loop_again : tie.Need-loop-i-preserved invariant_loop decreases_loop
 loop_again c =
-    let l = c.before.before.before in
-    let a = l.before.args in
-    left_more a.part.now l.loop.i a.end l.loop.invariant c.before.before.loop-test.true l.before.requires (ltb-true _ _ c.before.if1.true)
+    let a = c.args in
+    left_more a.part.now c.loop-i.i a.end c.loop-i.invariant c.loop-i-test.true c.requires (ltb-true _ _ c.if-n-lt-KEPT.true-raw)
 
-returns : tie.Need-returns invariant_loop decreases_loop
-returns c = left_full (ltb-false _ _ c.if1.false) c.before.before.loop.invariant
+returns : tie.Need-returns-else-n-lt-KEPT invariant_loop decreases_loop
+returns c = left_full (ltb-false _ _ c.if-n-lt-KEPT.false-raw) c.loop-i.invariant
 
-returns_2 : tie.Need-returns-2 invariant_loop decreases_loop
+returns_2 : tie.Need-returns-after-loop-i invariant_loop decreases_loop
 returns_2 c =
-    let a = c.before.before.args in
-    left_none a.part.now c.before.loop.i a.end c.before.loop.invariant c.loop-test.false
+    let a = c.args in
+    left_none a.part.now c.loop-i.i a.end c.loop-i.invariant c.loop-i-test.false
 
 pub keep_all_spec : {M : Type 1} → statement M
 keep_all_spec =

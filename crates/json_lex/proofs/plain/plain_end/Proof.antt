@@ -10,24 +10,22 @@ use Rattle.json_lex.proofs.Parts.{run_stops, run_goes, run_ends}
 use Rattle.json_lex.proofs.plain.plain_end.Statement.{statement}
 use Rattle.json_lex.proofs.plain.plain_end.Tie as tie
 
-abbrev invariant_loop : tie.invariant_loop
+abbrev invariant_loop : tie.invariant-loop-i
 invariant_loop part from i₀ i = from + plain_run (drop from part) ≡ i + plain_run (drop i part)
 
-abbrev decreases_loop : tie.decreases_loop
+abbrev decreases_loop : tie.decreases-loop-i
 decreases_loop part from i₀ i = length part - i
 
-returns : tie.Need-returns invariant_loop decreases_loop
+returns : tie.Need-returns-then-not-is_plain invariant_loop decreases_loop
 returns c =
-    let l = c.before.before.before.before in
-    omega (arith, run_stops l.before.before.args.part.now l.loop.i c.before.before.before.loop-test.true (sym c.before.is_plain.ensures ∙ not-true _ c.if1.true))
+    omega (arith, run_stops c.args.part.now c.loop-i.i c.loop-i-test.true (sym c.is_plain.ensures ∙ not-true _ c.if-not-is_plain.true-raw))
 
-loop_again : tie.Need-loop-preserved invariant_loop decreases_loop
+loop_again : tie.Need-loop-i-preserved invariant_loop decreases_loop
 loop_again c =
-    let l = c.before.before.before.before in
-    omega (arith, run_goes l.before.before.args.part.now l.loop.i c.before.before.before.loop-test.true (sym c.before.is_plain.ensures ∙ not-false _ c.if1.false))
+    omega (arith, run_goes c.args.part.now c.loop-i.i c.loop-i-test.true (sym c.is_plain.ensures ∙ not-false _ c.if-not-is_plain.false-raw))
 
-returns_2 : tie.Need-returns-2 invariant_loop decreases_loop
-returns_2 c = omega (arith, run_ends c.before.before.before.args.part.now c.before.loop.i c.loop-test.false)
+returns_2 : tie.Need-returns invariant_loop decreases_loop
+returns_2 c = omega (arith, run_ends c.args.part.now c.loop-i.i c.loop-i-test.false)
 
 pub plain_end_spec : {M : Type 1} → statement M
 plain_end_spec =

@@ -11,8 +11,8 @@ unfolding held_in_escape
 in_escape_spec =
     tie.close
     (tie.spec
-    (λ c. rw (eq-eqb _ _ c.if1.true))
+    (λ c. rw (eq-eqb _ _ c.if-byte-eq117.true))
     (λ c κs. search rules)
     (λ c κs. search rules)
     (λ c κs. search rules)
-    (λ c. c.with-kept.ensures ∙ rw (ne_eqb _ _ c.before.before.before.before.if1.false, c.before.before.before.settled.ensures, c.before.escaped.ensures)))
+    (λ c. c.with_kept.ensures ∙ rw (ne_eqb _ _ c.if-byte-eq117.false, c.settled.ensures, c.escaped.ensures)))

@@ -15,5 +15,5 @@ in_hex_spec =
     (λ c κs. search rules)
     (λ c. search rules)
     (λ c κs. search rules)
-    (λ c. c.with_unit.ensures ∙ rw (c.before.before.before.hex-of.ensures, eq-eqb _ _ c.before.before.if1.true))
-    (λ c. rw (c.before.hex-of.ensures, ne_eqb _ _ c.if1.false)))
+    (λ c. c.with_unit.ensures ∙ rw (c.hex_of.ensures, eq-eqb _ _ c.if-mode-eq-ONE_HEX.true))
+    (λ c. rw (c.hex_of.ensures, ne_eqb _ _ c.if-mode-eq-ONE_HEX.false)))

@@ -7,5 +7,5 @@ pub is_low_spec : {M : Type 1} → statement M
 is_low_spec =
     tie.close
     (tie.spec
-    (λ c. rw (lt-leb _ _ c.if1.true))
-    (λ c. rw (le-leb _ _ c.if1.false)))
+    (λ c. rw (lt-leb _ _ c.if-unit-lt56320.true))
+    (λ c. rw (le-leb _ _ c.if-unit-lt56320.false)))

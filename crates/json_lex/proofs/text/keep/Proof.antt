@@ -10,5 +10,5 @@ keep_spec =
     (tie.spec
     (λ c. search rules)
     (λ c. search rules)
-    (λ c. record { counts = rw (lt-ltb _ _ c.if1.true); bytes = rw (lt-ltb _ _ c.if1.true) })
-    (λ c. record { counts = rw (le-ltb _ _ c.if1.false); bytes = rw (le-ltb _ _ c.if1.false) }))
+    (λ c. record { counts = rw (lt-ltb _ _ c.if-len-lt-KEPT.true); bytes = rw (lt-ltb _ _ c.if-len-lt-KEPT.true) })
+    (λ c. record { counts = rw (le-ltb _ _ c.if-len-lt-KEPT.false); bytes = rw (le-ltb _ _ c.if-len-lt-KEPT.false) }))

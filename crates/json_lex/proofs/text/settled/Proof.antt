@@ -9,5 +9,5 @@ unfolding settled
 settled_spec =
     tie.close
     (tie.spec
-    (λ c. rw (ne_eqb _ _ c.if1.true))
-    (λ c. rw (eq-eqb _ _ c.if1.false)))
+    (λ c. rw (ne_eqb _ _ c.if-t-ne0.true))
+    (λ c. rw (eq-eqb _ _ c.if-t-ne0.false)))

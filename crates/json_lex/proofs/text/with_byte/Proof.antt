@@ -12,10 +12,10 @@ with_byte_spec =
     tie.close
     (tie.spec
     (λ c κs. search rules)
-    (λ c. c.in-text.ensures ∙ rw (eq-eqb _ _ c.before.before.if1.true))
+    (λ c. c.in_text.ensures ∙ rw (eq-eqb _ _ c.if-mode-eq-TEXT.true))
     (λ c κs. search rules)
-    (λ c. c.in-escape.ensures ∙ rw (ne_eqb _ _ c.before.before.before.if1.false, eq-eqb _ _ c.before.before.if2.true))
+    (λ c. c.in_escape.ensures ∙ rw (ne_eqb _ _ c.if-mode-eq-TEXT.false, eq-eqb _ _ c.if-mode-eq-ESCAPE.true))
     (λ c κs. search rules)
-    (λ c. c.in-hex.ensures ∙ rw (ne_eqb _ _ c.before.before.before.before.if1.false, ne_eqb _ _ c.before.before.before.if2.false, le-leb _ _ c.before.before.if3.true))
+    (λ c. c.in_hex.ensures ∙ rw (ne_eqb _ _ c.if-mode-eq-TEXT.false, ne_eqb _ _ c.if-mode-eq-ESCAPE.false, le-leb _ _ c.if-mode-le-FOUR_HEX.true))
     (λ c κs. search rules)
-    (λ c. c.with-kept.ensures ∙ rw (ne_eqb _ _ c.before.before.before.before.if1.false, ne_eqb _ _ c.before.before.before.if2.false, lt-leb _ _ c.before.before.if3.false)))
+    (λ c. c.with_kept.ensures ∙ rw (ne_eqb _ _ c.if-mode-eq-TEXT.false, ne_eqb _ _ c.if-mode-eq-ESCAPE.false, lt-leb _ _ c.if-mode-le-FOUR_HEX.false)))

@@ -10,4 +10,4 @@ with_kept_spec =
     tie.close
     (tie.spec
     (λ c κs. search rules)
-    (λ c. let a = c.before.before.args in keeps_held (held a.text a.kept.now) c.keep.ensures))
+    (λ c. let a = c.args in keeps_held (held a.text a.kept.now) c.keep.ensures))

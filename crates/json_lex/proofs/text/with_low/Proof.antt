@@ -12,7 +12,7 @@ unfolding with_low
 with_low_spec =
     tie.close
     (tie.spec
-    (λ c. rw (eq-eqb _ _ c.if1.true))
+    (λ c. rw (eq-eqb _ _ c.if-high-eq0.true))
     (λ c κs. search rules)
     (λ c κs. search rules)
-    (λ c. let a = c.before.before.before.before.args in keeps_held (held (waiting 0 a.text) a.kept.now) c.keep-point.ensures ∙ rw (ne_eqb _ _ c.before.before.before.if1.false, c.before.paired.ensures)))
+    (λ c. let a = c.args in keeps_held (held (waiting 0 a.text) a.kept.now) c.keep_point.ensures ∙ rw (ne_eqb _ _ c.if-high-eq0.false, c.paired.ensures)))

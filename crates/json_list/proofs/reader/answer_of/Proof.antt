@@ -4,19 +4,15 @@ use Rattle.json_list.proofs.Feeds.{answered_list, answered_refusal}
 use Rattle.json_list.proofs.reader.answer_of.Statement.{statement}
 use Rattle.json_list.proofs.reader.answer_of.Tie as tie
 
-returns : tie.Need-returns
+returns : tie.Need-returns-then-judge-eq0
 returns c =
-    let i = c.before.before in
-    let a = i.before.before.args in
-    answered_list a.judge.now a.held.list a.held.offered a.offers.now i.if1.true
+    let a = c.args in
+    answered_list a.judge.now a.held.list a.held.offered a.offers.now c.if-judge-eq0.true
 
-returns_2 : tie.Need-returns-2
+returns_2 : tie.Need-returns
 returns_2 c =
-    let b = c.before.before in
-    let o = b.before in
-    let i = o.before.before in
-    let a = i.before.before.args in
-    answered_refusal a.judge.now a.held.list a.held.offered a.offers.now b.blank.result o.blank-offers.new.0 i.if1.false b.blank.ensures o.blank-offers.ensures
+    let a = c.args in
+    answered_refusal a.judge.now a.held.list a.held.offered a.offers.now c.blank-list.result c.blank_offers.new.offers c.if-judge-eq0.false c.blank-list.ensures c.blank_offers.ensures
 
 pub answer_of_spec : {M : Type 1} → statement M
 answer_of_spec =

@@ -7,10 +7,10 @@ use Rattle.json_list.proofs.States.{zeroing_more, zeroing_done}
 use Rattle.json_list.proofs.reader.blank_offers.Statement.{statement}
 use Rattle.json_list.proofs.reader.blank_offers.Tie as tie
 
-abbrev invariant_loop : tie.invariant_loop
+abbrev invariant_loop : tie.invariant-loop-i
 invariant_loop offers₀ i₀ offers i = zeroing 77824 0 offers₀ ≡ zeroing (77824 - i) i offers
 
-abbrev decreases_loop : tie.decreases_loop
+abbrev decreases_loop : tie.decreases-loop-i
 decreases_loop offers₀ i₀ offers i = 77824 - i
 
 pub blank_offers_spec : {M : Type 1} → statement M
@@ -23,5 +23,5 @@ blank_offers_spec =
     (λ c. omega arith)
     (λ c. omega arith)
     (λ c. omega arith)
-    (λ c. let l = c.before in l.loop.invariant ∙ zeroing_more 77824 l.loop.i l.loop.offers c.loop-test.true)
-    (λ c. let l = c.before in sym (l.loop.invariant ∙ zeroing_done 77824 l.loop.i l.loop.offers c.loop-test.false)))
+    (λ c. c.loop-i.invariant ∙ zeroing_more 77824 c.loop-i.i c.loop-i.offers c.loop-i-test.true)
+    (λ c. sym (c.loop-i.invariant ∙ zeroing_done 77824 c.loop-i.i c.loop-i.offers c.loop-i-test.false)))

@@ -8,12 +8,9 @@ use Rattle.json_list.proofs.reader.end.Tie as tie
 
 returns : tie.Need-returns
 returns c =
-    let e = c.before.before.before in
-    let s = e.before.before in
-    let t = s.before.before.before.before.before in
-    let a = t.before.before.before.before.before.before.before.before.before.args in
+    let a = c.args in
     let r = a.reader in
-    ended_by r.before (reading r.lexer r.kept) (work r.judge r.numbers r.texts) r.list r.offered a.offers.now (work t.take_last.new.1.1.1.0 t.take_last.new.1.1.1.1.0 t.take_last.new.1.1.1.1.1.0) t.take_last.result s.store-last.result.list s.store-last.result.offered s.store-last.new.1.1.1.1.1.1.0 e.take-end.new.0 _ t.take_last.ensures s.store-last.ensures e.take-end.ensures c.answer-of.ensures
+    ended_by r.before (reading r.lexer r.kept) (work r.judge r.numbers r.texts) r.list r.offered a.offers.now (work c.take_last-done.new.judge c.take_last-done.new.numbers c.take_last-done.new.texts) c.take_last-done.result c.store_last-held.result.list c.store_last-held.result.offered c.store_last-held.new.offers c.take_end.new.judge _ c.take_last-done.ensures c.store_last-held.ensures c.take_end.ensures c.answer_of.ensures
 
 pub end_spec : {M : Type 1} → statement M
 end_spec = tie.close (tie.spec (λ c κs. search rules) (λ c κs. search rules) (λ c κs. search rules) (λ c κs. search rules) returns)

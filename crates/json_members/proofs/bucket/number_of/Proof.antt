@@ -12,63 +12,58 @@ use Rattle.json_members.proofs.Digits.{said_by, digits_end, digit_not, digit_on,
 use Rattle.json_members.proofs.bucket.number_of.Statement.{statement}
 use Rattle.json_members.proofs.bucket.number_of.Tie as tie
 
-abbrev invariant_loop : tie.invariant_loop
+abbrev invariant_loop : tie.invariant-loop-i
 invariant_loop kept digits number₀ i₀ number i = (i ≤ digits) × (number < 10 ^ i) × (said_by 0 (front digits (drop 7 kept)) ≡ said_by number (drop i (front digits (drop 7 kept))))
 
-abbrev decreases_loop : tie.decreases_loop
+abbrev decreases_loop : tie.decreases-loop-i
 decreases_loop kept digits number₀ i₀ number i = digits - i
 
-loop_holds : tie.Need-loop-init invariant_loop decreases_loop
+loop_holds : tie.Need-loop-i-init invariant_loop decreases_loop
 loop_holds c = (search rules, search rules, refl)
 
 -- the byte in this turn is a digit, or it is none
-returns : tie.Need-returns invariant_loop decreases_loop
+returns : tie.Need-returns-then-not-is_digit invariant_loop decreases_loop
 returns c =
-    let l = c.before.before.before.before in
-    let kept = l.before.args.kept.now in
-    let digits = l.before.args.digits in
-    let i = l.loop.i in
-    let h = c.before.before.before.loop-test.true in
+    let kept = c.args.kept.now in
+    let digits = c.args.digits in
+    let i = c.loop-i.i in
+    let h = c.loop-i-test.true in
     let ds = front digits (drop 7 kept) in
     sym
-    (l.loop.invariant.2
-    ∙ digit_not l.loop.number ds i (omega (arith, front_length digits (drop 7 kept))) (ap is_digit (behind kept digits i h) ∙ sym c.before.is_digit.ensures ∙ not-true _ c.if1.true))
+    (c.loop-i.invariant.2
+    ∙ digit_not c.loop-i.number ds i (omega (arith, front_length digits (drop 7 kept))) (ap is_digit (behind kept digits i h) ∙ sym c.is_digit.ensures ∙ not-true _ c.if-not-is_digit.true-raw))
 
-mul_number : tie.Need-overflow-mul-number invariant_loop decreases_loop
+mul_number : tie.Need-overflow_mul-number invariant_loop decreases_loop
 mul_number c =
-    let l = c.before.before.before.before in
-    omega (arith, below_all l.loop.i (omega arith))
+    omega (arith, below_all c.loop-i.i (omega arith))
 
-sub_number : tie.Need-overflow-sub-number invariant_loop decreases_loop
-sub_number c = omega (arith, digit_small _ (sym c.before.is_digit.ensures ∙ not-false _ c.if1.false))
+sub_number : tie.Need-overflow_sub-number invariant_loop decreases_loop
+sub_number c = omega (arith, digit_small _ (sym c.is_digit.ensures ∙ not-false _ c.if-not-is_digit.false-raw))
 
-add_number : tie.Need-overflow-add-number invariant_loop decreases_loop
+add_number : tie.Need-overflow_add-number invariant_loop decreases_loop
 add_number c =
-    let l = c.before.before.before.before in
-    omega (arith, below_all l.loop.i (omega arith), digit_small _ (sym c.before.is_digit.ensures ∙ not-false _ c.if1.false))
+    omega (arith, below_all c.loop-i.i (omega arith), digit_small _ (sym c.is_digit.ensures ∙ not-false _ c.if-not-is_digit.false-raw))
 
-loop_again : tie.Need-loop-preserved invariant_loop decreases_loop
+loop_again : tie.Need-loop-i-preserved invariant_loop decreases_loop
 loop_again c =
-    let l = c.before.before.before.before in
-    let kept = l.before.args.kept.now in
-    let digits = l.before.args.digits in
-    let i = l.loop.i in
-    let h = c.before.before.before.loop-test.true in
+    let kept = c.args.kept.now in
+    let digits = c.args.digits in
+    let i = c.loop-i.i in
+    let h = c.loop-i-test.true in
     let ds = front digits (drop 7 kept) in
-    let is = sym c.before.is_digit.ensures ∙ not-false _ c.if1.false in
+    let is = sym c.is_digit.ensures ∙ not-false _ c.if-not-is_digit.false-raw in
     let at_i = behind kept digits i h in (
       search rules,
-      below_next l.loop.number i (get_or kept (7 + i) 0) l.loop.invariant.1 (digit_small _ is).1,
-      l.loop.invariant.2
-          ∙ digit_on l.loop.number ds i (omega (arith, front_length digits (drop 7 kept))) (ap is_digit at_i ∙ is)
-          ∙ ap (λ (b : ℕ). said_by (l.loop.number * 10 + (b - 48)) (drop (i + 1) ds)) at_i,
+      below_next c.loop-i.number i (get_or kept (7 + i) 0) c.loop-i.invariant.1 (digit_small _ is).1,
+      c.loop-i.invariant.2
+          ∙ digit_on c.loop-i.number ds i (omega (arith, front_length digits (drop 7 kept))) (ap is_digit at_i ∙ is)
+          ∙ ap (λ (b : ℕ). said_by (c.loop-i.number * 10 + (b - 48)) (drop (i + 1) ds)) at_i,
     )
 
-returns_2 : tie.Need-returns-2 invariant_loop decreases_loop
+returns_2 : tie.Need-returns invariant_loop decreases_loop
 returns_2 c =
-    let l = c.before in
-    let ds = front l.before.args.digits (drop 7 l.before.args.kept.now) in
-    sym (l.loop.invariant.2 ∙ digits_end l.loop.number ds l.loop.i (omega (arith, front_length l.before.args.digits (drop 7 l.before.args.kept.now))))
+    let ds = front c.args.digits (drop 7 c.args.kept.now) in
+    sym (c.loop-i.invariant.2 ∙ digits_end c.loop-i.number ds c.loop-i.i (omega (arith, front_length c.args.digits (drop 7 c.args.kept.now))))
 
 pub number_of_spec : {M : Type 1} → statement M
 number_of_spec =
@@ -84,7 +79,7 @@ number_of_spec =
     returns
     mul_number
     sub_number
-    (λ c. omega (arith, digit_small _ (sym c.before.is_digit.ensures ∙ not-false _ c.if1.false)))
+    (λ c. omega (arith, digit_small _ (sym c.is_digit.ensures ∙ not-false _ c.if-not-is_digit.false-raw)))
     add_number
     (λ c. search rules)
     (λ c. search rules)

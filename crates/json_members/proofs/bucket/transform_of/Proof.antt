@@ -8,42 +8,39 @@ use Rattle.json_members.proofs.Transforms.{plain_told, no_bucket, too_many, some
 use Rattle.json_members.proofs.bucket.transform_of.Statement.{statement}
 use Rattle.json_members.proofs.bucket.transform_of.Tie as tie
 
-returns : tie.Need-returns
+returns : tie.Need-returns-then-kind-ne-NO_KIND
 returns c =
-    let a = c.before.before.args in
+    let a = c.args in
     let text = front a.len a.kept.now in
-    rw c.before.word-kind.ensures (plain_told text (a_word text _ c.before.word-kind.ensures c.if1.true))
+    rw c.word_kind-kind.ensures (plain_told text (a_word text _ c.word_kind-kind.ensures c.if-kind-ne-NO_KIND.true))
 
-returns_2 : tie.Need-returns-2
+returns_2 : tie.Need-returns-then-not-is_bracketed
 returns_2 c =
-    let w = c.before.before.before in
-    let text = front w.before.args.len w.before.args.kept.now in
-    no_bucket text (no_word_there text _ w.word-kind.ensures c.before.before.if1.false) (sym c.before.is-bracketed.ensures ∙ not-true _ c.if2.true)
+    let text = front c.args.len c.args.kept.now in
+    no_bucket text (no_word_there text _ c.word_kind-kind.ensures c.if-kind-ne-NO_KIND.false) (sym c.is_bracketed.ensures ∙ not-true _ c.if-not-is_bracketed.true-raw)
 
-number_of_requires : tie.Need-number-of-requires
+number_of_requires : tie.Need-number_of-number-requires
 number_of_requires c κs =
-    let a = c.before.before.before.before.args in
-    omega (arith, bounds a.len a.kept.now (sym c.before.is-bracketed.ensures ∙ not-false _ c.if2.false))
+    let a = c.args in
+    omega (arith, bounds a.len a.kept.now (sym c.is_bracketed.ensures ∙ not-false _ c.if-not-is_bracketed.false-raw))
 
-returns_3 : tie.Need-returns-3
+returns_3 : tie.Need-returns-then-number-gt-MOST
 returns_3 c =
     let e = c.before.before in
-    let w = e.before.before.before in
-    let a = w.before.args in
+    let a = e.args in
     let text = front a.len a.kept.now in
-    let b = sym e.before.is-bracketed.ensures ∙ not-false _ e.if2.false in
-    too_many text (no_word_there text _ w.word-kind.ensures e.before.before.if1.false) b c.before.number-of.result
-    (said_between a.len a.kept.now b c.before.number-of.result c.before.number-of.ensures) c.if3.true
+    let b = sym e.is_bracketed.ensures ∙ not-false _ e.if-not-is_bracketed.false-raw in
+    too_many text (no_word_there text _ e.word_kind-kind.ensures e.if-kind-ne-NO_KIND.false) b c.number_of-number.result
+    (said_between a.len a.kept.now b c.number_of-number.result c.number_of-number.ensures) c.if-number-gt-MOST.true
 
-returns_4 : tie.Need-returns-4
+returns_4 : tie.Need-returns
 returns_4 c =
     let e = c.before.before in
-    let w = e.before.before.before in
-    let a = w.before.args in
+    let a = e.args in
     let text = front a.len a.kept.now in
-    let b = sym e.before.is-bracketed.ensures ∙ not-false _ e.if2.false in
-    some_buckets text (no_word_there text _ w.word-kind.ensures e.before.before.if1.false) b c.before.number-of.result
-    (said_between a.len a.kept.now b c.before.number-of.result c.before.number-of.ensures) c.if3.false
+    let b = sym e.is_bracketed.ensures ∙ not-false _ e.if-not-is_bracketed.false-raw in
+    some_buckets text (no_word_there text _ e.word_kind-kind.ensures e.if-kind-ne-NO_KIND.false) b c.number_of-number.result
+    (said_between a.len a.kept.now b c.number_of-number.result c.number_of-number.ensures) c.if-number-gt-MOST.false
 
 pub transform_of_spec : {M : Type 1} → statement M
 transform_of_spec =
@@ -53,8 +50,8 @@ transform_of_spec =
     returns
     (λ c κs. search rules)
     returns_2
-    (λ c. let a = c.before.before.before.before.args in omega (arith, bounds a.len a.kept.now (sym c.before.is-bracketed.ensures ∙ not-false _ c.if2.false)))
-    (λ c. let a = c.before.before.before.before.args in omega (arith, bounds a.len a.kept.now (sym c.before.is-bracketed.ensures ∙ not-false _ c.if2.false)))
+    (λ c. let a = c.args in omega (arith, bounds a.len a.kept.now (sym c.is_bracketed.ensures ∙ not-false _ c.if-not-is_bracketed.false-raw)))
+    (λ c. let a = c.args in omega (arith, bounds a.len a.kept.now (sym c.is_bracketed.ensures ∙ not-false _ c.if-not-is_bracketed.false-raw)))
     number_of_requires
     returns_3
     (λ c. search rules)

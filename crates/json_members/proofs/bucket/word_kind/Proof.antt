@@ -9,24 +9,19 @@ returns : tie.Need-returns
 returns c =
     let c3 = c.before.before in
     let c2 = c3.before.before in
-    let c1 = c2.before.before in
     answered_first _ _
-    (ask refl c1.or-kind.ensures
-    (ask refl c2.or-kind2.ensures
-    (ask refl c3.or-kind3.ensures
-    (ask refl c.or-kind4.ensures
+    (ask refl c2.or_kind-kind.ensures
+    (ask refl c2.or_kind-kind-2.ensures
+    (ask refl c3.or_kind-kind-3.ensures
+    (ask refl c.or_kind.ensures
     done))))
 
 pub word_kind_spec : {M : Type 1} → statement M
 word_kind_spec =
     tie.close
     (tie.spec
-    (λ c. search rules)
     (λ c κs. search rules)
-    (λ c. search rules)
     (λ c κs. search rules)
-    (λ c. search rules)
     (λ c κs. search rules)
-    (λ c. search rules)
     (λ c κs. search rules)
     returns)

@@ -17,5 +17,5 @@ count_in_spec =
     (λ c. search rules)
     (λ c κs. search rules)
     (λ c κs. search rules)
-    (λ c. counted_in_lem c.before.before.before.before.args.judge.now c.before.before.before.before.args.list c.before.before.before.count-slot.ensures.0 c.before.room_of.ensures c.if1.true)
-    (λ c. counted_over c.before.before.before.before.before.before.before.before.args.judge.now c.before.before.before.before.before.before.before.before.args.list c.before.before.before.before.before.before.before.count-slot.ensures.0 c.before.before.before.before.before.room_of.ensures c.before.before.before.before.if1.false c.before.before.first_of.ensures c.refuse.ensures))
+    (λ c. counted_in_lem c.args.judge.now c.args.list c.count_slot-slot.ensures.0 c.room_of.ensures c.if-count-room_of.true)
+    (λ c. counted_over c.args.judge.now c.args.list c.count_slot-slot.ensures.0 c.room_of.ensures c.if-count-room_of.false c.first_of-first.ensures c.refuse.ensures))

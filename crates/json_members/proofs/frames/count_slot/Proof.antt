@@ -10,5 +10,5 @@ unfolding count_slot
 count_slot_spec =
     tie.close
     (tie.spec
-    (λ c. (rw (eq-eqb _ _ c.if1.true), search rules))
-    (λ c. (rw (ne_eqb _ _ c.if1.false), search rules)))
+    (λ c. (rw (eq-eqb _ _ c.if-list-eq-UPDATES.true), search rules))
+    (λ c. (rw (ne_eqb _ _ c.if-list-eq-UPDATES.false), search rules)))

@@ -14,4 +14,4 @@ enter_spec =
     (λ c. search rules)
     (λ c. search rules)
     (λ c. search rules)
-    (λ c. rw c.slot_of.ensures.0))
+    (λ c. rw c.slot_of-slot.ensures.0))

@@ -12,4 +12,4 @@ enter_list_spec =
     (λ c κs. search rules)
     (λ c. search rules)
     (λ c. search rules)
-    (λ c. rw (c.count-slot.ensures.0, c.before.before.enter.ensures)))
+    (λ c. rw (c.count_slot-slot.ensures.0, c.enter.ensures)))

@@ -10,4 +10,4 @@ first_of_spec =
     (λ c κs. search rules)
     (λ c. search rules)
     (λ c. search rules)
-    (λ c. rw c.before.slot_of.ensures.0))
+    (λ c. rw c.slot_of-slot.ensures.0))

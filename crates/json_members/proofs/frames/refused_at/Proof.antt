@@ -11,6 +11,6 @@ refused_at_spec =
     tie.close
     (tie.spec
     (λ c. search rules)
-    (λ c. rw (le-ltb _ _ c.before.before.if1.false, lt-ltb _ _ c.before.if2.true))
-    (λ c. rw (lt-ltb _ _ c.if1.true))
-    (λ c. rw (le-ltb _ _ c.before.if1.false, le-ltb _ _ c.if2.false)))
+    (λ c. rw (le-ltb _ _ c.in-43.if-spot-lt42-own.false, lt-ltb _ _ c.in-43.if-spot-lt44-own.true))
+    (λ c. rw (lt-ltb _ _ c.in_default.if-spot-lt42-own.true))
+    (λ c. rw (le-ltb _ _ c.in_default.if-spot-lt42-own.false, le-ltb _ _ c.in_default.if-spot-lt44-own.false)))

@@ -11,8 +11,8 @@ unfolding slot_of
 slot_of_spec =
     tie.close
     (tie.spec
-    (λ c. (rw c.match.keys1, search rules))
-    (λ c. (rw c.match.keys2, search rules))
-    (λ c. (⊎_elim (λ e. rw e) (⊎_elim (λ e. rw e) (λ e. rw e)) c.match.keys3, search rules))
-    (λ c. (⊎_elim (λ e. rw e) (⊎_elim (λ e. rw e) (λ e. rw e)) c.match.keys4, search rules))
-    (λ c. (rw (ne_eqb _ _ c.match.rest.0.0.0.1, ne_eqb _ _ c.match.rest.0.0.1, ne_eqb _ _ (λ e. c.match.rest.0.1 (inl e)), ne_eqb _ _ (λ e. c.match.rest.0.1 (inr (inl e))), ne_eqb _ _ (λ e. c.match.rest.0.1 (inr (inr e))), ne_eqb _ _ (λ e. c.match.rest.1 (inl e)), ne_eqb _ _ (λ e. c.match.rest.1 (inr (inl e))), ne_eqb _ _ (λ e. c.match.rest.1 (inr (inr e)))), search rules)))
+    (λ c. (rw c.in-1.is, search rules))
+    (λ c. (rw c.in-2.is, search rules))
+    (λ c. (⊎_elim (λ e. rw e) (⊎_elim (λ e. rw e) (λ e. rw e)) c.in-38.is, search rules))
+    (λ c. (⊎_elim (λ e. rw e) (⊎_elim (λ e. rw e) (λ e. rw e)) c.in-39.is, search rules))
+    (λ c. (rw (ne_eqb _ _ c.in_default.in_default-own.rest.0.0.0.1, ne_eqb _ _ c.in_default.in_default-own.rest.0.0.1, ne_eqb _ _ (λ e. c.in_default.in_default-own.rest.0.1 (inl e)), ne_eqb _ _ (λ e. c.in_default.in_default-own.rest.0.1 (inr (inl e))), ne_eqb _ _ (λ e. c.in_default.in_default-own.rest.0.1 (inr (inr e))), ne_eqb _ _ (λ e. c.in_default.in_default-own.rest.1 (inl e)), ne_eqb _ _ (λ e. c.in_default.in_default-own.rest.1 (inr (inl e))), ne_eqb _ _ (λ e. c.in_default.in_default-own.rest.1 (inr (inr e)))), search rules)))

@@ -13,7 +13,7 @@ unfolding is_scalar is_digit
 is_scalar_spec =
     tie.close
     (tie.spec
-    (λ c. rw (ne_eqb _ _ (λ e. c.before.match.rest.1 (inl e)), ne_eqb _ _ (λ e. c.before.match.rest.1 (inr (inl e))), ne_eqb _ _ (λ e. c.before.match.rest.1 (inr (inr (inl e)))), ne_eqb _ _ (λ e. c.before.match.rest.1 (inr (inr (inr (inl e))))), ne_eqb _ _ (λ e. c.before.match.rest.1 (inr (inr (inr (inr e))))), lt-leb _ _ c.if1.true))
-    (λ c. rw (ne_eqb _ _ (λ e. c.before.before.match.rest.1 (inl e)), ne_eqb _ _ (λ e. c.before.before.match.rest.1 (inr (inl e))), ne_eqb _ _ (λ e. c.before.before.match.rest.1 (inr (inr (inl e)))), ne_eqb _ _ (λ e. c.before.before.match.rest.1 (inr (inr (inr (inl e))))), ne_eqb _ _ (λ e. c.before.before.match.rest.1 (inr (inr (inr (inr e))))), le-leb _ _ c.before.if1.false, lt-leb _ _ c.if2.false))
-    (λ c. ⊎_elim (λ e. rw e) (⊎_elim (λ e. rw e) (⊎_elim (λ e. rw e) (⊎_elim (λ e. rw e) (λ e. rw e)))) c.match.keys1)
-    (λ c. let h : c.before.before.before.args.head ≤ 57 = omega arith in rw (ne_eqb _ _ (λ e. c.before.before.match.rest.1 (inl e)), ne_eqb _ _ (λ e. c.before.before.match.rest.1 (inr (inl e))), ne_eqb _ _ (λ e. c.before.before.match.rest.1 (inr (inr (inl e)))), ne_eqb _ _ (λ e. c.before.before.match.rest.1 (inr (inr (inr (inl e))))), ne_eqb _ _ (λ e. c.before.before.match.rest.1 (inr (inr (inr (inr e))))), le-leb _ _ c.before.if1.false, le-leb _ _ h)))
+    (λ c. rw (ne_eqb _ _ (λ e. c.in_default.in_default-own.rest.1 (inl e)), ne_eqb _ _ (λ e. c.in_default.in_default-own.rest.1 (inr (inl e))), ne_eqb _ _ (λ e. c.in_default.in_default-own.rest.1 (inr (inr (inl e)))), ne_eqb _ _ (λ e. c.in_default.in_default-own.rest.1 (inr (inr (inr (inl e))))), ne_eqb _ _ (λ e. c.in_default.in_default-own.rest.1 (inr (inr (inr (inr e))))), lt-leb _ _ c.in_default.if-head-lt48-own.true))
+    (λ c. rw (ne_eqb _ _ (λ e. c.in_default.in_default-own.rest.1 (inl e)), ne_eqb _ _ (λ e. c.in_default.in_default-own.rest.1 (inr (inl e))), ne_eqb _ _ (λ e. c.in_default.in_default-own.rest.1 (inr (inr (inl e)))), ne_eqb _ _ (λ e. c.in_default.in_default-own.rest.1 (inr (inr (inr (inl e))))), ne_eqb _ _ (λ e. c.in_default.in_default-own.rest.1 (inr (inr (inr (inr e))))), le-leb _ _ c.in_default.if-head-lt48-own.false, lt-leb _ _ c.in_default.if-head-lt58-own.false))
+    (λ c. ⊎_elim (λ e. rw e) (⊎_elim (λ e. rw e) (⊎_elim (λ e. rw e) (⊎_elim (λ e. rw e) (λ e. rw e)))) c.in-34.in-34-own.keys1)
+    (λ c. let h : c.args.head ≤ 57 = omega arith in rw (ne_eqb _ _ (λ e. c.in-34.in_default-own.rest.1 (inl e)), ne_eqb _ _ (λ e. c.in-34.in_default-own.rest.1 (inr (inl e))), ne_eqb _ _ (λ e. c.in-34.in_default-own.rest.1 (inr (inr (inl e)))), ne_eqb _ _ (λ e. c.in-34.in_default-own.rest.1 (inr (inr (inr (inl e))))), ne_eqb _ _ (λ e. c.in-34.in_default-own.rest.1 (inr (inr (inr (inr e))))), le-leb _ _ c.in-34.if-head-lt48-own.false, le-leb _ _ h)))

@@ -11,4 +11,4 @@ is_unlisted_spec =
     (λ c κs. search rules)
     (λ c κs. search rules)
     (λ c κs. search rules)
-    (λ c. c.is-foreign.ensures ∙ rw (c.before.row_of.ensures, c.before.before.kind-of.ensures)))
+    (λ c. c.is_foreign.ensures ∙ rw (c.row_of.ensures, c.kind_of.ensures)))

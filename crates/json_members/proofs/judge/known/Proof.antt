@@ -11,5 +11,5 @@ known_spec =
     (λ c. search rules)
     (λ c κs. search rules)
     (λ c κs. search rules)
-    (λ c. rw (sym c.before.before.member_of.ensures, sym c.before.is_seen.ensures ∙ c.if1.true))
-    (λ c. rw (sym c.before.before.member_of.ensures, sym c.before.is_seen.ensures ∙ c.if1.false)))
+    (λ c. rw (sym c.member_of-spot.ensures, sym c.is_seen.ensures ∙ c.if-is_seen.true))
+    (λ c. rw (sym c.member_of-spot.ensures, sym c.is_seen.ensures ∙ c.if-is_seen.false)))

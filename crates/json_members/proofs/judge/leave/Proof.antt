@@ -18,6 +18,6 @@ leave_spec =
     (λ c κs. search rules)
     (λ c κs. search rules)
     (λ c. search rules)
-    (λ c. let a = c.before.before.before.before.before.args.judge.now in
-    let e : c.before.if1.judge ≡ lack_said (within_in a) a = ⊎_elim (λ w. w.5 ∙ (w.4.ensures ∙ rw (sym c.before.before.lacks.ensures ∙ w.0.taken, w.2.ensures))) (λ w. w.1 ∙ rw (sym c.before.before.lacks.ensures ∙ w.0.left)) c.before.if1.branch in
+    (λ c. let a = c.args.judge.now in
+    let e : c.if-lacks.judge ≡ lack_said (within_in a) a = ⊎_elim (λ w. w.judge-is ∙ (w.refuse.ensures ∙ rw (sym c.lacks.ensures ∙ w.if-lacks.true, w.first_of-first.ensures))) (λ w. w.judge-is ∙ rw (sym c.lacks.ensures ∙ w.if-lacks.false)) c.if-lacks.branch-raw in
     rw (c.around.ensures, e)))

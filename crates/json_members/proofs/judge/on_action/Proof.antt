@@ -14,6 +14,6 @@ on_action_spec =
     (tie.spec
     (λ c κs. search rules)
     (λ c κs. search rules)
-    (λ c. c.know.ensures ∙ rw (eq-eqb _ _ c.before.before.before.before.if1.true, ← c.before.before.before.action-kind.ensures, ne_eqb _ _ c.before.before.if2.true))
+    (λ c. c.know.ensures ∙ rw (eq-eqb _ _ c.if-head-eq34.true, ← c.action_kind-kind.ensures, ne_eqb _ _ c.if-kind-ne-NO_KIND.true))
     (λ c κs. search rules)
-    (λ c. c.refuse.ensures ∙ ⊎_elim (λ w. rw (eq-eqb _ _ w.0.taken, ← w.1.ensures, eq-eqb _ _ w.2.left)) (λ w. rw (ne_eqb _ _ w.left)) c.before.before.if1.branch))
+    (λ c. c.refuse.ensures ∙ ⊎_elim (λ w. rw (eq-eqb _ _ w.if-head-eq34.true, ← w.action_kind-kind.ensures, eq-eqb _ _ w.if-kind-ne-NO_KIND.false)) (λ w. rw (ne_eqb _ _ w.if-head-eq34.false)) c.if-head-eq34.branch-raw))

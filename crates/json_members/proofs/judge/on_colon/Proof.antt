@@ -13,5 +13,5 @@ on_colon_spec =
     (tie.spec
     (λ c. search rules)
     (λ c κs. search rules)
-    (λ c. rw (eq-eqb _ _ c.if1.true))
-    (λ c. c.stop.ensures ∙ rw (ne_eqb _ _ c.before.before.if1.false)))
+    (λ c. rw (eq-eqb _ _ c.if-head-eq58.true))
+    (λ c. c.stop.ensures ∙ rw (ne_eqb _ _ c.if-head-eq58.false)))

@@ -12,10 +12,10 @@ on_comma_spec =
     tie.close
     (tie.spec
     (λ c κs. search rules)
-    (λ c. c.stop.ensures ∙ rw (ne_eqb _ _ c.before.before.if1.true))
+    (λ c. c.stop.ensures ∙ rw (ne_eqb _ _ c.if-head-ne44.true))
     (λ c. search rules)
     (λ c κs. search rules)
     (λ c κs. search rules)
-    (λ c. c.stop2.ensures ∙ rw (eq-eqb _ _ c.before.before.before.before.before.if1.false, sym c.before.before.before.is-outside.ensures ∙ c.before.before.if2.true))
+    (λ c. c.stop-then-is_outside.ensures ∙ rw (eq-eqb _ _ c.if-head-ne44.false, sym c.is_outside.ensures ∙ c.if-is_outside.true))
     (λ c κs. search rules)
-    (λ c. c.on-next.ensures ∙ rw (eq-eqb _ _ c.before.before.before.before.before.if1.false, sym c.before.before.before.is-outside.ensures ∙ c.before.before.if2.false)))
+    (λ c. c.on_next.ensures ∙ rw (eq-eqb _ _ c.if-head-ne44.false, sym c.is_outside.ensures ∙ c.if-is_outside.false)))

@@ -13,5 +13,5 @@ on_known_spec =
     (λ c κs. search rules)
     (λ c κs. search rules)
     (λ c κs. search rules)
-    (λ c. c.refuse.ensures ∙ rw (c.before.before.before.before.before.see.ensures, ← c.before.before.before.before.before.see.ensures, sym c.before.before.before.is-unlisted.ensures ∙ c.before.before.if1.true))
-    (λ c. rw (← c.before.before.before.see.ensures, sym c.before.is-unlisted.ensures ∙ c.if1.false)))
+    (λ c. c.refuse.ensures ∙ rw (c.see.ensures, ← c.see.ensures, sym c.is_unlisted.ensures ∙ c.if-is_unlisted.true))
+    (λ c. rw (← c.see.ensures, sym c.is_unlisted.ensures ∙ c.if-is_unlisted.false)))

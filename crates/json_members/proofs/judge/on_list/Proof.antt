@@ -20,5 +20,5 @@ on_list_spec =
     (λ c κs. search rules)
     (λ c. search rules)
     (λ c κs. search rules)
-    (λ c. rw (sym c.before.before.before.before.is_list.ensures ∙ c.before.before.before.if1.true, c.item_of.ensures, c.before.enter-list.ensures, c.before.before.before.before.before.with-list.ensures))
-    (λ c. c.pass-in.ensures ∙ rw (sym c.before.before.before.is_list.ensures ∙ c.before.before.if1.false, c.before.before.before.before.with-list.ensures)))
+    (λ c. rw (sym c.is_list.ensures ∙ c.if-is_list.true, c.item_of.ensures, c.enter_list.ensures, c.with_list.ensures))
+    (λ c. c.pass_in.ensures ∙ rw (sym c.is_list.ensures ∙ c.if-is_list.false, c.with_list.ensures)))

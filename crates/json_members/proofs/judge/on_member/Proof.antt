@@ -16,5 +16,5 @@ on_member_spec =
     (λ c. search rules)
     (λ c κs. search rules)
     (λ c κs. search rules)
-    (λ c. c.refuse.ensures ∙ rw (← c.before.before.before.before.known.ensures, eq-eqb _ _ c.before.before.if1.true, c.before.before.before.value_of_lem.ensures))
-    (λ c. c.on-known.ensures ∙ rw (← c.before.before.before.before.known.ensures, ne_eqb _ _ c.before.before.if1.false, c.before.before.before.value_of_lem.ensures)))
+    (λ c. c.refuse.ensures ∙ rw (← c.known-spot.ensures, eq-eqb _ _ c.if-spot-eq-ANYTHING.true, c.value_of.ensures))
+    (λ c. c.on_known.ensures ∙ rw (← c.known-spot.ensures, ne_eqb _ _ c.if-spot-eq-ANYTHING.false, c.value_of.ensures)))

@@ -12,9 +12,9 @@ on_name_spec =
     tie.close
     (tie.spec
     (λ c κs. search rules)
-    (λ c. c.stop.ensures ∙ rw (ne_eqb _ _ c.before.before.if1.true))
+    (λ c. c.stop.ensures ∙ rw (ne_eqb _ _ c.if-head-ne34.true))
     (λ c. search rules)
     (λ c. search rules)
     (λ c κs. search rules)
-    (λ c. c.on-member.ensures ∙ rw (eq-eqb _ _ c.before.before.before.before.if1.false, eq-eqb _ _ c.before.before.if2.true))
-    (λ c. rw (eq-eqb _ _ c.before.before.if1.false, ne_eqb _ _ c.if2.false)))
+    (λ c. c.on_member.ensures ∙ rw (eq-eqb _ _ c.if-head-ne34.false, eq-eqb _ _ c.if-judge-eq0.true))
+    (λ c. rw (eq-eqb _ _ c.if-head-ne34.false, ne_eqb _ _ c.if-judge-eq0.false)))

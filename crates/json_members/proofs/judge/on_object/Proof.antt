@@ -19,5 +19,5 @@ on_object_spec =
     (λ c κs. search rules)
     (λ c κs. search rules)
     (λ c κs. search rules)
-    (λ c. c.enter.ensures ∙ rw (sym c.before.before.before.before.before.is_object.ensures ∙ c.before.before.before.before.if1.true, c.before.before.«open».ensures, c.before.before.before.before.before.before.with-object.ensures))
-    (λ c. c.pass-in.ensures ∙ rw (sym c.before.before.before.is_object.ensures ∙ c.before.before.if1.false, c.before.before.before.before.with-object.ensures)))
+    (λ c. c.enter.ensures ∙ rw (sym c.is_object.ensures ∙ c.if-is_object.true, c.before.before.«open».ensures, c.with_object.ensures))
+    (λ c. c.pass_in.ensures ∙ rw (sym c.is_object.ensures ∙ c.if-is_object.false, c.with_object.ensures)))

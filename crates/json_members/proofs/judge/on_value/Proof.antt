@@ -14,8 +14,8 @@ on_value_spec =
     (tie.spec
     (λ c κs. search rules)
     (λ c κs. search rules)
-    (λ c. c.on-scalar.ensures ∙ rw (sym c.before.before.before.is-scalar.ensures ∙ c.before.before.if1.true))
+    (λ c. c.on_scalar.ensures ∙ rw (sym c.is_scalar.ensures ∙ c.if-is_scalar.true))
     (λ c κs. search rules)
     (λ c κs. search rules)
-    (λ c. rw (sym c.before.before.before.before.is-scalar.ensures ∙ c.before.before.before.if1.false, c.on-bracket.ensures) (⊎_elim (λ e. rw e) (λ e. rw e) c.before.before.match.keys1))
-    (λ c. rw (sym c.before.before.before.before.is-scalar.ensures ∙ c.before.before.before.if1.false, c.stop.ensures, ne_eqb _ _ (λ e. c.before.before.match.rest.1 (inl e)), ne_eqb _ _ (λ e. c.before.before.match.rest.1 (inr e)))))
+    (λ c. rw (sym c.is_scalar.ensures ∙ c.if-is_scalar.false, c.on_bracket.ensures) (⊎_elim (λ e. rw e) (λ e. rw e) c.in-91.is))
+    (λ c. rw (sym c.is_scalar.ensures ∙ c.if-is_scalar.false, c.stop.ensures, ne_eqb _ _ (λ e. c.in_default.in_default-own.rest.1 (inl e)), ne_eqb _ _ (λ e. c.in_default.in_default-own.rest.1 (inr e)))))

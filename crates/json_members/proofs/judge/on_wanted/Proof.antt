@@ -11,7 +11,7 @@ on_wanted_spec =
     tie.close
     (tie.spec
     (λ c κs. search rules)
-    (λ c. rw (← c.before.fault-of.ensures, eq-eqb _ _ c.if1.true))
+    (λ c. rw (← c.fault_of-fault.ensures, eq-eqb _ _ c.if-fault-eq0.true))
     (λ c κs. search rules)
     (λ c κs. search rules)
-    (λ c. rw (← c.before.before.before.before.before.fault-of.ensures, ne_eqb _ _ c.before.before.before.before.if1.false, c.refuse.ensures, c.before.before.refused-at.ensures)))
+    (λ c. rw (← c.fault_of-fault.ensures, ne_eqb _ _ c.if-fault-eq0.false, c.refuse.ensures, c.refused_at-place.ensures)))

@@ -19,6 +19,6 @@ pass_in_spec =
     (λ c. search rules)
     (λ c κs. search rules)
     (λ c. search rules)
-    (λ c. let a = c.before.before.before.before.args in
-    let e : c.before.before.if1.judge ≡ misplacing a.first a.judge.now = ⊎_elim (λ w. w.5 ∙ (w.4.ensures ∙ rw (ne_eqb _ _ w.0.taken, w.2.ensures))) (λ w. w.1 ∙ rw (eq-eqb _ _ w.0.left)) c.before.before.if1.branch in
-    rw (c.with-one.ensures, e)))
+    (λ c. let a = c.args in
+    let e : c.if-wanted-ne-ANYTHING.judge ≡ misplacing a.first a.judge.now = ⊎_elim (λ w. w.judge-is ∙ (w.refuse.ensures ∙ rw (ne_eqb _ _ w.if-wanted-ne-ANYTHING.true, w.refused_at-place.ensures))) (λ w. w.judge-is ∙ rw (eq-eqb _ _ w.if-wanted-ne-ANYTHING.false)) c.if-wanted-ne-ANYTHING.branch-raw in
+    rw (c.with_one.ensures, e)))

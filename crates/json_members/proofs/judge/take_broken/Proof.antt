@@ -12,9 +12,9 @@ take_broken_spec =
     tie.close
     (tie.spec
     (λ c. search rules)
-    (λ c. rw (eq-eqb _ _ c.if1.true))
+    (λ c. rw (eq-eqb _ _ c.if-expect-eq-STOPPED.true))
     (λ c κs. search rules)
     (λ c κs. search rules)
     (λ c κs. search rules)
-    (λ c. c.stop.ensures ∙ rw (ne_eqb _ _ c.before.before.before.before.if1.false, sym c.before.before.before.may-begin.ensures ∙ c.before.before.if2.true))
-    (λ c. c.stop2.ensures ∙ rw (ne_eqb _ _ c.before.before.before.before.if1.false, sym c.before.before.before.may-begin.ensures ∙ c.before.before.if2.false)))
+    (λ c. c.stop.ensures ∙ rw (ne_eqb _ _ c.if-expect-eq-STOPPED.false, sym c.may_begin.ensures ∙ c.if-may_begin.true))
+    (λ c. c.stop-else-may_begin.ensures ∙ rw (ne_eqb _ _ c.if-expect-eq-STOPPED.false, sym c.may_begin.ensures ∙ c.if-may_begin.false)))

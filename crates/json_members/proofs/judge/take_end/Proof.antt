@@ -13,9 +13,9 @@ take_end_spec =
     tie.close
     (tie.spec
     (λ c. search rules)
-    (λ c. rw (eq-eqb _ _ c.if1.true))
+    (λ c. rw (eq-eqb _ _ c.if-expect-eq-STOPPED.true))
     (λ c. search rules)
     (λ c κs. search rules)
-    (λ c. rw (ne_eqb _ _ c.before.before.before.before.if1.false, eq-eqb _ _ c.before.before.before.if2.true, sym c.before.is-outside.ensures ∙ c.if3.true))
+    (λ c. rw (ne_eqb _ _ c.if-expect-eq-STOPPED.false, eq-eqb _ _ c.if-expect-eq-AFTER.true, sym c.is_outside.ensures ∙ c.if-is_outside.true))
     (λ c κs. search rules)
-    (λ c. c.stop.ensures ∙ rw (ne_eqb _ _ c.before.before.before.if1.false) (⊎_elim (λ w. rw (eq-eqb _ _ w.0.taken, sym w.2.ensures ∙ w.3.left)) (λ w. rw (ne_eqb _ _ w.left)) c.before.before.if2.branch)))
+    (λ c. c.stop.ensures ∙ rw (ne_eqb _ _ c.if-expect-eq-STOPPED.false) (⊎_elim (λ w. rw (eq-eqb _ _ w.if-expect-eq-AFTER.true, sym w.is_outside.ensures ∙ w.if-is_outside.false)) (λ w. rw (ne_eqb _ _ w.if-expect-eq-AFTER.false)) c.if-expect-eq-AFTER.branch-raw)))

@@ -13,36 +13,27 @@ returns c =
     let c4 = c5.before.before in
     let c3 = c4.before.before in
     let c2 = c3.before.before in
-    let c1 = c2.before.before in
     answered _ _ _
-    (ask refl c1.or-kind.ensures
-    (ask refl c2.or-kind2.ensures
-    (ask refl c3.or-kind3.ensures
-    (ask refl c4.or-kind4.ensures
-    (ask refl c5.or-kind5.ensures
-    (ask refl c6.or-kind6.ensures
-    (ask refl c7.or-kind7.ensures
-    (ask refl c.or-kind8.ensures
+    (ask refl c2.or_kind-kind.ensures
+    (ask refl c2.or_kind-kind-2.ensures
+    (ask refl c3.or_kind-kind-3.ensures
+    (ask refl c4.or_kind-kind-4.ensures
+    (ask refl c5.or_kind-kind-5.ensures
+    (ask refl c6.or_kind-kind-6.ensures
+    (ask refl c7.or_kind-kind-7.ensures
+    (ask refl c.or_kind.ensures
     done))))))))
 
 pub later_kind_spec : {M : Type 1} → statement M
 later_kind_spec =
     tie.close
     (tie.spec
-    (λ c. search rules)
     (λ c κs. search rules)
-    (λ c. search rules)
     (λ c κs. search rules)
-    (λ c. search rules)
     (λ c κs. search rules)
-    (λ c. search rules)
     (λ c κs. search rules)
-    (λ c. search rules)
     (λ c κs. search rules)
-    (λ c. search rules)
     (λ c κs. search rules)
-    (λ c. search rules)
     (λ c κs. search rules)
-    (λ c. search rules)
     (λ c κs. search rules)
     returns)

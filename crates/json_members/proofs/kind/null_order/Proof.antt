@@ -8,10 +8,8 @@ pub null_order_spec : {M : Type 1} → statement M
 null_order_spec =
     tie.close
     (tie.spec
-    (λ c. search rules)
     (λ c κs. search rules)
-    (λ c. told _ _ _ (this c.if1.true c.before.is_IsWord.ensures))
-    (λ c. search rules)
+    (λ c. told _ _ _ (this c.if-is_word.true c.is_word.ensures))
     (λ c κs. search rules)
-    (λ c. told _ _ _ (later c.before.before.before.if1.false c.before.before.before.before.is_IsWord.ensures (this c.if2.true c.before.is-word2.ensures)))
-    (λ c. told _ _ _ (later c.before.before.before.if1.false c.before.before.before.before.is_IsWord.ensures (later c.if2.false c.before.is-word2.ensures none))))
+    (λ c. told _ _ _ (later c.if-is_word.false c.is_word.ensures (this c.if-is_word-2.true c.is_word-2.ensures)))
+    (λ c. told _ _ _ (later c.if-is_word.false c.is_word.ensures (later c.if-is_word-2.false c.is_word-2.ensures none))))

@@ -8,7 +8,7 @@ pub or_kind_spec : {M : Type 1} → statement M
 or_kind_spec =
     tie.close
     (tie.spec
-    (λ c. rw (ne_eqb _ 0 c.if1.true))
+    (λ c. rw (ne_eqb _ 0 c.if-found-ne-NO_KIND.true))
     (λ c κs. search rules)
-    (λ c. rw (c.before.before.if1.false, ← c.before.is_IsWord.ensures, c.if2.true))
-    (λ c. rw (c.before.before.if1.false, ← c.before.is_IsWord.ensures, c.if2.false)))
+    (λ c. rw (c.if-found-ne-NO_KIND.false, ← c.is_word.ensures, c.if-is_word.true))
+    (λ c. rw (c.if-found-ne-NO_KIND.false, ← c.is_word.ensures, c.if-is_word.false)))

@@ -16,39 +16,29 @@ returns c =
     let c4 = c5.before.before in
     let c3 = c4.before.before in
     let c2 = c3.before.before in
-    let c1 = c2.before.before in
     answered_first _ _
-    (ask refl c1.or-member.ensures
-    (ask refl c2.or-member2.ensures
-    (ask refl c3.or-member3.ensures
-    (ask refl c4.or-member4.ensures
-    (ask refl c5.or-member5.ensures
-    (ask refl c6.or-member6.ensures
-    (ask refl c7.or-member7.ensures
-    (ask refl c8.or-member8.ensures
-    (ask refl c.or-member9.ensures
+    (ask refl c2.or_member-spot.ensures
+    (ask refl c2.or_member-spot-2.ensures
+    (ask refl c3.or_member-spot-3.ensures
+    (ask refl c4.or_member-spot-4.ensures
+    (ask refl c5.or_member-spot-5.ensures
+    (ask refl c6.or_member-spot-6.ensures
+    (ask refl c7.or_member-spot-7.ensures
+    (ask refl c8.or_member-spot-8.ensures
+    (ask refl c.or_member.ensures
     done)))))))))
 
 pub snapshot_member_spec : {M : Type 1} → statement M
 snapshot_member_spec =
     tie.close
     (tie.spec
-    (λ c. search rules)
     (λ c κs. search rules)
-    (λ c. search rules)
     (λ c κs. search rules)
-    (λ c. search rules)
     (λ c κs. search rules)
-    (λ c. search rules)
     (λ c κs. search rules)
-    (λ c. search rules)
     (λ c κs. search rules)
-    (λ c. search rules)
     (λ c κs. search rules)
-    (λ c. search rules)
     (λ c κs. search rules)
-    (λ c. search rules)
     (λ c κs. search rules)
-    (λ c. search rules)
     (λ c κs. search rules)
     returns)

@@ -13,6 +13,6 @@ closes_spec =
     (tie.spec
     (λ c κs. search rules)
     (λ c κs. search rules)
-    (λ c. c.closes-list.ensures ∙ rw c.before.match.keys1)
-    (λ c. c.closes-object.ensures ∙ rw c.before.match.keys2)
-    (λ c. rw (ne_eqb _ _ c.match.rest.0.1, ne_eqb _ _ c.match.rest.1)))
+    (λ c. c.closes_list.ensures ∙ rw c.in-93.is)
+    (λ c. c.closes_object.ensures ∙ rw c.in-125.is)
+    (λ c. rw (ne_eqb _ _ c.in_default.in_default-own.rest.0.1, ne_eqb _ _ c.in_default.in_default-own.rest.1)))

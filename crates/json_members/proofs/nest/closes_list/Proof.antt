@@ -12,9 +12,9 @@ unfolding closes_list
 closes_list_spec =
     tie.close
     (tie.spec
-    (λ c. rw (eq-eqb _ _ c.if1.true))
-    (λ c. rw (ne_eqb _ _ c.before.if1.false, ne_eqb _ _ c.if2.true))
+    (λ c. rw (eq-eqb _ _ c.if-expect-eq-FIRST_ITEM.true))
+    (λ c. rw (ne_eqb _ _ c.if-expect-eq-FIRST_ITEM.false, ne_eqb _ _ c.if-expect-ne-AFTER.true))
     (λ c κs. search rules)
-    (λ c. rw (ne_eqb _ _ c.before.before.before.if1.false, eq-eqb _ _ c.before.before.if2.false, sym c.before.is-outside.ensures ∙ c.if3.true))
+    (λ c. rw (ne_eqb _ _ c.if-expect-eq-FIRST_ITEM.false, eq-eqb _ _ c.if-expect-ne-AFTER.false, sym c.is_outside.ensures ∙ c.if-is_outside.true))
     (λ c κs. search rules)
-    (λ c. ap not c.is-in-object.ensures ∙ rw (ne_eqb _ _ c.before.before.before.before.if1.false, eq-eqb _ _ c.before.before.before.if2.false, sym c.before.before.is-outside.ensures ∙ c.before.if3.false)))
+    (λ c. ap not c.is_in_object.ensures ∙ rw (ne_eqb _ _ c.if-expect-eq-FIRST_ITEM.false, eq-eqb _ _ c.if-expect-ne-AFTER.false, sym c.is_outside.ensures ∙ c.if-is_outside.false)))

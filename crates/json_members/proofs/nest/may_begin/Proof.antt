@@ -9,6 +9,6 @@ unfolding may_begin
 may_begin_spec =
     tie.close
     (tie.spec
-    (λ c. rw (lt-ltb _ _ c.if1.true))
-    (λ c. rw (le-ltb _ _ c.before.if1.false, lt-ltb _ _ c.if2.true))
-    (λ c. rw (le-ltb _ _ c.before.if1.false, le-ltb _ _ c.if2.false)))
+    (λ c. rw (lt-ltb _ _ c.in-0.is))
+    (λ c. rw (le-ltb _ _ c.in-2.if-expect-lt2-own.false, lt-ltb _ _ c.in-2.if-expect-lt4-own.true))
+    (λ c. rw (le-ltb _ _ c.in_default.if-expect-lt2-own.false, le-ltb _ _ c.in_default.if-expect-lt4-own.false)))

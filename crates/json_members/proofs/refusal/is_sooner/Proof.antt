@@ -11,9 +11,9 @@ is_sooner_spec =
     tie.close
     (tie.spec
     (λ c. search rules)
-    (λ c. rw (eq-eqb _ _ c.if1.true))
+    (λ c. rw (eq-eqb _ _ c.if-judge-eq0.true))
     (λ c. search rules)
     (λ c. search rules)
-    (λ c. rw (ne_eqb _ _ c.before.before.before.if1.false, eq-eqb _ _ c.before.if2.true))
+    (λ c. rw (ne_eqb _ _ c.if-judge-eq0.false, eq-eqb _ _ c.if-judge-place.true))
     (λ c. search rules)
-    (λ c. rw (ne_eqb _ _ c.before.before.before.if1.false, ne_eqb _ _ c.before.if2.false)))
+    (λ c. rw (ne_eqb _ _ c.if-judge-eq0.false, ne_eqb _ _ c.if-judge-place.false)))

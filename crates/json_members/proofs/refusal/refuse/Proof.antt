@@ -13,5 +13,5 @@ refuse_spec =
     (λ c κs. search rules)
     (λ c. search rules)
     (λ c. search rules)
-    (λ c. rw (sym c.before.is-sooner.ensures ∙ c.if1.true))
-    (λ c. rw (sym c.before.is-sooner.ensures ∙ c.if1.false)))
+    (λ c. rw (sym c.is_sooner.ensures ∙ c.if-is_sooner.true))
+    (λ c. rw (sym c.is_sooner.ensures ∙ c.if-is_sooner.false)))

@@ -9,7 +9,7 @@ unfolding is_foreign_at
 is_foreign_spec =
     tie.close
     (tie.spec
-    (λ c. rw (le-ltb _ _ c.if1.true))
-    (λ c. rw (lt-ltb _ _ c.before.if1.false, lt-leb _ _ c.if2.true))
-    (λ c. rw (lt-ltb _ _ c.before.before.before.if1.false, le-leb _ _ c.before.before.if2.false, lt-ltb _ _ c.if3.true))
-    (λ c. rw (lt-ltb _ _ c.before.before.before.before.if1.false, le-leb _ _ c.before.before.before.if2.false, le-ltb _ _ c.before.if3.false)))
+    (λ c. rw (le-ltb _ _ c.if-spot-le-ACTION.true))
+    (λ c. rw (lt-ltb _ _ c.if-spot-le-ACTION.false, lt-leb _ _ c.if-spot-gt-SPEC_IDS.true))
+    (λ c. rw (lt-ltb _ _ c.if-spot-le-ACTION.false, le-leb _ _ c.if-spot-gt-SPEC_IDS.false, lt-ltb _ _ c.if-spot-row.true))
+    (λ c. rw (lt-ltb _ _ c.if-spot-le-ACTION.false, le-leb _ _ c.if-spot-gt-SPEC_IDS.false, le-ltb _ _ c.if-spot-row.false)))

@@ -11,9 +11,9 @@ use Rattle.json_members.proofs.row.row_of.Tie as tie
 abbrev arms : List (List ℕ)
 arms = (1 ∷ []) ∷ (2 ∷ []) ∷ (3 ∷ []) ∷ (4 ∷ []) ∷ (6 ∷ []) ∷ (7 ∷ []) ∷ (8 ∷ []) ∷ (9 ∷ []) ∷ (10 ∷ []) ∷ (11 ∷ []) ∷ (12 ∷ []) ∷ (13 ∷ []) ∷ (18 ∷ []) ∷ (19 ∷ []) ∷ (20 ∷ []) ∷ []
 
-returns_16 : tie.Need-returns-16
+returns_16 : tie.Need-returns-in_default
 unfolding span_of
-returns_16 c = sym (beside_other (span 3 0 23) spans arms c.before.args.kind refl (no_arm arms c.before.args.kind c.match.rest))
+returns_16 c = sym (beside_other (span 3 0 23) spans arms c.args.kind refl (no_arm arms c.args.kind c.in_default.in_default-own.rest))
 
 pub row_of_spec : {M : Type 1} → statement M
 unfolding span_of
@@ -33,19 +33,19 @@ row_of_spec =
     (λ c κs. search rules)
     (λ c κs. search rules)
     (λ c κs. search rules)
-    (λ c. rw c.before.match.keys1 c.alone.ensures)
-    (λ c. rw c.before.match.keys2 c.alone2.ensures)
-    (λ c. rw c.before.match.keys3 c.alone3.ensures)
-    (λ c. rw c.before.match.keys4 c.alone4.ensures)
-    (λ c. rw c.before.match.keys5 c.alone5.ensures)
-    (λ c. rw c.match.keys6)
-    (λ c. rw c.before.match.keys7 c.alone6.ensures)
-    (λ c. rw c.match.keys8)
-    (λ c. rw c.before.match.keys9 c.alone7.ensures)
-    (λ c. rw c.before.match.keys10 c.alone8.ensures)
-    (λ c. rw c.before.match.keys11 c.alone9.ensures)
-    (λ c. rw c.before.match.keys12 c.alone10.ensures)
-    (λ c. rw c.before.match.keys13 c.alone11.ensures)
-    (λ c. rw c.before.match.keys14 c.alone12.ensures)
-    (λ c. rw c.before.match.keys15 c.alone13.ensures)
+    (λ c. rw c.in-1.is c.alone.ensures)
+    (λ c. rw c.in-2.is c.alone-in-2.ensures)
+    (λ c. rw c.in-3.is c.alone-in-3.ensures)
+    (λ c. rw c.in-4.is c.alone-in-4.ensures)
+    (λ c. rw c.in-6.is c.alone-in-6.ensures)
+    (λ c. rw c.in-7.is)
+    (λ c. rw c.in-8.is c.alone-in-8.ensures)
+    (λ c. rw c.in-9.is)
+    (λ c. rw c.in-10.is c.alone-in-10.ensures)
+    (λ c. rw c.in-11.is c.alone-in-11.ensures)
+    (λ c. rw c.in-12.is c.alone-in-12.ensures)
+    (λ c. rw c.in-13.is c.alone-in-13.ensures)
+    (λ c. rw c.in-18.is c.alone-in-18.ensures)
+    (λ c. rw c.in-19.is c.alone-in-19.ensures)
+    (λ c. rw c.in-20.is c.alone-in-20.ensures)
     returns_16)

@@ -9,31 +9,27 @@ use Rattle.json_members.specs.Marks.{lacks_any}
 use Rattle.json_members.proofs.seen.lacks_any.Statement.{statement}
 use Rattle.json_members.proofs.seen.lacks_any.Tie as tie
 
-abbrev invariant_loop : tie.invariant_loop
+abbrev invariant_loop : tie.invariant-loop-spot
 invariant_loop judge from to spot₀ spot = lacks_any from to judge ≡ lacks_any spot to judge
 
-abbrev decreases_loop : tie.decreases_loop
+abbrev decreases_loop : tie.decreases-loop-spot
 decreases_loop judge from to spot₀ spot = suc to - spot
 
-returns : tie.Need-returns invariant_loop decreases_loop
+returns : tie.Need-returns-then-not-is_seen invariant_loop decreases_loop
 returns c =
-    let l = c.before.before.before in
-    sym (l.loop.invariant ∙ lacks_here l.before.args.to l.loop.spot l.before.args.judge.now c.before.before.loop-test.true (sym c.before.is_seen.ensures ∙ not-true _ c.if1.true))
+    sym (c.loop-spot.invariant ∙ lacks_here c.args.to c.loop-spot.spot c.args.judge.now c.loop-spot-test.true (sym c.is_seen.ensures ∙ not-true _ c.if-not-is_seen.true-raw))
 
-add_spot : tie.Need-overflow-add-spot invariant_loop decreases_loop
+add_spot : tie.Need-overflow_add-spot invariant_loop decreases_loop
 add_spot c =
-    let l = c.before.before.before in
-    omega (arith, seen_below l.before.args.judge.now l.loop.spot (sym c.before.is_seen.ensures ∙ not-false _ c.if1.false))
+    omega (arith, seen_below c.args.judge.now c.loop-spot.spot (sym c.is_seen.ensures ∙ not-false _ c.if-not-is_seen.false-raw))
 
-loop_again : tie.Need-loop-preserved invariant_loop decreases_loop
+loop_again : tie.Need-loop-spot-preserved invariant_loop decreases_loop
 loop_again c =
-    let l = c.before.before.before in
-    l.loop.invariant ∙ lacks_further l.before.args.to l.loop.spot l.before.args.judge.now c.before.before.loop-test.true (sym c.before.is_seen.ensures ∙ not-false _ c.if1.false)
+    c.loop-spot.invariant ∙ lacks_further c.args.to c.loop-spot.spot c.args.judge.now c.loop-spot-test.true (sym c.is_seen.ensures ∙ not-false _ c.if-not-is_seen.false-raw)
 
-returns_2 : tie.Need-returns-2 invariant_loop decreases_loop
+returns_2 : tie.Need-returns invariant_loop decreases_loop
 returns_2 c =
-    let l = c.before in
-    sym (l.loop.invariant ∙ lacks_none l.before.args.to l.loop.spot l.before.args.judge.now c.loop-test.false)
+    sym (c.loop-spot.invariant ∙ lacks_none c.args.to c.loop-spot.spot c.args.judge.now c.loop-spot-test.false)
 
 pub lacks_any_spec : {M : Type 1} → statement M
 lacks_any_spec =

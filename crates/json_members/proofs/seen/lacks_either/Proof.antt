@@ -11,6 +11,6 @@ lacks_either_spec =
     tie.close
     (tie.spec
     (λ c κs. search rules)
-    (λ c. rw (sym c.before.is_seen.ensures ∙ not-true _ c.if1.true))
+    (λ c. rw (sym c.is_seen.ensures ∙ not-true _ c.if-not-is_seen.true-raw))
     (λ c κs. search rules)
-    (λ c. rw (sym c.before.before.is_seen.ensures ∙ not-false _ c.before.if1.false) (ap not c.is-seen2.ensures)))
+    (λ c. rw (sym c.is_seen.ensures ∙ not-false _ c.if-not-is_seen.false-raw) (ap not c.is_seen-2.ensures)))

@@ -10,6 +10,6 @@ partition_field_lacks_spec =
     tie.close
     (tie.spec
     (λ c κs. search rules)
-    (λ c. rw (sym c.before.is_seen.ensures ∙ not-true _ c.if1.true))
+    (λ c. rw (sym c.is_seen.ensures ∙ not-true _ c.if-not-is_seen.true-raw))
     (λ c κs. search rules)
-    (λ c. rw (sym c.before.before.is_seen.ensures ∙ not-false _ c.before.if1.false) c.lacks-either.ensures))
+    (λ c. rw (sym c.is_seen.ensures ∙ not-false _ c.if-not-is_seen.false-raw) c.lacks_either.ensures))

@@ -10,9 +10,9 @@ snapshot_lacks_spec =
     tie.close
     (tie.spec
     (λ c κs. search rules)
-    (λ c. rw (sym c.before.is_seen.ensures ∙ not-true _ c.if1.true))
+    (λ c. rw (sym c.is_seen.ensures ∙ not-true _ c.if-not-is_seen.true-raw))
     (λ c κs. search rules)
-    (λ c. rw (sym c.before.before.before.is_seen.ensures ∙ not-false _ c.before.before.if1.false, sym c.before.is-seen2.ensures ∙ not-true _ c.if2.true))
+    (λ c. rw (sym c.is_seen.ensures ∙ not-false _ c.if-not-is_seen.false-raw, sym c.is_seen-2.ensures ∙ not-true _ c.if-not-is_seen-2.true-raw))
     (λ c κs. search rules)
     (λ c κs. search rules)
-    (λ c. rw (sym c.before.before.before.before.before.is_seen.ensures ∙ not-false _ c.before.before.before.before.if1.false, sym c.before.before.before.is-seen2.ensures ∙ not-false _ c.before.before.if2.false, c.before.is-seen3.ensures, c.is-seen4.ensures)))
+    (λ c. rw (sym c.is_seen.ensures ∙ not-false _ c.if-not-is_seen.false-raw, sym c.is_seen-2.ensures ∙ not-false _ c.if-not-is_seen-2.false-raw, c.is_seen-3.ensures, c.is_seen-4.ensures)))

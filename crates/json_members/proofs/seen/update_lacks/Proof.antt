@@ -10,8 +10,8 @@ update_lacks_spec =
     tie.close
     (tie.spec
     (λ c κs. search rules)
-    (λ c. rw (sym c.before.is_seen.ensures ∙ not-true _ c.if1.true))
+    (λ c. rw (sym c.is_seen.ensures ∙ not-true _ c.if-not-is_seen.true-raw))
     (λ c κs. search rules)
     (λ c κs. search rules)
     (λ c κs. search rules)
-    (λ c. rw (sym c.before.before.before.before.is_seen.ensures ∙ not-false _ c.before.before.before.if1.false, ← c.before.before.kind-of.ensures, ← c.before.row_of.ensures) c.lacks-any.ensures))
+    (λ c. rw (sym c.is_seen.ensures ∙ not-false _ c.if-not-is_seen.false-raw, ← c.kind_of.ensures, ← c.row_of-row.ensures) c.lacks_any.ensures))

@@ -14,17 +14,17 @@ use Rattle.json_members.proofs.spot.is_object.Tie as tie
 abbrev arms : List (List ℕ)
 arms = (2 ∷ 7 ∷ 15 ∷ 19 ∷ 21 ∷ []) ∷ (39 ∷ 46 ∷ 53 ∷ []) ∷ []
 
-returns_3 : tie.Need-returns-3
+returns_3 : tie.Need-returns-in_default
 unfolding row_at
 returns_3 c =
-    let spot = c.before.args.spot in
-    sym (only_spots (λ s. is_some (kind_of s)) arms spot refl refl (no_arm arms spot c.match.rest))
+    let spot = c.args.spot in
+    sym (only_spots (λ s. is_some (kind_of s)) arms spot refl refl (no_arm arms spot c.in_default.in_default-own.rest))
 
 pub is_object_spec : {M : Type 1} → statement M
 unfolding row_at
 is_object_spec =
     tie.close
     (tie.spec
-    (λ c. at_keys (λ s. is_some (kind_of (shape_at s))) true (2 ∷ 7 ∷ 15 ∷ 19 ∷ 21 ∷ []) _ c.match.keys1 (refl & refl & refl & refl & refl & done))
-    (λ c. at_keys (λ s. is_some (kind_of (shape_at s))) true (39 ∷ 46 ∷ 53 ∷ []) _ c.match.keys2 (refl & refl & refl & done))
+    (λ c. at_keys (λ s. is_some (kind_of (shape_at s))) true (2 ∷ 7 ∷ 15 ∷ 19 ∷ 21 ∷ []) _ c.in-2.is (refl & refl & refl & refl & refl & done))
+    (λ c. at_keys (λ s. is_some (kind_of (shape_at s))) true (39 ∷ 46 ∷ 53 ∷ []) _ c.in-39.is (refl & refl & refl & done))
     returns_3)

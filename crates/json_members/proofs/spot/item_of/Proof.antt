@@ -10,21 +10,21 @@ use Rattle.json_members.proofs.spot.item_of.Tie as tie
 abbrev arms : List (List ℕ)
 arms = (1 ∷ []) ∷ (8 ∷ []) ∷ (18 ∷ []) ∷ (23 ∷ []) ∷ (38 ∷ []) ∷ (45 ∷ []) ∷ (52 ∷ []) ∷ []
 
-returns_8 : tie.Need-returns-8
+returns_8 : tie.Need-returns-in_default
 unfolding item_at
 returns_8 c =
-    sym (beside_other 0 items arms c.before.args.spot refl (no_arm arms c.before.args.spot c.match.rest))
+    sym (beside_other 0 items arms c.args.spot refl (no_arm arms c.args.spot c.in_default.in_default-own.rest))
 
 pub item_of_spec : {M : Type 1} → statement M
 unfolding item_at
 item_of_spec =
     tie.close
     (tie.spec
-    (λ c. rw c.match.keys1)
-    (λ c. rw c.match.keys2)
-    (λ c. rw c.match.keys3)
-    (λ c. rw c.match.keys4)
-    (λ c. rw c.match.keys5)
-    (λ c. rw c.match.keys6)
-    (λ c. rw c.match.keys7)
+    (λ c. rw c.in-1.is)
+    (λ c. rw c.in-8.is)
+    (λ c. rw c.in-18.is)
+    (λ c. rw c.in-23.is)
+    (λ c. rw c.in-38.is)
+    (λ c. rw c.in-45.is)
+    (λ c. rw c.in-52.is)
     returns_8)

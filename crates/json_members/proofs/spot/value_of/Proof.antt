@@ -13,7 +13,7 @@ unfolding row_at value_at
 value_of_spec =
     tie.close
     (tie.spec
-    (λ c. rw c.match.keys1)
-    (λ c. rw c.match.keys2)
-    (λ c. rw c.match.keys3)
-    (λ c. value_here c.before.args.member (no_arm ((33 ∷ []) ∷ (34 ∷ []) ∷ (35 ∷ []) ∷ []) c.before.args.member c.match.rest)))
+    (λ c. rw c.in-33.is)
+    (λ c. rw c.in-34.is)
+    (λ c. rw c.in-35.is)
+    (λ c. value_here c.args.member (no_arm ((33 ∷ []) ∷ (34 ∷ []) ∷ (35 ∷ []) ∷ []) c.args.member c.in_default.in_default-own.rest)))

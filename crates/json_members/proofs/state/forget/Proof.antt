@@ -8,26 +8,23 @@ use Rattle.json_members.specs.Slots.{forgetting}
 use Rattle.json_members.proofs.state.forget.Statement.{statement}
 use Rattle.json_members.proofs.state.forget.Tie as tie
 
-abbrev invariant_loop : tie.invariant_loop
+abbrev invariant_loop : tie.invariant-loop-spot
 invariant_loop judge₀ from to spot₀ judge spot = forgetting from to judge₀ ≡ forgetting spot to judge
 
-abbrev decreases_loop : tie.decreases_loop
+abbrev decreases_loop : tie.decreases-loop-spot
 decreases_loop judge₀ from to spot₀ judge spot = suc to - spot
 
-loop_again : tie.Need-loop-preserved invariant_loop decreases_loop
+loop_again : tie.Need-loop-spot-preserved invariant_loop decreases_loop
 loop_again c =
-    let l = c.before.before in
-    l.loop.invariant ∙ forget_more l.before.args.to l.loop.spot l.loop.judge c.before.loop-test.true (ltb-true _ _ c.if1.true)
+    c.loop-spot.invariant ∙ forget_more c.args.to c.loop-spot.spot c.loop-spot.judge c.loop-spot-test.true (ltb-true _ _ c.if-spot-lt-SPOTS.true-raw)
 
-returns : tie.Need-returns invariant_loop decreases_loop
+returns : tie.Need-returns-else-spot-lt-SPOTS invariant_loop decreases_loop
 returns c =
-    let l = c.before.before in
-    sym (l.loop.invariant ∙ forget_past l.before.args.to l.loop.spot l.loop.judge (ltb-false _ _ c.if1.false))
+    sym (c.loop-spot.invariant ∙ forget_past c.args.to c.loop-spot.spot c.loop-spot.judge (ltb-false _ _ c.if-spot-lt-SPOTS.false-raw))
 
-returns_2 : tie.Need-returns-2 invariant_loop decreases_loop
+returns_2 : tie.Need-returns-after-loop-spot invariant_loop decreases_loop
 returns_2 c =
-    let l = c.before in
-    sym (l.loop.invariant ∙ forget_done l.before.args.to l.loop.spot l.loop.judge c.loop-test.false)
+    sym (c.loop-spot.invariant ∙ forget_done c.args.to c.loop-spot.spot c.loop-spot.judge c.loop-spot-test.false)
 
 pub forget_spec : {M : Type 1} → statement M
 forget_spec =

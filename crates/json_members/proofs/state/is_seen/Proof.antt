@@ -13,5 +13,5 @@ is_seen_spec =
     (λ c. search rules)
     (λ c. search rules)
     (λ c. search rules)
-    (λ c. rw (lt-ltb _ _ c.before.if1.true))
-    (λ c. rw (le-ltb _ _ c.if1.false)))
+    (λ c. rw (lt-ltb _ _ c.if-spot-lt-SPOTS.true))
+    (λ c. rw (le-ltb _ _ c.if-spot-lt-SPOTS.false)))

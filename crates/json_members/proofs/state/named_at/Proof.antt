@@ -13,5 +13,5 @@ named_at_spec =
     (λ c. search rules)
     (λ c. search rules)
     (λ c. search rules)
-    (λ c. rw (le-leb _ _ c.before.if1.true))
-    (λ c. rw (lt-leb _ _ c.if1.false)))
+    (λ c. rw (le-leb _ _ c.if-spot-le-SPEC_IDS.true))
+    (λ c. rw (lt-leb _ _ c.if-spot-le-SPEC_IDS.false)))

@@ -17,5 +17,5 @@ see_spec =
     (λ c. search rules)
     (λ c. search rules)
     (λ c. search rules)
-    (λ c. rw (le-leb _ _ c.if2.true) (⊎_elim (λ w. rw (lt-ltb _ _ w.0.taken, w.1)) (λ w. rw (le-ltb _ _ w.0.left, w.1)) c.before.if1.branch))
-    (λ c. rw (lt-leb _ _ c.if2.false) (⊎_elim (λ w. rw (lt-ltb _ _ w.0.taken, w.1)) (λ w. rw (le-ltb _ _ w.0.left, w.1)) c.before.if1.branch)))
+    (λ c. rw (le-leb _ _ c.if-spot-le-SPEC_IDS.true) (⊎_elim (λ w. rw (lt-ltb _ _ w.if-spot-lt-SPOTS.true, w.judge-is)) (λ w. rw (le-ltb _ _ w.if-spot-lt-SPOTS.false, w.judge-is)) c.if-spot-lt-SPOTS.branch-raw))
+    (λ c. rw (lt-leb _ _ c.if-spot-le-SPEC_IDS.false) (⊎_elim (λ w. rw (lt-ltb _ _ w.if-spot-lt-SPOTS.true, w.judge-is)) (λ w. rw (le-ltb _ _ w.if-spot-lt-SPOTS.false, w.judge-is)) c.if-spot-lt-SPOTS.branch-raw)))

@@ -16,5 +16,5 @@ is_right_at_spec =
     tie.close
     (tie.spec
     (λ c κs. search rules)
-    (λ c. at_keys (λ i. is_right_at i c.before.args.byte) (eqb c.before.args.byte hyphen) hyphens c.before.args.i c.match.keys1 (refl & refl & refl & refl & done))
-    (λ c. rw c.hex-of.ensures (digit_right c.before.before.args.i c.before.before.args.byte (no_arm (hyphens ∷ []) c.before.before.args.i c.before.match.rest))))
+    (λ c. at_keys (λ i. is_right_at i c.args.byte) (eqb c.args.byte hyphen) hyphens c.args.i c.in-8.is (refl & refl & refl & refl & done))
+    (λ c. rw c.hex_of.ensures (digit_right c.args.i c.args.byte (no_arm (hyphens ∷ []) c.args.i c.in_default.in_default-own.rest))))

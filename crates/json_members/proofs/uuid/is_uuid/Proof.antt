@@ -13,45 +13,43 @@ use Rattle.json_members.proofs.Uuids.{form, follows, uuid_follows, uuid_length, 
 use Rattle.json_members.proofs.uuid.is_uuid.Statement.{statement}
 use Rattle.json_members.proofs.uuid.is_uuid.Tie as tie
 
-abbrev invariant_loop : tie.invariant_loop
+abbrev invariant_loop : tie.invariant-loop-i
 invariant_loop kept len i₀ i = (i ≤ 36) × (is_uuid (front len kept) ≡ follows (drop i form) (drop i (front 36 kept)))
 
-abbrev decreases_loop : tie.decreases_loop
+abbrev decreases_loop : tie.decreases-loop-i
 decreases_loop kept len i₀ i = 36 - i
 
-returns : tie.Need-returns invariant_loop decreases_loop
+returns : tie.Need-returns-then-len-ne-LENGTH invariant_loop decreases_loop
 returns c =
-    let a = c.before.args in
-    sym (uuid_length (front a.len a.kept.now) (λ e. c.if1.true (sym (front_length a.len a.kept.now) ∙ e)))
+    let a = c.args in
+    sym (uuid_length (front a.len a.kept.now) (λ e. c.if-len-ne-LENGTH.true (sym (front_length a.len a.kept.now) ∙ e)))
 
-loop_holds : tie.Need-loop-init invariant_loop decreases_loop
-loop_holds c = (search rules, ap (λ n. is_uuid (front n c.before.args.kept.now)) c.if1.false ∙ uuid_follows (front 36 c.before.args.kept.now))
+loop_holds : tie.Need-loop-i-init invariant_loop decreases_loop
+loop_holds c = (search rules, ap (λ n. is_uuid (front n c.args.kept.now)) c.if-len-ne-LENGTH.false ∙ uuid_follows (front 36 c.args.kept.now))
 
-returns_2 : tie.Need-returns-2 invariant_loop decreases_loop
+returns_2 : tie.Need-returns-then-not-is_right_at invariant_loop decreases_loop
 returns_2 c =
-    let l = c.before.before.before.before in
-    let kept = l.before.before.args.kept.now in
-    let i = l.loop.i in
-    let h = c.before.before.before.loop-test.true in
+    let kept = c.args.kept.now in
+    let i = c.loop-i.i in
+    let h = c.loop-i-test.true in
     sym
-    (l.loop.invariant.1
-    ∙ follow_not (front 36 kept) i (front_length 36 kept) h (ap (is_right_at i) (front_at 36 kept i h) ∙ sym c.before.is-right-at.ensures ∙ not-true _ c.if2.true))
+    (c.loop-i.invariant.1
+    ∙ follow_not (front 36 kept) i (front_length 36 kept) h (ap (is_right_at i) (front_at 36 kept i h) ∙ sym c.is_right_at.ensures ∙ not-true _ c.if-not-is_right_at.true-raw))
 
-loop_again : tie.Need-loop-preserved invariant_loop decreases_loop
+loop_again : tie.Need-loop-i-preserved invariant_loop decreases_loop
 loop_again c =
-    let l = c.before.before.before.before in
-    let kept = l.before.before.args.kept.now in
-    let i = l.loop.i in
-    let h = c.before.before.before.loop-test.true in (
+    let kept = c.args.kept.now in
+    let i = c.loop-i.i in
+    let h = c.loop-i-test.true in (
       search rules,
-      l.loop.invariant.1
-          ∙ follow_on (front 36 kept) i (front_length 36 kept) h (ap (is_right_at i) (front_at 36 kept i h) ∙ sym c.before.is-right-at.ensures ∙ not-false _ c.if2.false),
+      c.loop-i.invariant.1
+          ∙ follow_on (front 36 kept) i (front_length 36 kept) h (ap (is_right_at i) (front_at 36 kept i h) ∙ sym c.is_right_at.ensures ∙ not-false _ c.if-not-is_right_at.false-raw),
     )
 
-returns_3 : tie.Need-returns-3 invariant_loop decreases_loop
+returns_3 : tie.Need-returns invariant_loop decreases_loop
 returns_3 c =
-    let kept = c.before.before.before.args.kept.now in
-    sym (c.before.loop.invariant.1 ∙ follow_end (front 36 kept) c.before.loop.i (front_length 36 kept) c.loop-test.false)
+    let kept = c.args.kept.now in
+    sym (c.loop-i.invariant.1 ∙ follow_end (front 36 kept) c.loop-i.i (front_length 36 kept) c.loop-i-test.false)
 
 pub is_uuid_spec : {M : Type 1} → statement M
 is_uuid_spec =

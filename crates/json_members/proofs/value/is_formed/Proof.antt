@@ -18,13 +18,13 @@ use Rattle.json_members.proofs.value.is_formed.Tie as tie
 abbrev arms : List (List ℕ)
 arms = (4 ∷ []) ∷ (10 ∷ []) ∷ (36 ∷ []) ∷ (43 ∷ []) ∷ (47 ∷ []) ∷ (49 ∷ []) ∷ (50 ∷ []) ∷ (57 ∷ []) ∷ []
 
-returns_9 : tie.Need-returns-9
+returns_9 : tie.Need-returns-in_default
 unfolding row_at
 returns_9 c =
-    let spot = c.before.args.spot in
+    let spot = c.args.spot in
     cases (eqb spot 3)
     (λ e. rw e)
-    (λ n. rw n (sym (not_formed_lem (shape_at spot) _ (only_spots may_form ((3 ∷ []) ∷ arms) spot refl refl (rw n (no_arm arms spot c.match.rest))))))
+    (λ n. rw n (sym (not_formed_lem (shape_at spot) _ (only_spots may_form ((3 ∷ []) ∷ arms) spot refl refl (rw n (no_arm arms spot c.in_default.in_default-own.rest))))))
 
 pub is_formed_spec : {M : Type 1} → statement M
 unfolding row_at
@@ -33,20 +33,18 @@ is_formed_spec =
     (tie.spec
     (λ c κs. search rules)
     (λ c κs. search rules)
-    (λ c. search rules)
-    (λ c κs. search rules)
-    (λ c κs. search rules)
-    (λ c. search rules)
     (λ c κs. search rules)
     (λ c κs. search rules)
     (λ c κs. search rules)
     (λ c κs. search rules)
-    (λ c. rw c.before.match.keys1 c.is-uuid.ensures)
-    (λ c. rw (c.before.match.keys2, c.ref-kind.ensures) (number_told 0 ref_words _ refl))
-    (λ c. rw (c.before.before.match.keys3, c.is_IsWord.ensures) (sym (or_none _)))
-    (λ c. rw (c.before.match.keys4, c.field-type.ensures) (number_told 0 type_words _ refl))
-    (λ c. rw (c.before.before.match.keys5, c.is-word2.ensures) (sym (or_none _)))
-    (λ c. rw (c.before.match.keys6, c.direction.ensures) (number_told 2 direction_words _ refl))
-    (λ c. rw (c.before.match.keys7, c.null_order.ensures) (number_told 2 null_words _ refl))
-    (λ c. rw (c.before.before.match.keys8, c.before.transform-of.ensures) (transform_told _))
+    (λ c κs. search rules)
+    (λ c κs. search rules)
+    (λ c. rw c.in-4.is c.is_uuid.ensures)
+    (λ c. rw (c.in-10.is, c.ref_kind.ensures) (number_told 0 ref_words _ refl))
+    (λ c. rw (c.in-36.is, c.is_word.ensures) (sym (or_none _)))
+    (λ c. rw (c.in-43.is, c.field_type.ensures) (number_told 0 type_words _ refl))
+    (λ c. rw (c.in-47.is, c.is_word-in-47.ensures) (sym (or_none _)))
+    (λ c. rw (c.in-49.is, c.direction.ensures) (number_told 2 direction_words _ refl))
+    (λ c. rw (c.in-50.is, c.null_order.ensures) (number_told 2 null_words _ refl))
+    (λ c. rw (c.in-57.is, c.transform_of-t.ensures) (transform_told _))
     returns_9)

@@ -8,8 +8,8 @@ pub number_fault_spec : {M : Type 1} → statement M
 number_fault_spec =
     tie.close
     (tie.spec
-    (λ c. rw (not-true c.before.args.integer c.if1.true))
+    (λ c. rw (not-true c.args.integer c.if-not-integer.true-raw))
     (λ c κs. search rules)
     (λ c κs. search rules)
     (λ c κs. search rules)
-    (λ c. rw (not-false c.before.before.before.before.args.integer c.before.before.before.if1.false, ← c.before.before.width_of_lem.ensures, ← c.before.has.ensures) c.unless.ensures))
+    (λ c. rw (not-false c.args.integer c.if-not-integer.false-raw, ← c.width_of.ensures, ← c.has.ensures) c.unless.ensures))

@@ -14,33 +14,32 @@ use Rattle.json_members.proofs.Faults.{formed_else}
 use Rattle.json_members.proofs.value.text_fault.Statement.{statement}
 use Rattle.json_members.proofs.value.text_fault.Tie as tie
 
-returns_2 : tie.Need-returns-2
+returns_2 : tie.Need-returns-in-6
 unfolding form_fault_at
-returns_2 c = rw (ne_eqb _ _ c.before.before.if1.false, c.before.match.keys1) c.length-fault.ensures
+returns_2 c = rw (ne_eqb _ _ c.if-len-eq-LONE.false, c.in-6.is) c.length_fault.ensures
 
-returns_3 : tie.Need-returns-3
+returns_3 : tie.Need-returns-in-9
 unfolding form_fault_at
 returns_3 c =
-    let s = c.before.before.before.args in
-    rw (ne_eqb _ _ c.before.before.if1.false)
-    (c.length-fault2.ensures
-    ∙ at_keys (λ x. form_fault_at x s.kept.now s.len) (cond (leb s.len 32) 0 over_capacity) (9 ∷ 41 ∷ 56 ∷ []) s.spot c.before.match.keys2 (refl & refl & refl & done))
+    let s = c.args in
+    rw (ne_eqb _ _ c.if-len-eq-LONE.false)
+    (c.length_fault-in-9.ensures
+    ∙ at_keys (λ x. form_fault_at x s.kept.now s.len) (cond (leb s.len 32) 0 over_capacity) (9 ∷ 41 ∷ 56 ∷ []) s.spot c.in-9.is (refl & refl & refl & done))
 
-returns_4 : tie.Need-returns-4
+returns_4 : tie.Need-returns-in_default
 returns_4 c =
-    let e = c.before.before.before in
-    let s = e.before.args in
-    let none = no_arm ((6 ∷ []) ∷ (9 ∷ 41 ∷ 56 ∷ []) ∷ []) s.spot c.before.before.match.rest in
-    rw (ne_eqb _ _ e.if1.false)
+    let s = c.args in
+    let none = no_arm ((6 ∷ []) ∷ (9 ∷ 41 ∷ 56 ∷ []) ∷ []) s.spot c.in_default.in_default-own.rest in
+    rw (ne_eqb _ _ c.if-len-eq-LONE.false)
     (c.unless.ensures
-    ∙ ap (λ (b : Bool). cond b 0 not_published) c.before.is-formed.ensures
+    ∙ ap (λ (b : Bool). cond b 0 not_published) c.is_formed.ensures
     ∙ formed_else s.spot s.kept.now s.len none)
 
 pub text_fault_spec : {M : Type 1} → statement M
 text_fault_spec =
     tie.close
     (tie.spec
-    (λ c. rw (eq-eqb _ _ c.if1.true))
+    (λ c. rw (eq-eqb _ _ c.if-len-eq-LONE.true))
     (λ c κs. search rules)
     (λ c κs. search rules)
     (λ c κs. search rules)

@@ -11,39 +11,37 @@ use Rattle.json_members.proofs.Fronts.{front_length, front_at}
 use Rattle.json_members.proofs.word.begins_with.Statement.{statement}
 use Rattle.json_members.proofs.word.begins_with.Tie as tie
 
-abbrev invariant_loop : tie.invariant_loop
+abbrev invariant_loop : tie.invariant-loop-i
 invariant_loop kept word i₀ i = (i ≤ length word) × (same_bytes (front (length word) kept) word ≡ same_bytes (drop i (front (length word) kept)) (drop i word))
 
-abbrev decreases_loop : tie.decreases_loop
+abbrev decreases_loop : tie.decreases-loop-i
 decreases_loop kept word i₀ i = length word - i
 
-returns : tie.Need-returns invariant_loop decreases_loop
+returns : tie.Need-returns-then-kept-i invariant_loop decreases_loop
 returns c =
-    let l = c.before.before.before.before in
-    let kept = l.before.args.kept.now in
-    let word = l.before.args.word.now in
-    let i = l.loop.i in
+    let kept = c.args.kept.now in
+    let word = c.args.word.now in
+    let i = c.loop-i.i in
     sym
-    (l.loop.invariant.1
-    ∙ same_not (front (length word) kept) word i (omega (arith, front_length (length word) kept)) (omega arith) (λ e. c.if1.true (sym (front_at (length word) kept i (omega arith)) ∙ e)))
+    (c.loop-i.invariant.1
+    ∙ same_not (front (length word) kept) word i (omega (arith, front_length (length word) kept)) (omega arith) (λ e. c.if-kept-i.true (sym (front_at (length word) kept i (omega arith)) ∙ e)))
 
-loop_again : tie.Need-loop-preserved invariant_loop decreases_loop
+loop_again : tie.Need-loop-i-preserved invariant_loop decreases_loop
 loop_again c =
-    let l = c.before.before.before.before in
-    let kept = l.before.args.kept.now in
-    let word = l.before.args.word.now in
-    let i = l.loop.i in (
+    let kept = c.args.kept.now in
+    let word = c.args.word.now in
+    let i = c.loop-i.i in (
       search rules,
-      l.loop.invariant.1
-          ∙ same_on (front (length word) kept) word i (omega (arith, front_length (length word) kept)) (omega arith) (front_at (length word) kept i (omega arith) ∙ c.if1.false),
+      c.loop-i.invariant.1
+          ∙ same_on (front (length word) kept) word i (omega (arith, front_length (length word) kept)) (omega arith) (front_at (length word) kept i (omega arith) ∙ c.if-kept-i.false),
     )
 
-returns_2 : tie.Need-returns-2 invariant_loop decreases_loop
+returns_2 : tie.Need-returns invariant_loop decreases_loop
 returns_2 c =
-    let kept = c.before.before.args.kept.now in
-    let word = c.before.before.args.word.now in
-    let i = c.before.loop.i in
-    sym (c.before.loop.invariant.1 ∙ same_end (front (length word) kept) word i (omega (arith, front_length (length word) kept)) (omega arith))
+    let kept = c.args.kept.now in
+    let word = c.args.word.now in
+    let i = c.loop-i.i in
+    sym (c.loop-i.invariant.1 ∙ same_end (front (length word) kept) word i (omega (arith, front_length (length word) kept)) (omega arith))
 
 pub begins_with_spec : {M : Type 1} → statement M
 begins_with_spec =

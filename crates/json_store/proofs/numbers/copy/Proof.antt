@@ -10,4 +10,4 @@ copy_spec =
     (λ c κs. search rules)
     (λ c κs. search rules)
     (λ c κs. search rules)
-    (λ c. rw (c.put.ensures, c.before.before.is-negative-at.ensures, c.before.before.before.before.magnitude-at.ensures)))
+    (λ c. rw (c.put.ensures, c.is_negative_at-negative.ensures, c.magnitude_at-magnitude.ensures)))

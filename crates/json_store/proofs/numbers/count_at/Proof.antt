@@ -11,5 +11,5 @@ count_at_spec =
     tie.close
     (tie.spec
     (λ c κs. search rules)
-    (λ c. rw (← c.before.magnitude-at.ensures, le-leb _ _ c.if1.true))
-    (λ c. rw (← c.before.magnitude-at.ensures, lt-leb _ _ c.if1.false)))
+    (λ c. rw (← c.magnitude_at-count.ensures, le-leb _ _ c.if-count-room.true))
+    (λ c. rw (← c.magnitude_at-count.ensures, lt-leb _ _ c.if-count-room.false)))

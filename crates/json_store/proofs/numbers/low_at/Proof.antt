@@ -13,5 +13,5 @@ low_at_spec =
     (λ c κs. search rules)
     (λ c κs. search rules)
     (λ c. search rules)
-    (λ c. rw (sym c.before.is-negative-at.ensures ∙ c.if1.true, c.before.before.magnitude-at.ensures))
-    (λ c. rw (sym c.before.is-negative-at.ensures ∙ c.if1.false, c.before.before.magnitude-at.ensures)))
+    (λ c. rw (sym c.is_negative_at.ensures ∙ c.if-is_negative_at.true, c.magnitude_at-magnitude.ensures))
+    (λ c. rw (sym c.is_negative_at.ensures ∙ c.if-is_negative_at.false, c.magnitude_at-magnitude.ensures)))

@@ -12,5 +12,5 @@ magnitude_at_spec =
     (tie.spec
     (λ c. search rules)
     (λ c. search rules)
-    (λ c. rw (lt-ltb _ _ c.before.if1.true))
-    (λ c. rw (le-ltb _ _ c.if1.false)))
+    (λ c. rw (lt-ltb _ _ c.if-at-lt-SIGNS_AT.true))
+    (λ c. rw (le-ltb _ _ c.if-at-lt-SIGNS_AT.false)))

@@ -9,4 +9,4 @@ narrow_at_spec =
     (tie.spec
     (λ c κs. search rules)
     (λ c κs. search rules)
-    (λ c. rw (c.narrowed.ensures, c.before.number-at.ensures)))
+    (λ c. rw (c.narrowed.ensures, c.number_at.ensures)))

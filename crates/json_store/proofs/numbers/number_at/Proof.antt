@@ -12,4 +12,4 @@ number_at_spec =
     (λ c κs. search rules)
     (λ c κs. search rules)
     (λ c κs. search rules)
-    (λ c. rw (c.signed.ensures, c.before.magnitude-at.ensures, c.before.before.is-negative-at.ensures)))
+    (λ c. rw (c.signed.ensures, c.magnitude_at.ensures, c.is_negative_at.ensures)))

@@ -17,5 +17,5 @@ put_spec =
     (λ c. search rules)
     (λ c. search rules)
     (λ c. search rules)
-    (λ c. rw (lt-ltb _ _ c.if1.true, bool_number))
-    (λ c. rw (le-ltb _ _ c.if1.false)))
+    (λ c. rw (lt-ltb _ _ c.if-at-lt-SIGNS_AT.true, bool_number))
+    (λ c. rw (le-ltb _ _ c.if-at-lt-SIGNS_AT.false)))

@@ -5,20 +5,20 @@ use Rattle.json_store.proofs.Signed.{below_fits, signed_below, signed_low, signe
 use Rattle.json_store.proofs.numbers.signed.Statement.{statement}
 use Rattle.json_store.proofs.numbers.signed.Tie as tie
 
-none : tie.Need-returns
+none : tie.Need-returns-then-magnitude-eq0
 unfolding signed_of
-none c = rw (c.before.if1.true, c.if2.true)
+none c = rw (c.if-negative.true, c.if-magnitude-eq0.true)
 
 pub signed_spec : {M : Type 1} → statement M
 signed_spec =
     tie.close
     (tie.spec
     none
-    (λ c. rw c.before.before.if1.true (signed_low _ c.if3.true))
+    (λ c. rw c.if-negative.true (signed_low _ c.if-magnitude-gt9223372036854775808.true))
     (λ c. search rules)
     (λ c. search rules)
-    (λ c. below_fits _ c.before.if2.false c.if3.false)
-    (λ c. rw c.before.before.if1.true (signed_below _ c.before.if2.false c.if3.false))
-    (λ c. rw c.before.if1.false (signed_high _ c.if4.true))
+    (λ c. below_fits _ c.if-magnitude-eq0.false c.if-magnitude-gt9223372036854775808.false)
+    (λ c. rw c.if-negative.true (signed_below _ c.if-magnitude-eq0.false c.if-magnitude-gt9223372036854775808.false))
+    (λ c. rw c.if-negative.false (signed_high _ c.if-magnitude-gt9223372036854775807.true))
     (λ c. search rules)
-    (λ c. rw c.before.if1.false (signed_above _ c.if4.false)))
+    (λ c. rw c.if-negative.false (signed_above _ c.if-magnitude-gt9223372036854775807.false)))

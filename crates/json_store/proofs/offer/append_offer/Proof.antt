@@ -4,21 +4,19 @@ use Rattle.json_store.proofs.Appended.{no_room, appended}
 use Rattle.json_store.proofs.offer.append_offer.Statement.{statement}
 use Rattle.json_store.proofs.offer.append_offer.Tie as tie
 
-returns : tie.Need-returns
+returns : tie.Need-returns-then-place-len
 returns c =
-    let k = c.before.before.before in
-    let a = k.before.args in
-    let o = c.before.offer-length.ensures in
-    rw (← k.kind-of.ensures) (no_room k.kind-of.result a.place a.numbers.now a.texts.now _ o.0 o.1 a.offers.now c.if1.true)
+    let a = c.args in
+    let o = c.offer_length-len.ensures in
+    rw (← c.kind_of-kind.ensures) (no_room c.kind_of-kind.result a.place a.numbers.now a.texts.now _ o.0 o.1 a.offers.now c.if-place-len.true)
 
-returns_2 : tie.Need-returns-2
+returns_2 : tie.Need-returns
 returns_2 c =
     let e = c.before.before in
-    let k = e.before.before.before in
-    let a = k.before.args in
-    let o = e.before.offer-length.ensures in
-    rw (← k.kind-of.ensures)
-    (appended k.kind-of.result a.place a.numbers.now a.texts.now _ o.0 o.1 a.offers.now _ _ e.before.before.offer-at.ensures e.if1.false c.copy-offer.ensures)
+    let a = e.args in
+    let o = e.offer_length-len.ensures in
+    rw (← e.kind_of-kind.ensures)
+    (appended e.kind_of-kind.result a.place a.numbers.now a.texts.now _ o.0 o.1 a.offers.now _ _ e.offer_at-from.ensures e.if-place-len.false c.copy_offer.ensures)
 
 pub append_offer_spec : {M : Type 1} → statement M
 append_offer_spec =

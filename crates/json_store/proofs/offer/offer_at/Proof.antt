@@ -9,5 +9,5 @@ unfolding offer_at
 offer_at_spec =
     tie.close
     (tie.spec
-    (λ c. rw (eq-eqb _ _ c.if1.true))
-    (λ c. rw (ne_eqb _ _ c.if1.false)))
+    (λ c. rw (eq-eqb _ _ c.if-kind-eq-ADD_SCHEMA.true))
+    (λ c. rw (ne_eqb _ _ c.if-kind-eq-ADD_SCHEMA.false)))

@@ -13,9 +13,9 @@ offer_length_spec =
     tie.close
     (tie.spec
     (λ c κs. search rules)
-    (λ c. omega (arith, c.count_at.ensures, count_small 32 c.before.before.args.numbers.now 38))
+    (λ c. omega (arith, c.count_at.ensures, count_small 32 c.args.numbers.now 38))
     (λ c κs. search rules)
-    (λ c. omega (arith, c.count-at2.ensures, count_small 8 c.before.before.args.numbers.now 52))
-    (λ c. (rw (c.before.match.keys1, c.count_at.ensures), rw c.before.match.keys1 (omega (arith, c.count_at.ensures, count_small 32 c.before.before.args.numbers.now 38))))
-    (λ c. (rw (c.before.match.keys2, c.count-at2.ensures), rw c.before.match.keys2 (omega (arith, c.count-at2.ensures, count_small 8 c.before.before.args.numbers.now 52))))
-    (λ c. (rw (ne_eqb _ _ c.match.rest.0.1, ne_eqb _ _ c.match.rest.1), rw (ne_eqb _ _ c.match.rest.0.1) (omega arith))))
+    (λ c. omega (arith, c.count_at-in-18.ensures, count_small 8 c.args.numbers.now 52))
+    (λ c. (rw (c.in-9.is, c.count_at.ensures), rw c.in-9.is (omega (arith, c.count_at.ensures, count_small 32 c.args.numbers.now 38))))
+    (λ c. (rw (c.in-18.is, c.count_at-in-18.ensures), rw c.in-18.is (omega (arith, c.count_at-in-18.ensures, count_small 8 c.args.numbers.now 52))))
+    (λ c. (rw (ne_eqb _ _ c.in_default.in_default-own.rest.0.1, ne_eqb _ _ c.in_default.in_default-own.rest.1), rw (ne_eqb _ _ c.in_default.in_default-own.rest.0.1) (omega arith))))

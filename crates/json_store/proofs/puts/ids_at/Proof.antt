@@ -9,6 +9,6 @@ unfolding ids_at
 ids_at_spec =
     tie.close
     (tie.spec
-    (λ c. rw c.match.keys1)
-    (λ c. rw c.match.keys2)
-    (λ c. rw (ne_eqb _ _ c.match.rest.0.1, ne_eqb _ _ c.match.rest.1)))
+    (λ c. rw c.in-24.is)
+    (λ c. rw c.in-25.is)
+    (λ c. rw (ne_eqb _ _ c.in_default.in_default-own.rest.0.1, ne_eqb _ _ c.in_default.in_default-own.rest.1)))

@@ -10,6 +10,6 @@ unfolding last_of
 last_of_spec =
     tie.close
     (tie.spec
-    (λ c. rw c.if1.true)
+    (λ c. rw c.if-count-eq0.true)
     (λ c. search rules)
     (λ c. refl))

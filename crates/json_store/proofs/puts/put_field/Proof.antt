@@ -13,8 +13,7 @@ unfolding put_field
 returns c =
     let b = c.before.before in
     let f = b.before in
-    let s = f.before.before.before in
-    ap (store s.args.numbers.now) (field_stored s.args.numbers.now s.args.texts.now _ (179 + s.args.i % 32 * 38) (omega arith) _ _ _ f.before.low-at.ensures b.byte_at.ensures f.put_four.ensures c.copy_name.ensures)
+    ap (store f.args.numbers.now) (field_stored f.args.numbers.now f.args.texts.now _ (179 + f.args.i % 32 * 38) (omega arith) _ _ _ f.low_at.ensures b.byte_at.ensures f.put_four.ensures c.copy_name.ensures)
 
 pub put_field_spec : {M : Type 1} → statement M
 put_field_spec =

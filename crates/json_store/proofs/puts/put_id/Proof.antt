@@ -12,6 +12,6 @@ put_id_spec =
     tie.close
     (tie.spec
     (λ c κs. search rules)
-    (λ c. omega (arith, c.ids_at.ensures, ids_small c.before.before.args.item))
+    (λ c. omega (arith, c.ids_at.ensures, ids_small c.args.item))
     (λ c κs. search rules)
-    (λ c. rw (c.put.ensures, c.before.ids_at.ensures)))
+    (λ c. rw (c.put.ensures, c.ids_at.ensures)))

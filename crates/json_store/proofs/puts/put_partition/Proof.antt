@@ -12,12 +12,7 @@ use Rattle.json_store.proofs.puts.put_partition.Tie as tie
 returns : tie.Need-returns
 unfolding put_partition
 returns c =
-    let n = c.before.before in
-    let f2 = n.before.before in
-    let b = f2.before.before.before.before in
-    let f = b.before.before in
-    let s = f.before.before.before.before in
-    ap (store _) (partition_stored s.args.numbers.now s.args.texts.now _ (1395 + s.args.i % 8 * 42) (omega arith) _ _ _ _ _ f.before.low-at.ensures b.byte_at.ensures f2.before.low-at2.ensures f.put_four.ensures f2.put-four2.ensures n.copy_name.ensures) ∙ ap (λ x. store x (sets s.args.texts.now (1395 + s.args.i % 8 * 42) (partition_bytes (store s.args.numbers.now s.args.texts.now)))) c.put-partition-id.ensures
+    ap (store _) (partition_stored c.args.numbers.now c.args.texts.now _ (1395 + c.args.i % 8 * 42) (omega arith) _ _ _ _ _ c.low_at.ensures c.byte_at.ensures c.low_at-2.ensures c.put_four.ensures c.put_four-2.ensures c.copy_name.ensures) ∙ ap (λ x. store x (sets c.args.texts.now (1395 + c.args.i % 8 * 42) (partition_bytes (store c.args.numbers.now c.args.texts.now)))) c.put_partition_id.ensures
 
 pub put_partition_spec : {M : Type 1} → statement M
 put_partition_spec =

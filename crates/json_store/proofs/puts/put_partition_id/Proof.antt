@@ -15,4 +15,4 @@ put_partition_id_spec =
     (λ c. search rules)
     (λ c. search rules)
     (λ c κs. search rules)
-    (λ c. rw (c.put.ensures, c.before.before.copy.ensures, bool_number)))
+    (λ c. rw (c.put.ensures, c.copy.ensures, bool_number)))

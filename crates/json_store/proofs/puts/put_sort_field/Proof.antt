@@ -16,4 +16,4 @@ put_sort_field_spec =
     (λ c κs. search rules)
     (λ c. search rules)
     (λ c κs. search rules)
-    (λ c. rw (c.copy3.ensures, c.before.before.copy2.ensures, c.before.before.before.before.copy.ensures)))
+    (λ c. rw (c.copy-3.ensures, c.copy-2.ensures, c.copy.ensures)))

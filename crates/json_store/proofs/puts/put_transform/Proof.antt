@@ -14,4 +14,4 @@ put_transform_spec =
     (λ c κs. search rules)
     (λ c. search rules)
     (λ c κs. search rules)
-    (λ c. rw (c.put2.ensures, c.before.before.before.put.ensures, c.before.before.before.before.before.before.transform-of.ensures)))
+    (λ c. rw (c.put-2.ensures, c.put.ensures, c.transform_of-t.ensures)))

@@ -13,5 +13,5 @@ put_value_spec =
     (tie.spec
     (λ c κs. search rules)
     (λ c κs. search rules)
-    (λ c. c.put-string.ensures ∙ rw (eq-eqb _ _ c.before.before.before.if1.true))
-    (λ c. rw (c.put.ensures, ne_eqb _ _ c.before.before.if1.false)))
+    (λ c. c.put_string.ensures ∙ rw (eq-eqb _ _ c.if-head-eq34.true))
+    (λ c. rw (c.put.ensures, ne_eqb _ _ c.if-head-eq34.false)))

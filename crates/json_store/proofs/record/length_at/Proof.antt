@@ -10,5 +10,5 @@ length_at_spec =
     (tie.spec
     (λ c. search rules)
     (λ c κs. search rules)
-    (λ c. rw (← c.before.wide.ensures, le-leb _ _ c.if1.true))
-    (λ c. rw (← c.before.wide.ensures, lt-leb _ _ c.if1.false)))
+    (λ c. rw (← c.wide-len.ensures, le-leb _ _ c.if-len-room.true))
+    (λ c. rw (← c.wide-len.ensures, lt-leb _ _ c.if-len-room.false)))

@@ -8,20 +8,19 @@ use Rattle.json_store.proofs.Taken.{Rest, rest_start, rest_more, length_small, l
 use Rattle.json_store.proofs.record.location.Statement.{statement}
 use Rattle.json_store.proofs.record.location.Tie as tie
 
-abbrev invariant_loop : tie.invariant_loop
+abbrev invariant_loop : tie.invariant-loop-i
 invariant_loop texts len text₀ i₀ text i = Rest texts 17 96 len text.bytes i
 
-abbrev decreases_loop : tie.decreases_loop
+abbrev decreases_loop : tie.decreases-loop-i
 decreases_loop texts len text₀ i₀ text i = len - i
 
-loop_holds : tie.Need-loop-init invariant_loop decreases_loop
-loop_holds c = rest_start (omega (arith, c.before.length_at.ensures, length_small 96 16 c.before.before.args.texts.now)) (ap (λ (t : Text). t.bytes) c.blank.ensures)
+loop_holds : tie.Need-loop-i-init invariant_loop decreases_loop
+loop_holds c = rest_start (omega (arith, c.length_at-len.ensures, length_small 96 16 c.args.texts.now)) (ap (λ (t : Text). t.bytes) c.blank-text.ensures)
 
 returns : tie.Need-returns invariant_loop decreases_loop
 returns c =
     let l = c.before in
-    let s = l.before.before.before in
-    location_laid s.args.texts.now l.loop.text.bytes _ l.loop.i c.loop-test.false l.before.before.length_at.ensures l.loop.invariant
+    location_laid l.args.texts.now l.loop-i.text.bytes _ l.loop-i.i c.loop-i-test.false l.length_at-len.ensures l.loop-i.invariant
 
 pub location_spec : {M : Type 1} → statement M
 location_spec =
@@ -38,5 +37,5 @@ location_spec =
     (λ c. search rules)
     (λ c. search rules)
     (λ c. omega arith)
-    (λ c. rest_more c.before.before.loop.invariant c.before.loop-test.true)
+    (λ c. rest_more c.loop-i.invariant c.loop-i-test.true)
     returns)

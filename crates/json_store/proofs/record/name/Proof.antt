@@ -8,20 +8,19 @@ use Rattle.json_store.proofs.Taken.{Rest, rest_start, rest_more, length_small, n
 use Rattle.json_store.proofs.record.name.Statement.{statement}
 use Rattle.json_store.proofs.record.name.Tie as tie
 
-abbrev invariant_loop : tie.invariant_loop
+abbrev invariant_loop : tie.invariant-loop-i
 invariant_loop texts len name₀ i₀ name i = Rest texts 114 32 len name.bytes i
 
-abbrev decreases_loop : tie.decreases_loop
+abbrev decreases_loop : tie.decreases-loop-i
 decreases_loop texts len name₀ i₀ name i = len - i
 
-loop_holds : tie.Need-loop-init invariant_loop decreases_loop
-loop_holds c = rest_start (omega (arith, c.before.length_at.ensures, length_small 32 113 c.before.before.args.texts.now)) (ap (λ (t : Name). t.bytes) c.blank.ensures)
+loop_holds : tie.Need-loop-i-init invariant_loop decreases_loop
+loop_holds c = rest_start (omega (arith, c.length_at-len.ensures, length_small 32 113 c.args.texts.now)) (ap (λ (t : Name). t.bytes) c.blank-name.ensures)
 
 returns : tie.Need-returns invariant_loop decreases_loop
 returns c =
     let l = c.before in
-    let s = l.before.before.before in
-    name_laid s.args.texts.now l.loop.name.bytes _ l.loop.i c.loop-test.false l.before.before.length_at.ensures l.loop.invariant
+    name_laid l.args.texts.now l.loop-i.name.bytes _ l.loop-i.i c.loop-i-test.false l.length_at-len.ensures l.loop-i.invariant
 
 pub name_spec : {M : Type 1} → statement M
 name_spec =
@@ -38,5 +37,5 @@ name_spec =
     (λ c. search rules)
     (λ c. search rules)
     (λ c. omega arith)
-    (λ c. rest_more c.before.before.loop.invariant c.before.loop-test.true)
+    (λ c. rest_more c.loop-i.invariant c.loop-i-test.true)
     returns)

@@ -10,5 +10,5 @@ or_zero_spec =
     (tie.spec
     (λ c κs. search rules)
     (λ c κs. search rules)
-    (λ c. rw (sym c.before.before.is_seen.ensures ∙ c.before.if1.true) c.number-at.ensures)
-    (λ c. rw (sym c.before.is_seen.ensures ∙ c.if1.false)))
+    (λ c. rw (sym c.is_seen.ensures ∙ c.if-is_seen.true) c.number_at.ensures)
+    (λ c. rw (sym c.is_seen.ensures ∙ c.if-is_seen.false)))

@@ -1,6 +1,7 @@
 -- Field by field.
 use mathlib.Core.Path.{◌∙◌}
 use borrow.Author.Rules.{rules, sfits_of}
+use mir.Syntax.{w32, w64}
 use mir.Facts.{to_z-of_z}
 use Rattle.json_store.proofs.Records.{reference_laid}
 use Rattle.json_store.proofs.record.reference.Statement.{statement}
@@ -18,16 +19,15 @@ returns c =
     let m = s2.before in
     let s1 = m.before in
     let k = s1.before in
-    let n = k.before in
-    reference_laid n.before.args.judge.now n.before.args.numbers.now
-    (to_z-of_z (sfits_of t1.struct_told.given.0.1) ∙ n.number-at.ensures)
-    k.byte_at.ensures
-    s1.is_seen.ensures
-    (to_z-of_z (sfits_of t2.struct-told2.given.0.1) ∙ m.or-zero-narrow.ensures)
-    s2.is-seen2.ensures
-    (to_z-of_z (sfits_of t3.struct-told3.given.0.1) ∙ z1.or-zero.ensures)
-    s3.is-seen3.ensures
-    (to_z-of_z (sfits_of c.struct-told4.given.0.1) ∙ z2.or-zero2.ensures)
+    reference_laid k.args.judge.now k.args.numbers.now
+    (to_z-of_z {w = w64} (sfits_of t1.struct_told-1.given.0.1) ∙ k.number_at-id.ensures)
+    k.byte_at-kind.ensures
+    s1.is_seen-has_min.ensures
+    (to_z-of_z {w = w32} (sfits_of t2.struct_told-2-1.given.0.1) ∙ m.or_zero_narrow-min.ensures)
+    s2.is_seen-has_age.ensures
+    (to_z-of_z {w = w64} (sfits_of t3.struct_told-3-1.given.0.1) ∙ z1.or_zero-age.ensures)
+    s3.is_seen-has_ref_age.ensures
+    (to_z-of_z {w = w64} (sfits_of c.struct_told-4-1.given.0.1) ∙ z2.or_zero-ref_age.ensures)
 
 pub reference_spec : {M : Type 1} → statement M
 reference_spec =

@@ -3,6 +3,7 @@ use Prim.Native.Nat.{◌-◌}
 use mathlib.Core.Path.{ap, ◌∙◌}
 use native.Mathlib.Omega.{arith}
 use borrow.Author.Rules.{rules, sfits_of}
+use mir.Syntax.{w32}
 use mir.Facts.{to_z-of_z}
 use Rattle.records.specs.Blanks.{no_schema_id}
 use Rattle.records.specs.declared.schema.SchemaIds.{SchemaIds}
@@ -11,25 +12,23 @@ use Rattle.json_store.proofs.Places.{count_small}
 use Rattle.json_store.proofs.record.schema_ids.Statement.{statement}
 use Rattle.json_store.proofs.record.schema_ids.Tie as tie
 
-abbrev invariant_loop : tie.invariant_loop
+abbrev invariant_loop : tie.invariant-loop-i
 invariant_loop numbers count ids₀ i₀ ids i = Left schema_id (schema_at numbers) 16 no_schema_id count ids.items i
 
-abbrev decreases_loop : tie.decreases_loop
+abbrev decreases_loop : tie.decreases-loop-i
 decreases_loop numbers count ids₀ i₀ ids i = count - i
 
-loop_holds : tie.Need-loop-init invariant_loop decreases_loop
-loop_holds c = left_start (omega (arith, c.before.count_at.ensures, count_small 16 c.before.before.args.numbers.now 18)) (ap (λ (t : SchemaIds). t.items) c.blank.ensures)
+loop_holds : tie.Need-loop-i-init invariant_loop decreases_loop
+loop_holds c = left_start (omega (arith, c.count_at-count.ensures, count_small 16 c.args.numbers.now 18)) (ap (λ (t : SchemaIds). t.items) c.blank-ids.ensures)
 
-loop_again : tie.Need-loop-preserved invariant_loop decreases_loop
+loop_again : tie.Need-loop-i-preserved invariant_loop decreases_loop
 loop_again c =
-    let l = c.before.before.before in
-    left_more l.loop.invariant c.before.before.loop-test.true (ap schema_id (to_z-of_z (sfits_of c.struct_told.given.0.1) ∙ c.before.narrow_at.ensures))
+    left_more c.loop-i.invariant c.loop-i-test.true (ap schema_id (to_z-of_z {w = w32} (sfits_of c.struct_told-1.given.0.1) ∙ c.narrow_at-z.ensures))
 
 returns : tie.Need-returns invariant_loop decreases_loop
 returns c =
     let l = c.before in
-    let s = l.before.before.before in
-    schema_ids_laid s.args.numbers.now _ l.loop.i c.loop-test.false l.loop.ids.items l.before.before.count_at.ensures l.loop.invariant
+    schema_ids_laid l.args.numbers.now _ l.loop-i.i c.loop-i-test.false l.loop-i.ids.items l.count_at-count.ensures l.loop-i.invariant
 
 pub schema_ids_spec : {M : Type 1} → statement M
 schema_ids_spec =

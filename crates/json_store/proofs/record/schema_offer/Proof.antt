@@ -14,4 +14,4 @@ schema_offer_spec =
     (tie.spec
     (λ c κs. search rules)
     (λ c κs. search rules)
-    (λ c. rw (to_z-of_z {w = w32} (sfits_of c.struct_told.given.0.1) ∙ c.before.before.or-zero-narrow.ensures, c.before.count_at.ensures)))
+    (λ c. rw (to_z-of_z {w = w32} (sfits_of c.struct_told-1.given.0.1) ∙ c.or_zero_narrow-id.ensures, c.count_at-count.ensures)))

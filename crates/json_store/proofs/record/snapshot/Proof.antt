@@ -1,6 +1,7 @@
 -- Field by field.
 use mathlib.Core.Path.{◌∙◌}
 use borrow.Author.Rules.{rules, sfits_of}
+use mir.Syntax.{w64}
 use mir.Facts.{to_z-of_z}
 use Rattle.json_store.proofs.Records.{snapshot_laid}
 use Rattle.json_store.proofs.record.snapshot.Statement.{statement}
@@ -18,16 +19,15 @@ returns c =
     let z2 = n2.before in
     let z1 = z2.before in
     let s1 = z1.before in
-    let n1 = s1.before in
-    snapshot_laid n1.before.args.judge.now n1.before.args.numbers.now
-    (to_z-of_z (sfits_of t1.struct_told.given.0.1) ∙ n1.number-at.ensures)
-    s1.is_seen.ensures
-    (to_z-of_z (sfits_of t2.struct-told2.given.0.1) ∙ z1.or-zero.ensures)
-    (to_z-of_z (sfits_of t3.struct-told3.given.0.1) ∙ z2.or-zero2.ensures)
-    (to_z-of_z (sfits_of c.struct-told4.given.0.1) ∙ n2.number-at2.ensures)
-    s2.is-seen2.ensures
-    r1.row_number.ensures
-    r2.row-number2.ensures
+    snapshot_laid s1.args.judge.now s1.args.numbers.now
+    (to_z-of_z {w = w64} (sfits_of t1.struct_told-1.given.0.1) ∙ s1.number_at-id.ensures)
+    s1.is_seen-has_parent.ensures
+    (to_z-of_z {w = w64} (sfits_of t2.struct_told-2-1.given.0.1) ∙ z1.or_zero-parent.ensures)
+    (to_z-of_z {w = w64} (sfits_of t3.struct_told-3-1.given.0.1) ∙ z2.or_zero-sequence.ensures)
+    (to_z-of_z {w = w64} (sfits_of c.struct_told-4-1.given.0.1) ∙ n2.number_at-time.ensures)
+    s2.is_seen-has_rows.ensures
+    r1.row_number-first.ensures
+    r2.row_number-added.ensures
 
 pub snapshot_spec : {M : Type 1} → statement M
 snapshot_spec =

@@ -19,4 +19,4 @@ sort_field_spec =
     (λ c κs. search rules)
     (λ c. search rules)
     (λ c κs. search rules)
-    (λ c. rw (to_z-of_z {w = w32} (sfits_of c.struct_told.given.0.1) ∙ c.before.before.before.narrow_at.ensures, c.before.before.byte_at.ensures, c.before.byte-at2.ensures)))
+    (λ c. rw (to_z-of_z {w = w32} (sfits_of c.struct_told-1.given.0.1) ∙ c.narrow_at-source.ensures, c.byte_at-direction.ensures, c.byte_at-nulls.ensures)))

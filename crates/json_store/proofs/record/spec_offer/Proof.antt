@@ -3,6 +3,7 @@ use Prim.Native.Nat.{◌-◌}
 use mathlib.Core.Path.{ap, ◌∙◌}
 use native.Mathlib.Omega.{arith}
 use borrow.Author.Rules.{rules, sfits_of}
+use mir.Syntax.{w32}
 use mir.Facts.{to_z-of_z}
 use Rattle.records.specs.Blanks.{no_offered_id}
 use Rattle.records.specs.declared.partition.SpecOffer.{SpecOffer}
@@ -13,24 +14,23 @@ use Rattle.json_store.proofs.Places.{count_small}
 use Rattle.json_store.proofs.record.spec_offer.Statement.{statement}
 use Rattle.json_store.proofs.record.spec_offer.Tie as tie
 
-abbrev invariant_loop : tie.invariant_loop
+abbrev invariant_loop : tie.invariant-loop-i
 invariant_loop numbers judge place count offer₀ i₀ offer i = Left laid_offered_id (partition_id_in numbers) 8 no_offered_id count offer.ids i
 
-abbrev decreases_loop : tie.decreases_loop
+abbrev decreases_loop : tie.decreases-loop-i
 decreases_loop numbers judge place count offer₀ i₀ offer i = count - i
 
-loop_holds : tie.Need-loop-init invariant_loop decreases_loop
-loop_holds c = left_start (omega (arith, c.before.count_at.ensures, count_small 8 c.before.before.args.numbers.now 52)) (ap (λ (t : SpecOffer). t.ids) c.blank.ensures)
+loop_holds : tie.Need-loop-i-init invariant_loop decreases_loop
+loop_holds c = left_start (omega (arith, c.count_at-count.ensures, count_small 8 c.args.numbers.now 52)) (ap (λ (t : SpecOffer). t.ids) c.blank-offer.ensures)
 
-loop_again : tie.Need-loop-preserved invariant_loop decreases_loop
-loop_again c = left_more c.before.before.loop.invariant c.before.loop-test.true c.offered-id.ensures
+loop_again : tie.Need-loop-i-preserved invariant_loop decreases_loop
+loop_again c = left_more c.loop-i.invariant c.loop-i-test.true c.offered_id-id.ensures
 
 returns : tie.Need-returns invariant_loop decreases_loop
 returns c =
     let e = c.before.before in
     let l = e.before in
-    let s = l.before.before.before in
-    spec_offer_laid s.args.numbers.now _ l.loop.i e.loop-test.false s.args.judge.now s.args.place l.loop.offer.ids _ l.before.before.count_at.ensures (to_z-of_z (sfits_of c.struct_told.given.0.1) ∙ c.before.or-zero-narrow.ensures) l.loop.invariant
+    spec_offer_laid l.args.numbers.now _ l.loop-i.i e.loop-i-test.false l.args.judge.now l.args.place l.loop-i.offer.ids _ l.count_at-count.ensures (to_z-of_z {w = w32} (sfits_of c.struct_told-1.given.0.1) ∙ c.or_zero_narrow-z.ensures) l.loop-i.invariant
 
 pub spec_offer_spec : {M : Type 1} → statement M
 spec_offer_spec =

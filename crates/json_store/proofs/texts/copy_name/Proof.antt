@@ -11,30 +11,28 @@ use Rattle.json_store.proofs.Stores.{sets_more, sets_done, part_length, part_at,
 use Rattle.json_store.proofs.texts.copy_name.Statement.{statement}
 use Rattle.json_store.proofs.texts.copy_name.Tie as tie
 
-abbrev invariant_loop : tie.invariant_loop
+abbrev invariant_loop : tie.invariant-loop-i
 invariant_loop texts₀ at i₀ texts i = (i ≤ 33) × (part 146 33 texts ≡ part 146 33 texts₀) × (sets texts₀ at (part 146 33 texts₀) ≡ sets texts (at + i) (drop i (part 146 33 texts₀)))
 
-abbrev decreases_loop : tie.decreases_loop
+abbrev decreases_loop : tie.decreases-loop-i
 decreases_loop texts₀ at i₀ texts i = 33 - i
 
-loop_again : tie.Need-loop-preserved invariant_loop decreases_loop
+loop_again : tie.Need-loop-i-preserved invariant_loop decreases_loop
 loop_again c =
-    let l = c.before.before in
-    let at = l.before.args.at in
-    let i = l.loop.i in
-    let name = part 146 33 l.before.args.texts.now in (
+    let at = c.args.at in
+    let i = c.loop-i.i in
+    let name = part 146 33 c.args.texts.now in (
       omega arith,
-      part_before l.loop.texts (at + i) (get_or l.loop.texts (146 + i) 0 ∷ []) 146 33 (omega arith) ∙ l.loop.invariant.1,
-      l.loop.invariant.2
-          ∙ sets_more l.loop.texts at i name 0 (get_or l.loop.texts (146 + i) 0) (omega (arith, part_length 146 33 l.before.args.texts.now))
-          (sym (part_at 146 33 l.loop.texts i (omega arith)) ∙ ap (λ (r : List ℕ). get_or r i 0) l.loop.invariant.1),
+      part_before c.loop-i.texts (at + i) (get_or c.loop-i.texts (146 + i) 0 ∷ []) 146 33 (omega arith) ∙ c.loop-i.invariant.1,
+      c.loop-i.invariant.2
+          ∙ sets_more c.loop-i.texts at i name 0 (get_or c.loop-i.texts (146 + i) 0) (omega (arith, part_length 146 33 c.args.texts.now))
+          (sym (part_at 146 33 c.loop-i.texts i (omega arith)) ∙ ap (λ (r : List ℕ). get_or r i 0) c.loop-i.invariant.1),
     )
 
 returns : tie.Need-returns invariant_loop decreases_loop
 returns c =
-    let l = c.before in
-    let name = part 146 33 l.before.args.texts.now in
-    sym (l.loop.invariant.2 ∙ sets_done l.loop.texts (l.before.args.at + l.loop.i) l.loop.i name (omega (arith, part_length 146 33 l.before.args.texts.now)))
+    let name = part 146 33 c.args.texts.now in
+    sym (c.loop-i.invariant.2 ∙ sets_done c.loop-i.texts (c.args.at + c.loop-i.i) c.loop-i.i name (omega (arith, part_length 146 33 c.args.texts.now)))
 
 pub copy_name_spec : {M : Type 1} → statement M
 copy_name_spec =

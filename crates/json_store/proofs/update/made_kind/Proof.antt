@@ -8,8 +8,8 @@ pub made_kind_spec : {M : Type 1} → statement M
 made_kind_spec =
     tie.close
     (tie.spec
-    (λ c. rw (made_high _ c.if1.true))
-    (λ c. rw (made_low _ c.before.if1.false, eq-eqb _ _ c.if2.true))
-    (λ c. rw (made_low _ c.before.before.if1.false, ne_eqb _ _ c.before.if2.false, lt-ltb _ _ c.if3.true))
-    (λ c. rw (made_low _ c.before.before.before.if1.false, ne_eqb _ _ c.before.before.if2.false, le-ltb _ _ c.before.if3.false, lt-ltb _ _ c.if4.true))
-    (λ c. rw (made_low _ c.before.before.before.if1.false, ne_eqb _ _ c.before.before.if2.false, le-ltb _ _ c.before.if3.false, le-ltb _ _ c.if4.false)))
+    (λ c. rw (made_high _ c.if-kind-gt-REMOVE_PARTITION_SPECS.true))
+    (λ c. rw (made_low _ c.if-kind-gt-REMOVE_PARTITION_SPECS.false, eq-eqb _ _ c.if-kind-eq-SET_BRANCH_SNAPSHOT.true))
+    (λ c. rw (made_low _ c.if-kind-gt-REMOVE_PARTITION_SPECS.false, ne_eqb _ _ c.if-kind-eq-SET_BRANCH_SNAPSHOT.false, lt-ltb _ _ c.if-kind-lt-SET_STATISTICS.true))
+    (λ c. rw (made_low _ c.if-kind-gt-REMOVE_PARTITION_SPECS.false, ne_eqb _ _ c.if-kind-eq-SET_BRANCH_SNAPSHOT.false, le-ltb _ _ c.if-kind-lt-SET_STATISTICS.false, lt-ltb _ _ c.if-kind-gt-REMOVE_PARTITION_STATISTICS.true))
+    (λ c. rw (made_low _ c.if-kind-gt-REMOVE_PARTITION_SPECS.false, ne_eqb _ _ c.if-kind-eq-SET_BRANCH_SNAPSHOT.false, le-ltb _ _ c.if-kind-lt-SET_STATISTICS.false, le-ltb _ _ c.if-kind-gt-REMOVE_PARTITION_STATISTICS.false)))

@@ -13,10 +13,9 @@ returns c =
     let sn = rf.before in
     let fl = sn.before in
     let mk = fl.before in
-    let k = mk.before in
-    let a = k.before.args in
-    rw (← k.kind-of.ensures)
-    (made_of k.kind-of.result a.place a.judge.now a.numbers.now a.texts.now mk.made-kind.ensures fl.fields-part.ensures sn.snapshots-part.ensures rf.refs-part.ensures sc.schemas-part.ensures so.sort-orders-part.ensures p.blank.ensures c.specs-part.ensures)
+    let a = mk.args in
+    rw (← mk.kind_of-kind.ensures)
+    (made_of mk.kind_of-kind.result a.place a.judge.now a.numbers.now a.texts.now mk.made_kind-made.ensures fl.fields_part-fields.ensures sn.snapshots_part-snapshots.ensures rf.refs_part-refs.ensures sc.schemas_part-schemas.ensures so.sort_orders_part-sort_orders.ensures p.blank-statistics.ensures c.specs_part-partition_specs.ensures)
 
 pub update_of_spec : {M : Type 1} → statement M
 update_of_spec =

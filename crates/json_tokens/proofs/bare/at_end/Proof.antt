@@ -8,5 +8,5 @@ at_end_spec =
     tie.close
     (tie.spec
     (λ c κs. search rules)
-    (λ c. rw (← c.before.may-end.ensures, c.if1.true))
-    (λ c. rw (← c.before.may-end.ensures, c.if1.false)))
+    (λ c. rw (← c.may_end.ensures, c.if-may_end.true))
+    (λ c. rw (← c.may_end.ensures, c.if-may_end.false)))

@@ -8,5 +8,5 @@ is_whole_number_spec =
     tie.close
     (tie.spec
     (λ c κs. search rules)
-    (λ c. rw (← c.before.before.is-integer.ensures, c.before.if1.true))
-    (λ c. rw (← c.before.is-integer.ensures, c.if1.false)))
+    (λ c. rw (← c.is_integer.ensures, c.if-is_integer.true))
+    (λ c. rw (← c.is_integer.ensures, c.if-is_integer.false)))

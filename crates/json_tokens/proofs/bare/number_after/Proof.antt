@@ -9,5 +9,5 @@ number_after_spec =
     (tie.spec
     (λ c κs. search rules)
     (λ c κs. search rules)
-    (λ c. rw (← c.before.before.is-before-point.ensures, c.before.if1.true) c.with_byte.ensures)
-    (λ c. rw (← c.before.is-before-point.ensures, c.if1.false)))
+    (λ c. rw (← c.is_before_point.ensures, c.if-is_before_point.true) c.with_byte.ensures)
+    (λ c. rw (← c.is_before_point.ensures, c.if-is_before_point.false)))

@@ -10,24 +10,22 @@ use Rattle.json_tokens.proofs.Steps.{run_stops, run_goes, run_ends}
 use Rattle.json_tokens.proofs.space.past_spaces.Statement.{statement}
 use Rattle.json_tokens.proofs.space.past_spaces.Tie as tie
 
-abbrev invariant_loop : tie.invariant_loop
+abbrev invariant_loop : tie.invariant-loop-i
 invariant_loop bytes from i₀ i = from + space_run (drop from bytes) ≡ i + space_run (drop i bytes)
 
-abbrev decreases_loop : tie.decreases_loop
+abbrev decreases_loop : tie.decreases-loop-i
 decreases_loop bytes from i₀ i = length bytes - i
 
-returns : tie.Need-returns invariant_loop decreases_loop
+returns : tie.Need-returns-then-not-is_space invariant_loop decreases_loop
 returns c =
-    let l = c.before.before.before.before in
-    omega (arith, run_stops l.before.before.args.bytes.now l.loop.i c.before.before.before.loop-test.true (sym c.before.is-space.ensures ∙ not-true _ c.if1.true))
+    omega (arith, run_stops c.args.bytes.now c.loop-i.i c.loop-i-test.true (sym c.is_space.ensures ∙ not-true _ c.if-not-is_space.true-raw))
 
-loop_again : tie.Need-loop-preserved invariant_loop decreases_loop
+loop_again : tie.Need-loop-i-preserved invariant_loop decreases_loop
 loop_again c =
-    let l = c.before.before.before.before in
-    omega (arith, run_goes l.before.before.args.bytes.now l.loop.i c.before.before.before.loop-test.true (sym c.before.is-space.ensures ∙ not-false _ c.if1.false))
+    omega (arith, run_goes c.args.bytes.now c.loop-i.i c.loop-i-test.true (sym c.is_space.ensures ∙ not-false _ c.if-not-is_space.false-raw))
 
-returns_2 : tie.Need-returns-2 invariant_loop decreases_loop
-returns_2 c = omega (arith, run_ends c.before.before.before.args.bytes.now c.before.loop.i c.loop-test.false)
+returns_2 : tie.Need-returns invariant_loop decreases_loop
+returns_2 c = omega (arith, run_ends c.args.bytes.now c.loop-i.i c.loop-i-test.false)
 
 pub past_spaces_spec : {M : Type 1} → statement M
 past_spaces_spec =

@@ -11,64 +11,44 @@ use Rattle.json_tokens.proofs.Steps.{InText, plain_within, step_plain, text_brok
 use Rattle.json_tokens.proofs.text.read_text.Statement.{statement}
 use Rattle.json_tokens.proofs.text.read_text.Tie as tie
 
-abbrev invariant_loop : tie.invariant_loop
+abbrev invariant_loop : tie.invariant-loop-i
 invariant_loop bytes first from kept₀ mode₀ text₀ i₀ kept mode text i = (text_from bytes from kept₀ ≡ outcome held_after i mode (held text kept) (drop i bytes)) × InText mode
 
-abbrev decreases_loop : tie.decreases_loop
+abbrev decreases_loop : tie.decreases-loop-i
 decreases_loop bytes first from kept₀ mode₀ text₀ i₀ kept mode text i = length bytes - i
 
-loop_holds : tie.Need-loop-init invariant_loop decreases_loop
+loop_holds : tie.Need-loop-i-init invariant_loop decreases_loop
 loop_holds c =
-    let a = c.before.before.args in
-    (ap (λ (t : Text). outcome held_after a.from text_mode (held t a.kept.now) (drop a.from a.bytes.now)) (sym c.blank.ensures), record { mode = refl; kind = refl })
+    let a = c.args in
+    (ap (λ (t : Text). outcome held_after a.from text_mode (held t a.kept.now) (drop a.from a.bytes.now)) (sym c.blank-text.ensures), record { mode = refl; kind = refl })
 
-with_plain_requires : tie.Need-with-plain-requires invariant_loop decreases_loop
+with_plain_requires : tie.Need-with_plain-text-requires invariant_loop decreases_loop
 with_plain_requires c κs =
-    let p = c.before.before in
-    let t = p.before.before in
-    let l = t.before in
-    plain_within l.before.before.before.args.bytes.now l.loop.i p.plain-end.result p.plain-end.ensures t.loop-test.true
+    plain_within c.args.bytes.now c.loop-i.i c.plain_end-end.result c.plain_end-end.ensures c.loop-i-test.true
 
-loop_again : tie.Need-loop-preserved invariant_loop decreases_loop
+loop_again : tie.Need-loop-i-preserved-then-end-i invariant_loop decreases_loop
 loop_again c =
-    let g = c.before.before in
-    let p = g.before in
-    let l = p.before.before.before in
-    (l.loop.invariant.0 ∙ step_plain l.before.before.before.args.bytes.now l.loop.i p.plain-end.result p.plain-end.ensures l.loop.mode (held l.loop.text l.loop.auto) (held c.with-plain.result _) p.before.if1.true g.if2.true c.with-plain.ensures, l.loop.invariant.1)
+    (c.loop-i.invariant.0 ∙ step_plain c.args.bytes.now c.loop-i.i c.plain_end-end.result c.plain_end-end.ensures c.loop-i.mode (held c.loop-i.text c.loop-i.kept) (held c.with_plain-text.result _) c.if-mode-eq-TEXT.true c.if-end-i.true c.with_plain-text.ensures, c.loop-i.invariant.1)
 
-returns : tie.Need-returns invariant_loop decreases_loop
+returns : tie.Need-returns-then-next-eq-BROKEN invariant_loop decreases_loop
 returns c =
-    let n = c.before.before in
-    let t = n.before.before.before in
-    let l = t.before in
-    let a = l.before.before.before.args in
-    text_broken (text_from a.bytes.now a.from a.kept.now) a.first a.bytes.now l.loop.i l.loop.mode l.loop.text l.loop.auto l.loop.invariant t.loop-test.true n.after.result n.after.ensures c.text-token.result c.before.if3.true c.text-token.ensures
+    let a = c.args in
+    text_broken (text_from a.bytes.now a.from a.kept.now) a.first a.bytes.now c.loop-i.i c.loop-i.mode c.loop-i.text c.loop-i.kept c.loop-i.invariant c.loop-i-test.true c.after-next.result c.after-next.ensures c.text_token.result c.if-next-eq-BROKEN.true c.text_token.ensures
 
-returns_2 : tie.Need-returns-2 invariant_loop decreases_loop
+returns_2 : tie.Need-returns-then-next-eq-WHOLE invariant_loop decreases_loop
 returns_2 c =
-    let w = c.before.before in
-    let n = w.before.before.before in
-    let t = n.before.before.before in
-    let l = t.before in
-    let a = l.before.before.before.args in
-    text_whole (text_from a.bytes.now a.from a.kept.now) a.first a.bytes.now l.loop.i l.loop.mode l.loop.text l.loop.auto l.loop.invariant t.loop-test.true n.after.result n.after.ensures w.with_byte.result _ w.with_byte.ensures c.text-token2.result c.before.if4.true c.text-token2.ensures
+    let a = c.args in
+    text_whole (text_from a.bytes.now a.from a.kept.now) a.first a.bytes.now c.loop-i.i c.loop-i.mode c.loop-i.text c.loop-i.kept c.loop-i.invariant c.loop-i-test.true c.after-next.result c.after-next.ensures c.with_byte-text.result _ c.with_byte-text.ensures c.text_token-then-next-eq-WHOLE.result c.if-next-eq-WHOLE.true c.text_token-then-next-eq-WHOLE.ensures
 
-loop_again_2 : tie.Need-loop-preserved-2 invariant_loop decreases_loop
+loop_again_2 : tie.Need-loop-i-preserved invariant_loop decreases_loop
 loop_again_2 c =
-    let w = c.before in
-    let e = w.before.before in
-    let n = e.before in
-    let t = n.before.before.before in
-    let l = t.before in
-    let a = l.before.before.before.args in
-    text_on (text_from a.bytes.now a.from a.kept.now) a.first a.bytes.now l.loop.i l.loop.mode l.loop.text l.loop.auto l.loop.invariant t.loop-test.true n.after.result n.after.ensures w.with_byte.result _ w.with_byte.ensures c.if4.false e.if3.false
+    let a = c.args in
+    text_on (text_from a.bytes.now a.from a.kept.now) a.first a.bytes.now c.loop-i.i c.loop-i.mode c.loop-i.text c.loop-i.kept c.loop-i.invariant c.loop-i-test.true c.after-next.result c.after-next.ensures c.with_byte-text.result _ c.with_byte-text.ensures c.if-next-eq-WHOLE.false c.if-next-eq-BROKEN.false
 
-returns_3 : tie.Need-returns-3 invariant_loop decreases_loop
+returns_3 : tie.Need-returns invariant_loop decreases_loop
 returns_3 c =
-    let t = c.before in
-    let l = t.before in
-    let a = l.before.before.before.args in
-    text_last (text_from a.bytes.now a.from a.kept.now) a.first a.bytes.now l.loop.i l.loop.mode l.loop.text l.loop.auto l.loop.invariant c.text-token3.result t.loop-test.false c.text-token3.ensures
+    let a = c.args in
+    text_last (text_from a.bytes.now a.from a.kept.now) a.first a.bytes.now c.loop-i.i c.loop-i.mode c.loop-i.text c.loop-i.kept c.loop-i.invariant c.text_token-2.result c.loop-i-test.false c.text_token-2.ensures
 
 pub read_text_spec : {M : Type 1} → statement M
 read_text_spec =

@@ -10,10 +10,9 @@ use Rattle.json_tokens.proofs.text.with_plain.Tie as tie
 
 returns : tie.Need-returns
 returns c =
-    let s = c.before.before in
-    let a = s.before.before.args in
-    keeps_held (held s.settled.result a.kept.now) c.keep_all.ensures
-    ∙ ap (λ (t : Text). keeping (slice a.from a.end a.bytes.now) (held t a.kept.now)) s.settled.ensures
+    let a = c.args in
+    keeps_held (held c.settled-t.result a.kept.now) c.keep_all.ensures
+    ∙ ap (λ (t : Text). keeping (slice a.from a.end a.bytes.now) (held t a.kept.now)) c.settled-t.ensures
 
 pub with_plain_spec : {M : Type 1} → statement M
 with_plain_spec = tie.close (tie.spec (λ c κs. search rules) (λ c κs. search rules) returns)

@@ -6,42 +6,25 @@ use Rattle.json_tokens.proofs.Answers.{answers_none, answers_text, answers_singl
 use Rattle.json_tokens.proofs.token.next.Statement.{statement}
 use Rattle.json_tokens.proofs.token.next.Tie as tie
 
-returns : tie.Need-returns
+returns : tie.Need-returns-then-first-bytes
 returns c =
-    let p = c.before.before in
-    let o = p.before in
-    let a = o.before.before.before.args in
-    answers_none a.bytes.now a.from p.past-spaces.result p.past-spaces.ensures a.kept.now o.room.ensures c.plain-token.result c.before.if1.true (ap (λ (r : Token). r.state) c.plain-token.ensures)
+    let a = c.args in
+    answers_none a.bytes.now a.from c.past_spaces-first.result c.past_spaces-first.ensures a.kept.now c.room.ensures c.plain_token.result c.if-first-bytes.true (ap (λ (r : Token). r.state) c.plain_token.ensures)
 
-returns_2 : tie.Need-returns-2
+returns_2 : tie.Need-returns-then-head-eq34
 returns_2 c =
-    let t = c.before.before in
-    let q = t.before.before in
-    let i = q.before.before in
-    let p = i.before in
-    let o = p.before in
-    let a = o.before.before.before.args in
-    answers_text a.bytes.now a.from p.past-spaces.result p.past-spaces.ensures _ c.room2.ensures i.if1.false q.if2.true a.kept.now o.room.ensures t.read-text.result t.read-text.ensures
+    let a = c.args in
+    answers_text a.bytes.now a.from c.past_spaces-first.result c.past_spaces-first.ensures _ c.room-then-head-eq34.ensures c.if-first-bytes.false c.if-head-eq34.true a.kept.now c.room.ensures c.read_text-token.result c.read_text-token.ensures
 
-returns_3 : tie.Need-returns-3
+returns_3 : tie.Need-returns-then-mode-eq-WHOLE
 returns_3 c =
-    let b = c.before.before in
-    let q = b.before in
-    let i = q.before.before in
-    let p = i.before in
-    let o = p.before in
-    let a = o.before.before.before.args in
-    answers_single a.bytes.now a.from p.past-spaces.result p.past-spaces.ensures a.kept.now o.room.ensures i.if1.false q.if2.false c.plain-token2.result b.begun.result b.begun.ensures c.before.if3.true c.plain-token2.ensures
+    let a = c.args in
+    answers_single a.bytes.now a.from c.past_spaces-first.result c.past_spaces-first.ensures a.kept.now c.room.ensures c.if-first-bytes.false c.if-head-eq34.false c.plain_token-then-mode-eq-WHOLE.result c.begun-mode.result c.begun-mode.ensures c.if-mode-eq-WHOLE.true c.plain_token-then-mode-eq-WHOLE.ensures
 
-returns_4 : tie.Need-returns-4
+returns_4 : tie.Need-returns
 returns_4 c =
-    let b = c.before.before in
-    let q = b.before in
-    let i = q.before.before in
-    let p = i.before in
-    let o = p.before in
-    let a = o.before.before.before.args in
-    answers_bare a.bytes.now a.from p.past-spaces.result p.past-spaces.ensures a.kept.now o.room.ensures i.if1.false q.if2.false c.read-bare.result b.begun.result b.begun.ensures c.before.if3.false c.read-bare.ensures
+    let a = c.args in
+    answers_bare a.bytes.now a.from c.past_spaces-first.result c.past_spaces-first.ensures a.kept.now c.room.ensures c.if-first-bytes.false c.if-head-eq34.false c.read_bare.result c.begun-mode.result c.begun-mode.ensures c.if-mode-eq-WHOLE.false c.read_bare.ensures
 
 pub next_spec : {M : Type 1} → statement M
 next_spec =

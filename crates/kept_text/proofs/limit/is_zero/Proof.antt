@@ -11,9 +11,9 @@ is_zero_spec =
     tie.close
     (tie.spec
     (λ c. search rules)
-    (λ c. sym (zero_of_one c.before.before.args.text.now c.before.if1.true))
+    (λ c. sym (zero_of_one c.args.text.now c.if-text-eq1.true))
     (λ c. search rules)
     (λ c. search rules)
-    (λ c. rw (zero_of_two _ c.before.before.before.if2.true, eq-eqb _ _ c.before.if3.true))
-    (λ c. rw (zero_of_two _ c.before.before.if2.true, ne_eqb _ _ c.if3.false))
-    (λ c. sym (zero_of_other c.before.before.args.text.now c.before.if1.false c.if2.false)))
+    (λ c. rw (zero_of_two _ c.if-text-eq2.true, eq-eqb _ _ c.if-text-eq43.true))
+    (λ c. rw (zero_of_two _ c.if-text-eq2.true, ne_eqb _ _ c.if-text-eq43.false))
+    (λ c. sym (zero_of_other c.args.text.now c.if-text-eq1.false c.if-text-eq2.false)))

@@ -8,31 +8,28 @@ use Rattle.kept_text.proofs.LimitText.{spare, stored, full}
 use Rattle.kept_text.proofs.limit.keep_byte.Statement.{statement}
 use Rattle.kept_text.proofs.limit.keep_byte.Tie as tie
 
-returns : tie.Need-returns
+returns : tie.Need-returns-then-is_spare
 returns c =
-    let s = c.before.before.before.before in
-    (s.requires, spare s.args.text.now s.args.len s.args.byte s.requires (sym c.before.is-spare.ensures ∙ c.if1.true))
+    (c.requires, spare c.args.text.now c.args.len c.args.byte c.requires (sym c.is_spare.ensures ∙ c.if-is_spare.true))
 
-returns_2 : tie.Need-returns-2
-returns_2 c =
-    let s = c.before.before.before.before.before in (
-      simp length-set (omega arith),
-      stored s.args.text.now s.args.len s.args.byte s.requires (sym c.before.before.is-spare.ensures ∙ c.before.if1.false) c.if2.true,
-    )
+returns_2 : tie.Need-returns-then-len-text
+returns_2 c = (
+  simp length-set (omega arith),
+  stored c.args.text.now c.args.len c.args.byte c.requires (sym c.is_spare.ensures ∙ c.if-is_spare.false) c.if-len-text.true,
+)
 
-returns_3 : tie.Need-returns-3
-returns_3 c =
-    let s = c.before.before.before.before.before in (
-      s.requires,
-      full s.args.text.now s.args.len s.args.byte s.requires (sym c.before.before.is-spare.ensures ∙ c.before.if1.false) c.if2.false,
-    )
+returns_3 : tie.Need-returns
+returns_3 c = (
+  c.requires,
+  full c.args.text.now c.args.len c.args.byte c.requires (sym c.is_spare.ensures ∙ c.if-is_spare.false) c.if-len-text.false,
+)
 
 pub keep_byte_spec : {M : Type 1} → statement M
 keep_byte_spec =
     tie.close
     (tie.spec
     (λ c. search rules)
-    (λ c. sym (length-take-le _ _ c.before.before.requires))
+    (λ c. sym (length-take-le _ _ c.requires))
     (λ c κs. search rules)
     (λ c. search rules)
     returns

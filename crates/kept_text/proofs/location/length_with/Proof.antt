@@ -5,17 +5,17 @@ use Rattle.kept_text.specs.Untrimmed.{length_with}
 use Rattle.kept_text.proofs.location.length_with.Statement.{statement}
 use Rattle.kept_text.proofs.location.length_with.Tie as tie
 
-returns : tie.Need-returns
+returns : tie.Need-returns-then-at-slots
 unfolding length_with
-returns c = rw (lt-ltb _ _ c.if1.true)
+returns c = rw (lt-ltb _ _ c.if-at-slots.true)
 
-returns_2 : tie.Need-returns-2
+returns_2 : tie.Need-returns-then-byte-eq47
 unfolding length_with
-returns_2 c = rw (le-ltb _ _ c.before.if1.false, eq-eqb _ _ c.if2.true)
+returns_2 c = rw (le-ltb _ _ c.if-at-slots.false, eq-eqb _ _ c.if-byte-eq47.true)
 
-returns_3 : tie.Need-returns-3
+returns_3 : tie.Need-returns
 unfolding length_with
-returns_3 c = rw (le-ltb _ _ c.before.if1.false, ne_eqb _ _ c.if2.false)
+returns_3 c = rw (le-ltb _ _ c.if-at-slots.false, ne_eqb _ _ c.if-byte-eq47.false)
 
 pub length_with_spec : {M : Type 1} → statement M
 length_with_spec = tie.close (tie.spec (λ c. search rules) returns returns_2 (λ c. search rules) returns_3)

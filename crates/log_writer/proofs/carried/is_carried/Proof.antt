@@ -12,26 +12,23 @@ use Rattle.log_writer.proofs.Answers.{too_many, few}
 use Rattle.log_writer.proofs.carried.is_carried.Statement.{statement}
 use Rattle.log_writer.proofs.carried.is_carried.Tie as tie
 
-abbrev invariant_loop : tie.invariant_loop
+abbrev invariant_loop : tie.invariant-loop-i
 invariant_loop offers t n none ok₀ i₀ ok i = Looked read_update (is_carried_update offers) no_update t.items t.count 64 i ok
 
-abbrev decreases_loop : tie.decreases_loop
+abbrev decreases_loop : tie.decreases-loop-i
 decreases_loop offers t n none ok₀ i₀ ok i = t.count - i
 
-loop_again : tie.Need-loop-preserved invariant_loop decreases_loop
+loop_again : tie.Need-loop-i-preserved invariant_loop decreases_loop
 loop_again c =
-    let j = c.before in
-    let l = c.before.before.before in
-    let a = c.before.before.before.before.before.before.before.args in
-    looked_on read_update (is_carried_update a.offers.now) no_update a.t1.items a.t1.count 64 l.loop.i l.loop.ok _ _ j.if2.x l.loop.invariant c.before.before.loop-test.true
-    (⊎_elim (λ w. inl (w.0.taken, w.2)) (λ w. inr (w.0.left, w.1 ∙ c.before.before.before.before.blank.ensures)) j.if2.branch) c.update-carried.ensures
+    let a = c.args in
+    looked_on read_update (is_carried_update a.offers.now) no_update a.t.items a.t.count 64 c.loop-i.i c.loop-i.ok _ _ c.if-i-lt-UPDATES.x c.loop-i.invariant c.loop-i-test.true
+    (⊎_elim (λ w. inl (w.if-i-lt-UPDATES.true, w.x-is)) (λ w. inr (w.if-i-lt-UPDATES.false, w.x-is ∙ c.blank-none.ensures)) c.if-i-lt-UPDATES.branch-raw) c.update_carried-ok.ensures
 
-returns_2 : tie.Need-returns-2 invariant_loop decreases_loop
+returns_2 : tie.Need-returns invariant_loop decreases_loop
 unfolding read_updates
 returns_2 c =
-    let l = c.before in
-    let a = c.before.before.before.before.before.args in
-    looked_end read_update (is_carried_update a.offers.now) no_update a.t1.items a.t1.count 64 l.loop.i l.loop.ok l.loop.invariant c.loop-test.false ∙ few a.t1 a.offers.now c.before.before.before.if1.false
+    let a = c.args in
+    looked_end read_update (is_carried_update a.offers.now) no_update a.t.items a.t.count 64 c.loop-i.i c.loop-i.ok c.loop-i.invariant c.loop-i-test.false ∙ few a.t a.offers.now c.if-n-gt-UPDATES.false
 
 pub is_carried_spec : {M : Type 1} → statement M
 is_carried_spec =
@@ -39,7 +36,7 @@ is_carried_spec =
     (tie.spec
     invariant_loop
     decreases_loop
-    (λ c. let a = c.before.before.args in too_many a.t1 a.offers.now c.if1.true)
+    (λ c. let a = c.args in too_many a.t a.offers.now c.if-n-gt-UPDATES.true)
     (λ c κs. search rules)
     (λ c. (search (rules, slots), refl))
     (λ c. search rules)

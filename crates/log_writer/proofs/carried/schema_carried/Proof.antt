@@ -11,4 +11,4 @@ schema_carried_spec =
     (tie.spec
     (λ c κs. search rules)
     (λ c κs. search rules)
-    (λ c. let a = c.before.before.before.before.args in schema_named a.offers.now (read_schema_offer a.o) c.before.before.schema.result c.before.before.schema.ensures c.before.schema-named.ensures))
+    (λ c. let a = c.args in schema_named a.offers.now (read_schema_offer a.o) c.schema-offered.result c.schema-offered.ensures c.schema_named.ensures))

@@ -11,4 +11,4 @@ spec_carried_spec =
     (tie.spec
     (λ c κs. search rules)
     (λ c κs. search rules)
-    (λ c. let a = c.before.before.before.before.args in spec_named_lem a.offers.now (read_spec_offer a.o) c.before.before.spec.result c.before.before.spec.ensures c.before.spec-named.ensures))
+    (λ c. let a = c.args in spec_named_lem a.offers.now (read_spec_offer a.o) c.spec-offered.result c.spec-offered.ensures c.spec_named.ensures))

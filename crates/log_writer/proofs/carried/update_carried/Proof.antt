@@ -10,4 +10,4 @@ update_carried_spec =
     (tie.spec
     (λ c κs. search rules)
     (λ c κs. search rules)
-    (λ c. let a = c.before.before.before.args in carried_is a.offers.now a.u c.before.is-formed.ensures c.kind-carried.ensures))
+    (λ c. let a = c.args in carried_is a.offers.now a.u c.is_formed.ensures c.kind_carried.ensures))

@@ -15,27 +15,25 @@ use Rattle.file_tables.proofs.Tables.{slots, table_on, table_end}
 use Rattle.log_writer.proofs.ids.put_spec_ids.Statement.{statement}
 use Rattle.log_writer.proofs.ids.put_spec_ids.Tie as tie
 
-abbrev invariant_loop : tie.invariant_loop
-invariant_loop buffer₀ at t n none to₀ i₀ t10 t11 buffer to i = Putting buffer₀ to₀ (items number_text (map (λ (x : SpecId). x.0) (take i (counted no_spec_id t.items t.count)))) to buffer i t.count × (length t.items ≡ 16)
+abbrev invariant_loop : tie.invariant-loop-i
+invariant_loop buffer₀ at t n none to₀ i₀ buffer to i = Putting buffer₀ to₀ (items number_text (map (λ (x : SpecId). x.0) (take i (counted no_spec_id t.items t.count)))) to buffer i t.count × (length t.items ≡ 16)
 
-abbrev decreases_loop : tie.decreases_loop
-decreases_loop buffer₀ at t n none to₀ i₀ t10 t11 buffer to i = t.count - i
+abbrev decreases_loop : tie.decreases-loop-i
+decreases_loop buffer₀ at t n none to₀ i₀ buffer to i = t.count - i
 
-loop_again : tie.Need-loop-preserved invariant_loop decreases_loop
+loop_again : tie.Need-loop-i-preserved invariant_loop decreases_loop
 loop_again c =
-    let l = c.before.before.before.before.before.before.before.before.before.before.before.before.before in
-    let a = c.before.before.before.before.before.before.before.before.before.before.before.before.before.before.before.args in (
-      putting_on l.loop.invariant.0 (then c.before.before.before.before.before.before.before.before.put_if.ensures (is c.before.before.put-number.ensures (ap number_text c.before.before.before.of_spec.ensures))) (c.before.before.put-number.auto.0 ∙ c.before.before.before.before.before.before.before.before.put_if.auto.0) c.before.before.before.before.before.before.before.before.before.before.before.before.loop-test.true
-          (table_on (λ (x : SpecId). x.0) number_text no_spec_id a.t3.items a.t3.count 16 _ l.loop.i _ l.loop.invariant.1 c.before.before.before.before.before.before.before.before.before.before.before.before.loop-test.true
-          (⊎_elim (λ w. inl (w.0.taken, w.2)) (λ w. inr (w.0.left, w.1)) c.before.before.before.before.before.before.before.before.before.before.before.if1.branch)),
-      l.loop.invariant.1,
+    let a = c.args in (
+      putting_on c.loop-i.invariant.0 (then c.put_if-to.ensures (is c.put_number-to.ensures (ap number_text c.of_spec.ensures))) (c.put_number-to.auto.buffer ∙ c.put_if-to.auto.buffer) c.loop-i-test.true
+          (table_on (λ (x : SpecId). x.0) number_text no_spec_id a.t.items a.t.count 16 _ c.loop-i.i _ c.loop-i.invariant.1 c.loop-i-test.true
+          (⊎_elim (λ w. inl (w.if-i-lt-REMOVALS.true, w.x-is)) (λ w. inr (w.if-i-lt-REMOVALS.false, w.x-is)) c.if-i-lt-REMOVALS.branch-raw)),
+      c.loop-i.invariant.1,
     )
 
 returns : tie.Need-returns invariant_loop decreases_loop
 returns c =
-    let a = c.before.before.before.args in
-    let l = c.before in
-    is l.loop.invariant.0.puts (table_end (λ (x : SpecId). x.0) number_text no_spec_id a.t3.items a.t3.count l.loop.i c.loop-test.false)
+    let a = c.args in
+    is c.loop-i.invariant.0.puts (table_end (λ (x : SpecId). x.0) number_text no_spec_id a.t.items a.t.count c.loop-i.i c.loop-i-test.false)
 
 pub put_spec_ids_spec : {M : Type 1} → statement M
 put_spec_ids_spec =
@@ -46,13 +44,11 @@ put_spec_ids_spec =
     (λ c. (putting (omega arith), search (rules, slots)))
     (λ c. search rules)
     (λ c. search rules)
-    (λ c. search rules)
     (λ c κs. search rules)
-    (λ c. search rules)
     (λ c κs. search rules)
     (λ c κs. search rules)
     (λ c. search rules)
     (λ c. search rules)
     loop_again
-    (λ c. c.before.loop.invariant.0.size)
+    (λ c. c.loop-i.invariant.0.size)
     returns)

@@ -17,29 +17,27 @@ use Rattle.log_writer.proofs.Texts.{log_is}
 use Rattle.log_writer.proofs.log.put_log.Statement.{statement}
 use Rattle.log_writer.proofs.log.put_log.Tie as tie
 
-abbrev invariant_loop : tie.invariant_loop
-invariant_loop buffer₀ offers t n none to₀ i₀ t10 t11 buffer to i = Putting buffer₀ to₀ (items (update_text offers) (map read_update (take i (counted no_update t.items t.count)))) to buffer i t.count × (length t.items ≡ 64)
+abbrev invariant_loop : tie.invariant-loop-i
+invariant_loop buffer₀ offers t n none to₀ i₀ buffer to i = Putting buffer₀ to₀ (items (update_text offers) (map read_update (take i (counted no_update t.items t.count)))) to buffer i t.count × (length t.items ≡ 64)
 
-abbrev decreases_loop : tie.decreases_loop
-decreases_loop buffer₀ offers t n none to₀ i₀ t10 t11 buffer to i = t.count - i
+abbrev decreases_loop : tie.decreases-loop-i
+decreases_loop buffer₀ offers t n none to₀ i₀ buffer to i = t.count - i
 
-loop_again : tie.Need-loop-preserved invariant_loop decreases_loop
+loop_again : tie.Need-loop-i-preserved invariant_loop decreases_loop
 loop_again c =
-    let l = c.before.before.before.before.before.before.before.before.before.before.before in
-    let a = c.before.before.before.before.before.before.before.before.before.before.before.before.before.before.before.before.before.before.before.before.args in (
-      putting_on l.loop.invariant.0 (then c.before.before.before.before.before.before.put_if.ensures c.before.before.put-update.ensures) (c.before.before.put-update.auto.0 ∙ c.before.before.before.before.before.before.put_if.auto.0) c.before.before.before.before.before.before.before.before.before.before.loop-test.true
-          (table_on read_update (update_text a.offers.now) no_update a.t2.items a.t2.count 64 _ l.loop.i _ l.loop.invariant.1 c.before.before.before.before.before.before.before.before.before.before.loop-test.true
-          (⊎_elim (λ w. inl (w.0.taken, w.2)) (λ w. inr (w.0.left, w.1 ∙ c.before.before.before.before.before.before.before.before.before.before.before.before.before.before.before.before.before.blank.ensures)) c.before.before.before.before.before.before.before.before.before.if1.branch)),
-      l.loop.invariant.1,
+    let a = c.args in (
+      putting_on c.loop-i.invariant.0 (then c.put_if-to.ensures c.put_update-to.ensures) (c.put_update-to.auto.buffer ∙ c.put_if-to.auto.buffer) c.loop-i-test.true
+          (table_on read_update (update_text a.offers.now) no_update a.t.items a.t.count 64 _ c.loop-i.i _ c.loop-i.invariant.1 c.loop-i-test.true
+          (⊎_elim (λ w. inl (w.if-i-lt-UPDATES.true, w.x-is)) (λ w. inr (w.if-i-lt-UPDATES.false, w.x-is ∙ c.blank-none.ensures)) c.if-i-lt-UPDATES.branch-raw)),
+      c.loop-i.invariant.1,
     )
 
 returns : tie.Need-returns invariant_loop decreases_loop
 unfolding read_updates
 returns c =
-    let a = c.before.before.before.before.before.before.before.before.before.before.before.before.before.before.before.args in
-    let l = c.before.before.before.before.before.before in
-    let told = is l.loop.invariant.0.puts (table_end read_update (update_text a.offers.now) no_update a.t2.items a.t2.count l.loop.i c.before.before.before.before.before.loop-test.false) in
-    is (then (then c.before.before.before.before.before.before.before.before.before.put.ensures told) c.before.before.put2.ensures) (log_is a.offers.now (read_updates a.t2))
+    let a = c.args in
+    let told = is c.loop-i.invariant.0.puts (table_end read_update (update_text a.offers.now) no_update a.t.items a.t.count c.loop-i.i c.loop-i-test.false) in
+    is (then (then c.put-to.ensures told) c.put.ensures) (log_is a.offers.now (read_updates a.t))
 
 pub put_log_spec : {M : Type 1} → statement M
 put_log_spec =
@@ -48,18 +46,15 @@ put_log_spec =
     invariant_loop
     decreases_loop
     (λ c κs. search rules)
-    (λ c. search rules)
     (λ c κs. search rules)
-    (λ c. (putting (omega arith), search (rules, slots, c.before.before.before.before.before.before.before.before.well-formed.1.0.1.1.0)))
-    (λ c. search rules)
+    (λ c. (putting (omega arith), search (rules, slots, c.well_formed.1.0.1.1.0)))
     (λ c. search rules)
     (λ c. search rules)
     (λ c κs. search rules)
     (λ c κs. search rules)
-    (λ c. omega (arith, c.before.before.before.before.before.before.before.before.before.before.before.before.before.before.before.before.before.before.before.before.well-formed.1.0.1.1.1.0.1))
+    (λ c. omega (arith, c.well_formed.1.0.1.1.1.0.1))
     (λ c. search rules)
     loop_again
-    (λ c. search rules)
     (λ c κs. search rules)
-    (λ c. c.before.before.put2.auto.0 ∙ c.before.before.before.before.before.before.loop.invariant.0.size ∙ c.before.before.before.before.before.before.before.before.before.put.auto.0)
+    (λ c. c.put.auto.buffer ∙ c.loop-i.invariant.0.size ∙ c.put-to.auto.buffer)
     returns)

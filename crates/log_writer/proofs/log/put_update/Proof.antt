@@ -14,5 +14,5 @@ put_update_spec =
     (λ c κs. search rules)
     (λ c κs. search rules)
     (λ c. search rules)
-    (λ c. let a = c.before.before.before.before.before.before.before.before.args in is c.before.before.put-kind.ensures (tidy_text a.offers.now a.u (sym c.before.before.before.before.before.is-tidy.ensures ∙ c.before.before.before.before.if1.true)))
-    (λ c. let a = c.before.before.before.before.args in is (nothing (omega arith)) (untidy_text a.offers.now a.u (sym c.before.is-tidy.ensures ∙ c.if1.false))))
+    (λ c. let a = c.args in is c.put_kind.ensures (tidy_text a.offers.now a.u (sym c.is_tidy.ensures ∙ c.if-is_tidy.true)))
+    (λ c. let a = c.args in is (nothing (omega arith)) (untidy_text a.offers.now a.u (sym c.is_tidy.ensures ∙ c.if-is_tidy.false))))

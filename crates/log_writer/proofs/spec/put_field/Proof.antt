@@ -10,18 +10,13 @@ pub put_field_spec : {M : Type 1} → statement M
 put_field_spec =
     tie.close
     (tie.spec
-    (λ c. search rules)
     (λ c κs. search rules)
     (λ c κs. search rules)
-    (λ c. search rules)
     (λ c κs. search rules)
     (λ c κs. search rules)
-    (λ c. search rules)
-    (λ c κs. search rules)
-    (λ c. search rules)
     (λ c κs. search rules)
     (λ c κs. search rules)
-    (λ c. search rules)
     (λ c κs. search rules)
-    (λ c. c.before.before.put2.auto.0 ∙ c.before.before.before.before.before.before.before.put-transform.auto.0 ∙ c.before.before.before.before.before.before.before.before.before.before.before.put.auto.0 ∙ c.before.before.before.before.before.before.before.before.before.before.before.before.before.before.before.before.put-name.auto.0 ∙ c.before.before.before.before.before.before.before.before.before.before.before.before.before.before.before.before.before.before.before.before.before.put-number2.auto.0 ∙ c.before.before.before.before.before.before.before.before.before.before.before.before.before.before.before.before.before.before.before.before.before.before.before.before.before.before.before.put-number.auto.0)
-    (λ c. let a = c.before.before.before.before.before.before.before.before.before.before.before.before.before.before.before.before.before.before.before.before.before.before.before.before.before.before.before.before.before.before.before.before.args in is (then (then (then (then (then c.before.before.before.before.before.before.before.before.before.before.before.before.before.before.before.before.before.before.before.before.before.before.before.before.before.before.before.put-number.ensures c.before.before.before.before.before.before.before.before.before.before.before.before.before.before.before.before.before.before.before.before.before.put-number2.ensures) c.before.before.before.before.before.before.before.before.before.before.before.before.before.before.before.before.put-name.ensures) c.before.before.before.before.before.before.before.before.before.before.before.put.ensures) c.before.before.before.before.before.before.before.put-transform.ensures) c.before.before.put2.ensures) (field_is a.f c.before.before.before.before.before.before.before.before.before.before.before.before.before.before.before.before.before.before.before.before.before.before.before.before.before.before.before.before.of_field.ensures c.before.before.before.before.before.before.before.before.before.before.before.before.before.before.before.before.before.before.before.before.before.before.of-field2.ensures)))
+    (λ c κs. search rules)
+    (λ c. c.put.auto.buffer ∙ c.put_transform-at.auto.buffer ∙ c.put-at.auto.buffer ∙ c.put_name-at.auto.buffer ∙ c.put_number-at-2.auto.buffer ∙ c.put_number-at.auto.buffer)
+    (λ c. let a = c.args in is (then (then (then (then (then c.put_number-at.ensures c.put_number-at-2.ensures) c.put_name-at.ensures) c.put-at.ensures) c.put_transform-at.ensures) c.put.ensures) (field_is a.f c.of_field.ensures c.of_field-2.ensures)))

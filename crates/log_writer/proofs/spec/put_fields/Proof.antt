@@ -15,27 +15,25 @@ use Rattle.file_tables.proofs.Tables.{slots, table_on, table_end}
 use Rattle.log_writer.proofs.spec.put_fields.Statement.{statement}
 use Rattle.log_writer.proofs.spec.put_fields.Tie as tie
 
-abbrev invariant_loop : tie.invariant_loop
-invariant_loop buffer₀ at t n none to₀ i₀ t10 buffer to i = Putting buffer₀ to₀ (items partition_text (map read_partition_field (take i (counted no_partition_field t.items t.count)))) to buffer i t.count × (length t.items ≡ 8)
+abbrev invariant_loop : tie.invariant-loop-i
+invariant_loop buffer₀ at t n none to₀ i₀ buffer to i = Putting buffer₀ to₀ (items partition_text (map read_partition_field (take i (counted no_partition_field t.items t.count)))) to buffer i t.count × (length t.items ≡ 8)
 
-abbrev decreases_loop : tie.decreases_loop
-decreases_loop buffer₀ at t n none to₀ i₀ t10 buffer to i = t.count - i
+abbrev decreases_loop : tie.decreases-loop-i
+decreases_loop buffer₀ at t n none to₀ i₀ buffer to i = t.count - i
 
-loop_again : tie.Need-loop-preserved invariant_loop decreases_loop
+loop_again : tie.Need-loop-i-preserved invariant_loop decreases_loop
 loop_again c =
-    let l = c.before.before.before.before.before.before.before.before.before.before.before in
-    let a = c.before.before.before.before.before.before.before.before.before.before.before.before.before.before.args in (
-      putting_on l.loop.invariant.0 (then c.before.before.before.before.before.before.put_if.ensures c.before.before.put-field.ensures) (c.before.before.put-field.auto.0 ∙ c.before.before.before.before.before.before.put_if.auto.0) c.before.before.before.before.before.before.before.before.before.before.loop-test.true
-          (table_on read_partition_field partition_text no_partition_field a.t3.items a.t3.count 8 _ l.loop.i _ l.loop.invariant.1 c.before.before.before.before.before.before.before.before.before.before.loop-test.true
-          (⊎_elim (λ w. inl (w.0.taken, w.2)) (λ w. inr (w.0.left, w.1 ∙ c.before.before.before.before.before.before.before.before.before.before.before.before.blank.ensures)) c.before.before.before.before.before.before.before.before.before.if1.branch)),
-      l.loop.invariant.1,
+    let a = c.args in (
+      putting_on c.loop-i.invariant.0 (then c.put_if-to.ensures c.put_field-to.ensures) (c.put_field-to.auto.buffer ∙ c.put_if-to.auto.buffer) c.loop-i-test.true
+          (table_on read_partition_field partition_text no_partition_field a.t.items a.t.count 8 _ c.loop-i.i _ c.loop-i.invariant.1 c.loop-i-test.true
+          (⊎_elim (λ w. inl (w.if-i-lt-PARTITION_FIELDS.true, w.x-is)) (λ w. inr (w.if-i-lt-PARTITION_FIELDS.false, w.x-is ∙ c.blank-none.ensures)) c.if-i-lt-PARTITION_FIELDS.branch-raw)),
+      c.loop-i.invariant.1,
     )
 
 returns : tie.Need-returns invariant_loop decreases_loop
 returns c =
-    let a = c.before.before.before.before.args in
-    let l = c.before in
-    is l.loop.invariant.0.puts (table_end read_partition_field partition_text no_partition_field a.t3.items a.t3.count l.loop.i c.loop-test.false)
+    let a = c.args in
+    is c.loop-i.invariant.0.puts (table_end read_partition_field partition_text no_partition_field a.t.items a.t.count c.loop-i.i c.loop-i-test.false)
 
 pub put_fields_spec : {M : Type 1} → statement M
 put_fields_spec =
@@ -47,11 +45,10 @@ put_fields_spec =
     (λ c. (putting (omega arith), search (rules, slots)))
     (λ c. search rules)
     (λ c. search rules)
-    (λ c. search rules)
     (λ c κs. search rules)
     (λ c κs. search rules)
     (λ c. search rules)
     (λ c. search rules)
     loop_again
-    (λ c. c.before.loop.invariant.0.size)
+    (λ c. c.loop-i.invariant.0.size)
     returns)

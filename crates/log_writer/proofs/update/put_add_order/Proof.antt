@@ -11,10 +11,8 @@ pub put_add_order_spec : {M : Type 1} → statement M
 put_add_order_spec =
     tie.close
     (tie.spec
-    (λ c. search rules)
     (λ c κs. search rules)
     (λ c κs. search rules)
-    (λ c. search rules)
     (λ c κs. search rules)
-    (λ c. c.before.before.put2.auto.0 ∙ c.before.before.before.before.before.before.before.put_order.auto.0 ∙ c.before.before.before.before.before.before.before.before.before.before.before.put.auto.0)
-    (λ c. let a = c.before.before.before.before.before.before.before.before.before.before.before.before.before.before.before.args in is (then (then c.before.before.before.before.before.before.before.before.before.before.before.put.ensures c.before.before.before.before.before.before.before.put_order.ensures) c.before.before.put2.ensures) (add_order_is (read_sort_order a.o))))
+    (λ c. c.put.auto.buffer ∙ c.put_order-at.auto.buffer ∙ c.put-at.auto.buffer)
+    (λ c. let a = c.args in is (then (then c.put-at.ensures c.put_order-at.ensures) c.put.ensures) (add_order_is (read_sort_order a.o))))

@@ -14,14 +14,12 @@ put_add_schema_spec =
     tie.close
     (tie.spec
     (λ c κs. search rules)
-    (λ c. search rules)
     (λ c κs. search rules)
     (λ c κs. search rules)
-    (λ c. search rules)
     (λ c κs. search rules)
-    (λ c. c.before.before.put2.auto.0 ∙ c.before.before.before.before.before.before.before.put-schema.auto.0 ∙ c.before.before.before.before.before.before.before.before.before.before.before.put.auto.0)
-    (λ c. let a = c.before.before.before.before.before.before.before.before.before.before.before.before.before.before.before.before.before.before.args in
-    let h = c.before.before.before.before.before.before.before.before.before.before.before.before.before.before.before.schema.ensures in
-    let t = c.before.before.before.before.before.before.before.before.before.before.before.before.before.before.if1.true in
-    is (then (then c.before.before.before.before.before.before.before.before.before.before.before.put.ensures c.before.before.before.before.before.before.before.put-schema.ensures) c.before.before.put2.ensures) (schema_written a.offers.now (read_schema_offer a.o) (sym h.formed ∙ t) (schema_read a.offers.now (read_schema_offer a.o) c.before.before.before.before.before.before.before.before.before.before.before.before.before.before.before.schema.result h t)))
-    (λ c. let a = c.before.before.before.before.args in is (nothing (omega arith)) (schema_left_out a.offers.now (read_schema_offer a.o) (sym c.before.schema.ensures.formed ∙ c.if1.false))))
+    (λ c. c.put.auto.buffer ∙ c.put_schema-at.auto.buffer ∙ c.put-at.auto.buffer)
+    (λ c. let a = c.args in
+    let h = c.schema-offered.ensures in
+    let t = c.if-offered.true in
+    is (then (then c.put-at.ensures c.put_schema-at.ensures) c.put.ensures) (schema_written a.offers.now (read_schema_offer a.o) (sym h.formed ∙ t) (schema_read a.offers.now (read_schema_offer a.o) c.schema-offered.result h t)))
+    (λ c. let a = c.args in is (nothing (omega arith)) (schema_left_out a.offers.now (read_schema_offer a.o) (sym c.schema-offered.ensures.formed ∙ c.if-offered.false))))

@@ -11,10 +11,8 @@ pub put_add_snapshot_spec : {M : Type 1} → statement M
 put_add_snapshot_spec =
     tie.close
     (tie.spec
-    (λ c. search rules)
     (λ c κs. search rules)
     (λ c κs. search rules)
-    (λ c. search rules)
     (λ c κs. search rules)
-    (λ c. c.before.before.put2.auto.0 ∙ c.before.before.before.before.before.before.before.put-snapshot.auto.0 ∙ c.before.before.before.before.before.before.before.before.before.before.before.put.auto.0)
-    (λ c. let a = c.before.before.before.before.before.before.before.before.before.before.before.before.before.before.before.args in is (then (then c.before.before.before.before.before.before.before.before.before.before.before.put.ensures c.before.before.before.before.before.before.before.put-snapshot.ensures) c.before.before.put2.ensures) (add_snapshot_is (read_snapshot a.s))))
+    (λ c. c.put.auto.buffer ∙ c.put_snapshot-at.auto.buffer ∙ c.put-at.auto.buffer)
+    (λ c. let a = c.args in is (then (then c.put-at.ensures c.put_snapshot-at.ensures) c.put.ensures) (add_snapshot_is (read_snapshot a.s))))

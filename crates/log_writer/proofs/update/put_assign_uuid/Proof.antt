@@ -11,9 +11,7 @@ put_assign_uuid_spec =
     tie.close
     (tie.spec
     (λ c. search rules)
-    (λ c. search rules)
     (λ c κs. search rules)
-    (λ c. search rules)
     (λ c κs. search rules)
-    (λ c. c.before.before.put.auto.0 ∙ c.before.before.before.before.before.before.before.put-uuid.auto.0)
-    (λ c. let a = c.before.before.before.before.before.before.before.before.before.before.before.before.before.args in is (then c.before.before.before.before.before.before.before.put-uuid.ensures c.before.before.put.ensures) (uuid_is a.p.uuid)))
+    (λ c. c.put.auto.buffer ∙ c.put_uuid-at.auto.buffer)
+    (λ c. let a = c.args in is (then c.put_uuid-at.ensures c.put.ensures) (uuid_is a.p.uuid)))

@@ -11,9 +11,7 @@ pub put_remove_ref_spec : {M : Type 1} → statement M
 put_remove_ref_spec =
     tie.close
     (tie.spec
-    (λ c. search rules)
     (λ c κs. search rules)
-    (λ c. search rules)
     (λ c κs. search rules)
-    (λ c. c.before.before.put.auto.0 ∙ c.before.before.before.before.before.before.before.put-name.auto.0)
-    (λ c. let a = c.before.before.before.before.before.before.before.before.before.before.before.args in is (then c.before.before.before.before.before.before.before.put-name.ensures c.before.before.put.ensures) (remove_ref_is (read_name a.name))))
+    (λ c. c.put.auto.buffer ∙ c.put_name-at.auto.buffer)
+    (λ c. let a = c.args in is (then c.put_name-at.ensures c.put.ensures) (remove_ref_is (read_name a.name))))

@@ -11,10 +11,8 @@ pub put_remove_snapshots_spec : {M : Type 1} → statement M
 put_remove_snapshots_spec =
     tie.close
     (tie.spec
-    (λ c. search rules)
     (λ c κs. search rules)
     (λ c κs. search rules)
-    (λ c. search rules)
     (λ c κs. search rules)
-    (λ c. c.before.before.put2.auto.0 ∙ c.before.before.before.before.before.before.before.put-snapshot-ids.auto.0 ∙ c.before.before.before.before.before.before.before.before.before.before.before.put.auto.0)
-    (λ c. let a = c.before.before.before.before.before.before.before.before.before.before.before.before.before.before.before.args in is (then (then c.before.before.before.before.before.before.before.before.before.before.before.put.ensures c.before.before.before.before.before.before.before.put-snapshot-ids.ensures) c.before.before.put2.ensures) (remove_snapshots_is (read_snapshot_ids a.ids))))
+    (λ c. c.put.auto.buffer ∙ c.put_snapshot_ids-at.auto.buffer ∙ c.put-at.auto.buffer)
+    (λ c. let a = c.args in is (then (then c.put-at.ensures c.put_snapshot_ids-at.ensures) c.put.ensures) (remove_snapshots_is (read_snapshot_ids a.ids))))

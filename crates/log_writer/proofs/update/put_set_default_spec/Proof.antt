@@ -10,10 +10,8 @@ pub put_set_default_spec_spec : {M : Type 1} → statement M
 put_set_default_spec_spec =
     tie.close
     (tie.spec
-    (λ c. search rules)
     (λ c κs. search rules)
     (λ c κs. search rules)
-    (λ c. search rules)
     (λ c κs. search rules)
-    (λ c. c.before.before.put.auto.0 ∙ c.before.before.before.before.before.before.before.put-number.auto.0)
-    (λ c. let a = c.before.before.before.before.before.before.before.before.before.before.before.before.args in is (then c.before.before.before.before.before.before.before.put-number.ensures c.before.before.put.ensures) (default_spec_is a.id.0 c.before.before.before.before.before.before.before.before.of_spec.ensures)))
+    (λ c. c.put.auto.buffer ∙ c.put_number-at.auto.buffer)
+    (λ c. let a = c.args in is (then c.put_number-at.ensures c.put.ensures) (default_spec_is a.id.0 c.of_spec.ensures)))

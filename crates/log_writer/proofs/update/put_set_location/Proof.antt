@@ -11,9 +11,7 @@ pub put_set_location_spec : {M : Type 1} → statement M
 put_set_location_spec =
     tie.close
     (tie.spec
-    (λ c. search rules)
     (λ c κs. search rules)
-    (λ c. search rules)
     (λ c κs. search rules)
-    (λ c. c.before.before.put.auto.0 ∙ c.before.before.before.before.before.before.before.put-text.auto.0)
-    (λ c. let a = c.before.before.before.before.before.before.before.before.before.before.before.args in is (then c.before.before.before.before.before.before.before.put-text.ensures c.before.before.put.ensures) (location_is (read_text a.location))))
+    (λ c. c.put.auto.buffer ∙ c.put_text-at.auto.buffer)
+    (λ c. let a = c.args in is (then c.put_text-at.ensures c.put.ensures) (location_is (read_text a.location))))

@@ -10,9 +10,7 @@ pub put_upgrade_spec : {M : Type 1} → statement M
 put_upgrade_spec =
     tie.close
     (tie.spec
-    (λ c. search rules)
     (λ c κs. search rules)
-    (λ c. search rules)
     (λ c κs. search rules)
-    (λ c. c.before.before.put.auto.0 ∙ c.before.before.before.before.before.before.before.put-natural.auto.0)
-    (λ c. let a = c.before.before.before.before.before.before.before.before.before.before.before.args in is (then c.before.before.before.before.before.before.before.put-natural.ensures c.before.before.put.ensures) (upgrade_is a.version)))
+    (λ c. c.put.auto.buffer ∙ c.put_natural-at.auto.buffer)
+    (λ c. let a = c.args in is (then c.put_natural-at.ensures c.put.ensures) (upgrade_is a.version)))

@@ -17,9 +17,8 @@ field_of_spec =
     tie.close
     (tie.spec
     (λ c κs. search rules)
-    (λ c. let s = c.before.before in record { sfits = omega (arith, c.number-at.ensures, id_small s.args.bytes.now s.requires.1) })
-    (λ c κs. let s = c.before.before in (search rules, name_tidy s.args.bytes.now s.requires.1))
+    (λ c. record { sfits = omega (arith, c.number_at-id.ensures, id_small c.args.bytes.now c.requires.1) })
+    (λ c κs. (search rules, name_tidy c.args.bytes.now c.requires.1))
     (λ c. search rules)
-    (λ c. let n = c.before.before in let s = n.before.before in
-    let z = to_z_pos w32 (omega (arith, n.number-at.ensures, id_small s.args.bytes.now s.requires.1)) ∙ ap pos n.number-at.ensures in
-    λ i. record { id = record { 0 = z i }; field_type = get_or s.args.bytes.now 4 0; name = c.before.name-at.ensures i }))
+    (λ c. let n = c.before.before in let z = to_z_pos w32 (omega (arith, n.number_at-id.ensures, id_small n.args.bytes.now n.requires.1)) ∙ ap pos n.number_at-id.ensures in
+    λ i. record { id = record { 0 = z i }; field_type = get_or n.args.bytes.now 4 0; name = c.name_at-name.ensures i }))

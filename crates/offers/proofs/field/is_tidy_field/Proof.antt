@@ -11,4 +11,4 @@ is_tidy_field_spec =
     (tie.spec
     (λ c κs. search rules)
     (λ c κs. search rules)
-    (λ c. rw (c.before.is-number-at.ensures, c.is-name-at.ensures) (sym (tidy_parts c.before.before.before.args.bytes.now))))
+    (λ c. rw (c.is_number_at.ensures, c.is_name_at.ensures) (sym (tidy_parts c.args.bytes.now))))

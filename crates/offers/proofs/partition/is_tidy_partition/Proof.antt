@@ -5,11 +5,11 @@ use Rattle.offers.proofs.Partitions.{tidy_parts}
 use Rattle.offers.proofs.partition.is_tidy_partition.Statement.{statement}
 use Rattle.offers.proofs.partition.is_tidy_partition.Tie as tie
 
-pub is_tidy_partition_spec_lem : {M : Type 1} → statement M
-is_tidy_partition_spec_lem =
+pub is_tidy_partition_spec : {M : Type 1} → statement M
+is_tidy_partition_spec =
     tie.close
     (tie.spec
     (λ c κs. search rules)
     (λ c κs. search rules)
     (λ c κs. search rules)
-    (λ c. rw (c.before.before.is-number-at.ensures, c.before.is-number-at2.ensures, c.is-name-at.ensures) (sym (tidy_parts c.before.before.before.before.args.bytes.now))))
+    (λ c. rw (c.is_number_at.ensures, c.is_number_at-2.ensures, c.is_name_at.ensures) (sym (tidy_parts c.args.bytes.now))))

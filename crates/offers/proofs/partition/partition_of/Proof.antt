@@ -18,22 +18,21 @@ partition_of_spec =
     tie.close
     (tie.spec
     (λ c κs. search rules)
-    (λ c. let s = c.before.before in record { sfits = omega (arith, c.number-at.ensures, source_small s.args.bytes.now s.requires.1) })
+    (λ c. record { sfits = omega (arith, c.number_at-source.ensures, source_small c.args.bytes.now c.requires.1) })
     (λ c κs. search rules)
-    (λ c. let s = c.before.before.before in record { sfits = omega (arith, c.number-at2.ensures, buckets_small s.args.bytes.now s.requires.1) })
+    (λ c. record { sfits = omega (arith, c.number_at-n.ensures, buckets_small c.args.bytes.now c.requires.1) })
     (λ c κs. search rules)
-    (λ c κs. let s = c.before.before.before.before in (search rules, name_tidy s.args.bytes.now s.requires.1))
+    (λ c κs. (search rules, name_tidy c.args.bytes.now c.requires.1))
     (λ c. search rules)
-    (λ c. let f = c.before.before in let b = f.before in let n = b.before in let s = n.before.before in
-    let bs = s.args.bytes.now in let id = s.args.id in
-    let x = to_z_pos w32 (omega (arith, n.number-at.ensures, source_small bs s.requires.1)) ∙ ap pos n.number-at.ensures in
-    let y = to_z_pos w32 (omega (arith, b.number-at2.ensures, buckets_small bs s.requires.1)) ∙ ap pos b.number-at2.ensures in
+    (λ c. let f = c.before.before in let b = f.before in let n = b.before in let bs = n.args.bytes.now in let id = n.args.id in
+    let x = to_z_pos w32 (omega (arith, n.number_at-source.ensures, source_small bs n.requires.1)) ∙ ap pos n.number_at-source.ensures in
+    let y = to_z_pos w32 (omega (arith, b.number_at-n.ensures, buckets_small bs n.requires.1)) ∙ ap pos b.number_at-n.ensures in
     let h = sym (flag_given id.given id.id.0) in
     λ i. record {
       source_id = record { 0 = x i };
-      field_id = record { 0 = f.number-of.ensures i };
+      field_id = record { 0 = f.number_of-field_id.ensures i };
       buckets = record { 0 = y i };
       transform = get_or bs 4 0;
       has_id = h i;
-      name = c.before.name-at.ensures i;
+      name = c.name_at-name.ensures i;
     }))

@@ -18,5 +18,5 @@ pub are_within_spec : {M : Type 1} → statement M
 are_within_spec =
     tie.close
     (tie.spec
-    (λ c. let a = c.before.args in sym (lt-leb (a.at + a.n) a.len (omega arith)))
-    (λ c. let a = c.before.args in left_over a.at a.n a.len (omega arith)))
+    (λ c. let a = c.args in sym (lt-leb (a.at + a.n) a.len (omega arith)))
+    (λ c. let a = c.args in left_over a.at a.n a.len (omega arith)))

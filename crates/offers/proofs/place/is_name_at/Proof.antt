@@ -10,10 +10,10 @@ is_name_at_spec =
     (tie.spec
     (λ c. search rules)
     (λ c κs. search rules)
-    (λ c. let n = c.before in let a = n.before.before.before.args in
-    too_long a.at a.bytes.now n.count.ensures.0 c.if1.true)
+    (λ c. let a = c.args in
+    too_long a.at a.bytes.now c.count-n.ensures.0 c.if-n-gt-NAME.true)
     (λ c. search rules)
     (λ c. search rules)
     (λ c κs. search rules)
-    (λ c. let n = c.before.before in let a = n.before.before.before.args in
-    rest_asked a.at a.bytes.now n.count.ensures.0 c.before.if1.false c.zeros-from.ensures))
+    (λ c. let a = c.args in
+    rest_asked a.at a.bytes.now c.count-n.ensures.0 c.if-n-gt-NAME.false c.zeros_from.ensures))

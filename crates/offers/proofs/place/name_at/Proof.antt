@@ -12,10 +12,10 @@ use Rattle.offers.proofs.Named.{name_room_lem, copied}
 use Rattle.offers.proofs.place.name_at.Statement.{statement}
 use Rattle.offers.proofs.place.name_at.Tie as tie
 
-abbrev invariant_loop : tie.invariant_loop
+abbrev invariant_loop : tie.invariant-loop-i
 invariant_loop bytes at first r₀ i₀ r i = Filled name_room 0 (bytes_after at bytes) r.bytes i
 
-abbrev decreases_loop : tie.decreases_loop
+abbrev decreases_loop : tie.decreases-loop-i
 decreases_loop bytes at first r₀ i₀ r i = 32 - i
 
 pub name_at_spec : {M : Type 1} → statement M
@@ -26,16 +26,15 @@ name_at_spec =
     decreases_loop
     (λ c. search rules)
     (λ c κs. search rules)
-    (λ c. filled_start (ap (λ (t : Name). t.bytes) c.blank.ensures))
+    (λ c. filled_start (ap (λ (t : Name). t.bytes) c.blank-r.ensures))
     (λ c. search rules)
     (λ c. search rules)
     (λ c. search rules)
     (λ c. search rules)
     (λ c. search rules)
-    (λ c. let l = c.before in let s = l.before.before.before.before in let a = s.args in
-    let r = name_room_lem a.at a.bytes.now s.requires.0 in
-    filled_on l.before.loop.invariant 0 (omega (arith, r, l.loop-test.true)) (omega (arith, r)) (sym (get_or-drop (a.at + 1) a.bytes.now l.before.loop.i 0)))
+    (λ c. let l = c.before in let a = l.args in
+    let r = name_room_lem a.at a.bytes.now l.requires.0 in
+    filled_on l.loop-i.invariant 0 (omega (arith, r, l.loop-i-test.true)) (omega (arith, r)) (sym (get_or-drop (a.at + 1) a.bytes.now l.loop-i.i 0)))
     (λ c. search rules)
     (λ c κs. search rules)
-    (λ c. let e = c.before.before in let s = e.before.before.before.before in
-    (λ j. record { bytes = e.before.loop.r.bytes; len = c.count.ensures.0 j }) ∙ copied s.args.at s.args.bytes.now s.requires.1 s.requires.0 e.before.loop.invariant e.loop-test.false))
+    (λ c. let e = c.before.before in (λ j. record { bytes = e.loop-i.r.bytes; len = c.count.ensures.0 j }) ∙ copied e.args.at e.args.bytes.now e.requires.1 e.requires.0 e.loop-i.invariant e.loop-i-test.false))

@@ -9,7 +9,7 @@ pub are_there_spec : {M : Type 1} → statement M
 are_there_spec =
     tie.close
     (tie.spec
-    (λ c. sym (rw (lt-leb _ _ c.if1.true)))
+    (λ c. sym (rw (lt-leb _ _ c.if-n-gt-PARTITION_FIELDS.true)))
     (λ c. search rules)
     (λ c κs. search rules)
-    (λ c. c.are-within.ensures ∙ sym (rw (le-leb _ _ c.before.if1.false))))
+    (λ c. c.are_within.ensures ∙ sym (rw (le-leb _ _ c.if-n-gt-PARTITION_FIELDS.false))))

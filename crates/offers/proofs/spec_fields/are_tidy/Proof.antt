@@ -13,10 +13,10 @@ use Rattle.offers.proofs.Pieces.{pieces_length, part_length, part_piece}
 use Rattle.offers.proofs.spec_fields.are_tidy.Statement.{statement}
 use Rattle.offers.proofs.spec_fields.are_tidy.Tie as tie
 
-abbrev invariant_loop : tie.invariant_loop
+abbrev invariant_loop : tie.invariant-loop-i
 invariant_loop bytes at n ok₀ i₀ ok i = Scanned (each is_tidy_partition) (partitions_of n (drop at bytes)) 0 i true ok
 
-abbrev decreases_loop : tie.decreases_loop
+abbrev decreases_loop : tie.decreases-loop-i
 decreases_loop bytes at n ok₀ i₀ ok i = n - i
 
 pub are_tidy_spec : {M : Type 1} → statement M
@@ -32,13 +32,13 @@ are_tidy_spec =
     (λ c. search rules)
     (λ c. search rules)
     (λ c. search rules)
-    (λ c κs. let l = c.before.before in let s = l.before.before in let o = s.args.o in
-    part_length partition_bytes s.args.bytes.now o.at o.count l.loop.i s.requires c.before.loop-test.true)
+    (λ c κs. let l = c.before.before in let o = l.args.o in
+    part_length partition_bytes l.args.bytes.now o.at o.count l.loop-i.i l.requires c.loop-i-test.true)
     (λ c. search rules)
     (λ c. search rules)
-    (λ c. let l = c.before.before.before in let s = l.before.before in let o = s.args.o in
-    let b = c.before.before.loop-test.true in
-    each_on l.loop.invariant [] (omega (arith, b, pieces_length partition_bytes o.count (drop o.at s.args.bytes.now)))
-    (c.is-tidy-partition.ensures ∙ ap is_tidy_partition (part_piece partition_bytes s.args.bytes.now o.at o.count l.loop.i s.requires b)))
-    (λ c. let s = c.before.before.before in let o = s.args.o in
-    each_end c.before.loop.invariant (omega (arith, c.loop-test.false, pieces_length partition_bytes o.count (drop o.at s.args.bytes.now)))))
+    (λ c. let l = c.before.before.before in let o = l.args.o in
+    let b = c.loop-i-test.true in
+    each_on is_tidy_partition l.loop-i.invariant [] (omega (arith, b, pieces_length partition_bytes o.count (drop o.at l.args.bytes.now)))
+    (c.is_tidy_partition-ok.ensures ∙ ap is_tidy_partition (part_piece partition_bytes l.args.bytes.now o.at o.count l.loop-i.i l.requires b)))
+    (λ c. let o = c.args.o in
+    each_end is_tidy_partition c.loop-i.invariant (omega (arith, c.loop-i-test.false, pieces_length partition_bytes o.count (drop o.at c.args.bytes.now)))))

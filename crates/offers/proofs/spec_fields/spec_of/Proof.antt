@@ -14,10 +14,10 @@ use Rattle.offers.proofs.Partitions.{pieces_counted, FilledPartitions, partition
 use Rattle.offers.proofs.spec_fields.spec_of.Statement.{statement}
 use Rattle.offers.proofs.spec_fields.spec_of.Tie as tie
 
-abbrev invariant_loop : tie.invariant_loop
+abbrev invariant_loop : tie.invariant-loop-i
 invariant_loop bytes o id at n r₀ i₀ r i = FilledPartitions bytes o r.items i
 
-abbrev decreases_loop : tie.decreases_loop
+abbrev decreases_loop : tie.decreases-loop-i
 decreases_loop bytes o id at n r₀ i₀ r i = n - i
 
 pub spec_of_spec : {M : Type 1} → statement M
@@ -27,7 +27,7 @@ spec_of_spec =
     invariant_loop
     decreases_loop
     (λ c κs. search rules)
-    (λ c. let s = c.before.before.before in partitions_start s.args.bytes.now s.args.t1 c.blank.ensures)
+    (λ c. partitions_start c.args.bytes.now c.args.o c.blank-r.ensures)
     (λ c. search rules)
     (λ c. search rules)
     (λ c. search rules)
@@ -36,17 +36,17 @@ spec_of_spec =
     (λ c. search rules)
     (λ c. search rules)
     (λ c. search rules)
-    (λ c κs. let l = c.before.before.before in let s = l.before.before.before.before in let o = s.args.t1 in
-    let bs = s.args.bytes.now in let b = c.before.before.loop-test.true in (
-      part_length partition_bytes bs o.at o.count l.loop.i s.requires.1.0 b,
-      ap is_tidy_partition (part_piece partition_bytes bs o.at o.count l.loop.i s.requires.1.0 b) ∙ all_at is_tidy_partition [] (partitions_of o.count (drop o.at bs)) s.requires.1.1 l.loop.i (omega (arith, b, pieces_counted bs o)),
+    (λ c κs. let l = c.before.before.before in let o = l.args.o in
+    let bs = l.args.bytes.now in let b = c.loop-i-test.true in (
+      part_length partition_bytes bs o.at o.count l.loop-i.i l.requires.1.0 b,
+      ap is_tidy_partition (part_piece partition_bytes bs o.at o.count l.loop-i.i l.requires.1.0 b) ∙ all_at is_tidy_partition [] (partitions_of o.count (drop o.at bs)) l.requires.1.1 l.loop-i.i (omega (arith, b, pieces_counted bs o)),
     ))
     (λ c. search rules)
     (λ c. search rules)
     (λ c. search rules)
     (λ c. search rules)
-    (λ c. let l = c.before.before.before.before in let s = l.before.before.before.before in let o = s.args.t1 in
-    let bs = s.args.bytes.now in let b = c.before.before.before.loop-test.true in
-    partitions_on bs o l.loop.invariant _ b s.requires.0 (search (rules, slots, s.well-formed.0.1.1.1.1.1.0))
-    (part_piece partition_bytes bs o.at o.count l.loop.i s.requires.1.0 b) c.partition-of.ensures)
-    (λ c. let s = c.before.before.before.before.before in partitions_end s.args.bytes.now s.args.t1 c.before.loop.invariant c.loop-test.false))
+    (λ c. let l = c.before.before.before.before in let o = l.args.o in
+    let bs = l.args.bytes.now in let b = c.loop-i-test.true in
+    partitions_on bs o l.loop-i.invariant _ b l.requires.0 (search (rules, slots, l.well_formed.0.1.1.1.1.1.0))
+    (part_piece partition_bytes bs o.at o.count l.loop-i.i l.requires.1.0 b) c.partition_of-f.ensures)
+    (λ c. partitions_end c.args.bytes.now c.args.o c.loop-i.invariant c.loop-i-test.false))

@@ -9,7 +9,6 @@ pub ref_reaches_spec : {M : Type 1} → statement M
 ref_reaches_spec =
     tie.close
     (tie.spec
-    (λ c. rw (eq-eqb _ _ c.if1.true))
+    (λ c. rw (eq-eqb _ _ c.if-x-office.true))
     (λ c κs. search rules)
-    (λ c. let e = c.before in
-    rw (ne_eqb _ _ e.if1.false) (rw (to_z-of_z (sfits_of e.before.before.struct_told.given.0.1)) at c.reach-meets.ensures)))
+    (λ c. rw (ne_eqb _ _ c.if-x-office.false) (rw (to_z-of_z (sfits_of c.struct_told-1.given.0.1)) at c.reach_meets.ensures)))

@@ -9,10 +9,10 @@ use Rattle.offices.specs.Reach.{ref_reaches}
 use Rattle.offices.proofs.reach.refs_reach.Statement.{statement}
 use Rattle.offices.proofs.reach.refs_reach.Tie as tie
 
-abbrev invariant_loop : tie.invariant_loop
+abbrev invariant_loop : tie.invariant-loop-i
 invariant_loop office ids parents removed t n i₀ i = Sought refs (ref_reaches office ids parents (read_snapshot_ids removed)) t i
 
-abbrev decreases_loop : tie.decreases_loop
+abbrev decreases_loop : tie.decreases-loop-i
 decreases_loop office ids parents removed t n i₀ i = n - i
 
 pub refs_reach_spec : {M : Type 1} → statement M
@@ -24,11 +24,9 @@ refs_reach_spec =
     (λ c. sought_start (tidy_refs c.requires.0))
     (λ c. search rules)
     (λ c. search rules)
-    (λ c κs. c.before.before.before.requires.1)
-    (λ c. let b = c.before.before.before in
-    found_here (tidy_refs b.before.before.requires.0) _ b.loop-test.true b.before.loop.invariant (sym c.before.ref_reaches.ensures ∙ c.if1.true))
+    (λ c κs. c.requires.1)
+    (λ c. found_here (tidy_refs c.requires.0) _ c.loop-i-test.true c.loop-i.invariant (sym c.ref_reaches.ensures ∙ c.if-ref_reaches.true))
     (λ c. search rules)
     (λ c. search rules)
-    (λ c. let b = c.before.before.before in
-    sought_on (tidy_refs b.before.before.requires.0) _ b.loop-test.true b.before.loop.invariant (sym c.before.ref_reaches.ensures ∙ c.if1.false))
-    (λ c. found_end (tidy_refs c.before.before.requires.0) c.loop-test.false c.before.loop.invariant))
+    (λ c. sought_on (tidy_refs c.requires.0) _ c.loop-i-test.true c.loop-i.invariant (sym c.ref_reaches.ensures ∙ c.if-ref_reaches.false))
+    (λ c. found_end (tidy_refs c.requires.0) c.loop-i-test.false c.loop-i.invariant))

@@ -10,10 +10,10 @@ use Rattle.offices.specs.Reach.{entry_names}
 use Rattle.offices.proofs.removal.log_names.Statement.{statement}
 use Rattle.offices.proofs.removal.log_names.Tie as tie
 
-abbrev invariant_loop : tie.invariant_loop
+abbrev invariant_loop : tie.invariant-loop-i
 invariant_loop ids removed log n i₀ i = Sought snapshot_log (entry_names ids (read_snapshot_ids removed)) log i
 
-abbrev decreases_loop : tie.decreases_loop
+abbrev decreases_loop : tie.decreases-loop-i
 decreases_loop ids removed log n i₀ i = n - i
 
 pub log_names_spec : {M : Type 1} → statement M
@@ -25,14 +25,12 @@ log_names_spec =
     (λ c. sought_start (tidy_snapshot_log c.requires.0))
     (λ c. search rules)
     (λ c. search rules)
-    (λ c κs. c.before.before.before.before.requires.1.1)
-    (λ c κs. c.before.before.before.before.before.requires.1.0)
-    (λ c. let b = c.before.before.before.before.before in
-    let p = b.before.before.requires in
-    found_here (tidy_snapshot_log p.0) _ b.loop-test.true b.before.loop.invariant (sym (ap₂ (λ (x y : Bool). x && y) c.before.before.has-snapshot.ensures c.before.is_held.ensures) ∙ c.if1.true))
+    (λ c κs. c.requires.1.1)
+    (λ c κs. c.requires.1.0)
+    (λ c. let p = c.requires in
+    found_here (tidy_snapshot_log p.0) _ c.loop-i-test.true c.loop-i.invariant (sym (ap₂ (λ (x y : Bool). x && y) c.has_snapshot.ensures c.is_held.ensures) ∙ c.if-has_snapshot-is_held.true))
     (λ c. search rules)
     (λ c. search rules)
-    (λ c. let b = c.before.before.before.before.before in
-    let p = b.before.before.requires in
-    sought_on (tidy_snapshot_log p.0) _ b.loop-test.true b.before.loop.invariant (sym (ap₂ (λ (x y : Bool). x && y) c.before.before.has-snapshot.ensures c.before.is_held.ensures) ∙ c.if1.false))
-    (λ c. found_end (tidy_snapshot_log c.before.before.requires.0) c.loop-test.false c.before.loop.invariant))
+    (λ c. let p = c.requires in
+    sought_on (tidy_snapshot_log p.0) _ c.loop-i-test.true c.loop-i.invariant (sym (ap₂ (λ (x y : Bool). x && y) c.has_snapshot.ensures c.is_held.ensures) ∙ c.if-has_snapshot-is_held.false))
+    (λ c. found_end (tidy_snapshot_log c.requires.0) c.loop-i-test.false c.loop-i.invariant))

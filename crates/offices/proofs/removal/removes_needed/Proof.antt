@@ -27,7 +27,7 @@ key x = x.id
 abbrev over : plain.Snapshot → ℤ
 over x = or_else x.parent (negsuc 0)
 
-module _ (c : tie.After-parents-of) where
+module _ (c : tie.After-parents_of-parents) where
   abbrev s : tie.Start
   s = c.before.before
 
@@ -35,22 +35,22 @@ module _ (c : tie.After-parents-of) where
   listed = read_snapshots s.args.snapshots
 
   abbrev h : Tidy snapshots s.args.snapshots
-  h = tidy_snapshots s.pre.1.0
+  h = tidy_snapshots s.requires.1.0
 
-  keys : c.before.ids-of.result ≡ pad snapshot_room (pos 0) (snapshot_ids listed)
-  keys = c.before.ids-of.ensures s.pre.1.0
+  keys : c.ids_of-ids.result ≡ pad snapshot_room (pos 0) (snapshot_ids listed)
+  keys = c.ids_of-ids.ensures s.requires.1.0
 
-  overs : c.parents-of.result ≡ pad snapshot_room (pos 0) (snapshot_parents listed)
-  overs = c.parents-of.ensures s.pre.1.0
+  overs : c.parents_of-parents.result ≡ pad snapshot_room (pos 0) (snapshot_parents listed)
+  overs = c.parents_of-parents.ensures s.requires.1.0
 
-  ids_lent : take s.args.snapshots.count c.before.ids-of.result ≡ snapshot_ids listed
+  ids_lent : take s.args.snapshots.count c.ids_of-ids.result ≡ snapshot_ids listed
   ids_lent = lent h key keys
 
-  parents_lent : take s.args.snapshots.count c.parents-of.result ≡ snapshot_parents listed
+  parents_lent : take s.args.snapshots.count c.parents_of-parents.result ≡ snapshot_parents listed
   parents_lent = lent h over overs
 
-  rising : ascending lt_z (take s.args.snapshots.count c.before.ids-of.result) ≡ true
-  rising = ap (ascending lt_z) ids_lent ∙ pairs_read key lt_z listed ∙ s.pre.1.1.0
+  rising : ascending lt_z (take s.args.snapshots.count c.ids_of-ids.result) ≡ true
+  rising = ap (ascending lt_z) ids_lent ∙ pairs_read key lt_z listed ∙ s.requires.1.1.0
 
 pub removes_needed_spec : {M : Type 1} → statement M
 removes_needed_spec =
@@ -69,9 +69,9 @@ removes_needed_spec =
     (λ c κs. let b = c.before.before.before.before.before in ((s b).requires.1.1.1.0, (rising b, (s b).requires.1.1.1.1)))
     (λ c m w. let r = c.before.before.before in
     let b = r.before.before.before in
-    ap₂ (λ (x y : Bool). x || y) r.refs-reach.ensures c.log-names.ensures
-    ∙ needed_second (s b).args.office m (read_snapshot_ids (s b).args.removed) w.named w.held w.history (s b).requires.1.0.fits (ids_lent b) (parents_lent b) (eq-eqb _ _ c.before.before.if1.true))
+    ap₂ (λ (x y : Bool). x || y) r.refs_reach-reached.ensures c.log_names.ensures
+    ∙ needed_second (s b).args.office m (read_snapshot_ids (s b).args.removed) w.named w.held w.history (s b).requires.1.0.fits (ids_lent b) (parents_lent b) (eq-eqb _ _ c.if-office-eq-SECOND_OFFICE.true))
     (λ c m w. let r = c.before in
     let b = r.before.before.before in
-    r.refs-reach.ensures
-    ∙ needed_first (s b).args.office m (read_snapshot_ids (s b).args.removed) w.named w.held w.history (s b).requires.1.0.fits (ids_lent b) (parents_lent b) (ne_eqb _ _ c.if1.false)))
+    r.refs_reach-reached.ensures
+    ∙ needed_first (s b).args.office m (read_snapshot_ids (s b).args.removed) w.named w.held w.history (s b).requires.1.0.fits (ids_lent b) (parents_lent b) (ne_eqb _ _ c.if-office-eq-SECOND_OFFICE.false)))

@@ -9,10 +9,10 @@ use Rattle.partitions.proofs.Named.{column_name}
 use Rattle.partitions.proofs.columns.clashes.Statement.{statement}
 use Rattle.partitions.proofs.columns.clashes.Tie as tie
 
-abbrev invariant_loop : tie.invariant_loop
+abbrev invariant_loop : tie.invariant-loop-i
 invariant_loop f s n ok₀ i₀ ok i = Asked schema_fields (clashes_with (read_partition_field f)) s 0 i ok
 
-abbrev decreases_loop : tie.decreases_loop
+abbrev decreases_loop : tie.decreases-loop-i
 decreases_loop f s n ok₀ i₀ ok i = n - i
 
 pub clashes_spec : {M : Type 1} → statement M
@@ -24,8 +24,8 @@ clashes_spec =
     (λ c. asked_start (tidy_schema c.requires.1))
     (λ c. search rules)
     (λ c. search rules)
-    (λ c κs. let b = c.before in let p = b.before.before.requires in (p.0, column_name p.1 b.before.loop.i _ b.loop-test.true))
+    (λ c κs. let p = c.requires in (p.0, column_name p.1 c.loop-i.i _ c.loop-i-test.true))
     (λ c. search rules)
     (λ c. search rules)
-    (λ c. let b = c.before.before in let l = b.before in asked_on (tidy_schema l.before.requires.1) l.loop.invariant _ b.loop-test.true c.clashes-with.ensures)
-    (λ c. asked_end (tidy_schema c.before.before.requires.1) c.before.loop.invariant c.loop-test.false))
+    (λ c. let b = c.before.before in asked_on (tidy_schema b.requires.1) b.loop-i.invariant _ b.loop-i-test.true c.clashes_with-ok.ensures)
+    (λ c. asked_end (tidy_schema c.requires.1) c.loop-i.invariant c.loop-i-test.false))

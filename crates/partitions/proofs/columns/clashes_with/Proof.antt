@@ -10,4 +10,4 @@ clashes_with_spec =
     (tie.spec
     (λ c κs. search rules)
     (λ c κs. search rules)
-    (λ c. let s = c.before.before.before in cc (names_alike s.args.column.name s.args.f.name s.requires.1 s.requires.0)))
+    (λ c. cc (names_alike c.args.column.name c.args.f.name c.requires.1 c.requires.0)))

@@ -8,10 +8,10 @@ use Rattle.partitions.proofs.Scans.{Asked, asked_start, asked_on, asked_end}
 use Rattle.partitions.proofs.columns.has_source.Statement.{statement}
 use Rattle.partitions.proofs.columns.has_source.Tie as tie
 
-abbrev invariant_loop : tie.invariant_loop
+abbrev invariant_loop : tie.invariant-loop-i
 invariant_loop f s n ok₀ i₀ ok i = Asked schema_fields (is_source (read_partition_field f)) s 0 i ok
 
-abbrev decreases_loop : tie.decreases_loop
+abbrev decreases_loop : tie.decreases-loop-i
 decreases_loop f s n ok₀ i₀ ok i = n - i
 
 pub has_source_spec : {M : Type 1} → statement M
@@ -26,5 +26,5 @@ has_source_spec =
     (λ c κs. search rules)
     (λ c. search rules)
     (λ c. search rules)
-    (λ c. let b = c.before.before in let l = b.before in asked_on (tidy_schema l.before.requires) l.loop.invariant _ b.loop-test.true c.is-source.ensures)
-    (λ c. asked_end (tidy_schema c.before.before.requires) c.before.loop.invariant c.loop-test.false))
+    (λ c. let b = c.before.before in asked_on (tidy_schema b.requires) b.loop-i.invariant _ b.loop-i-test.true c.is_source-ok.ensures)
+    (λ c. asked_end (tidy_schema c.requires) c.loop-i.invariant c.loop-i-test.false))

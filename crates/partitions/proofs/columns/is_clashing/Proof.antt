@@ -10,10 +10,10 @@ use Rattle.partitions.proofs.Named.{field_name_lem}
 use Rattle.partitions.proofs.columns.is_clashing.Statement.{statement}
 use Rattle.partitions.proofs.columns.is_clashing.Tie as tie
 
-abbrev invariant_loop : tie.invariant_loop
+abbrev invariant_loop : tie.invariant-loop-i
 invariant_loop s p n ok₀ i₀ ok i = Asked partition_fields (λ f. any (clashes_with f) (read_schema s).fields) p 0 i ok
 
-abbrev decreases_loop : tie.decreases_loop
+abbrev decreases_loop : tie.decreases-loop-i
 decreases_loop s p n ok₀ i₀ ok i = n - i
 
 pub is_clashing_spec : {M : Type 1} → statement M
@@ -26,8 +26,8 @@ is_clashing_spec =
     (λ c. asked_start (tidy_partition_spec c.requires.0))
     (λ c. search rules)
     (λ c. search rules)
-    (λ c κs. let b = c.before in let p = b.before.before.requires in (field_name_lem p.0 b.before.loop.i _ b.loop-test.true, p.1))
+    (λ c κs. let p = c.requires in (field_name_lem p.0 c.loop-i.i _ c.loop-i-test.true, p.1))
     (λ c. search rules)
     (λ c. search rules)
-    (λ c. let b = c.before.before in let l = b.before in asked_on (tidy_partition_spec l.before.requires.0) l.loop.invariant _ b.loop-test.true c.clashes.ensures)
-    (λ c. asked_end (tidy_partition_spec c.before.before.requires.0) c.before.loop.invariant c.loop-test.false))
+    (λ c. let b = c.before.before in asked_on (tidy_partition_spec b.requires.0) b.loop-i.invariant _ b.loop-i-test.true c.clashes-ok.ensures)
+    (λ c. asked_end (tidy_partition_spec c.requires.0) c.loop-i.invariant c.loop-i-test.false))

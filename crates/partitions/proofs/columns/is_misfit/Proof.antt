@@ -11,10 +11,10 @@ use Rattle.partitions.proofs.Scans.{Asked, asked_start, asked_on, asked_end}
 use Rattle.partitions.proofs.columns.is_misfit.Statement.{statement}
 use Rattle.partitions.proofs.columns.is_misfit.Tie as tie
 
-abbrev invariant_loop : tie.invariant_loop
+abbrev invariant_loop : tie.invariant-loop-i
 invariant_loop s p n ok₀ i₀ ok i = Asked partition_fields (λ f. not (any (is_source f) (read_schema s).fields)) p 0 i ok
 
-abbrev decreases_loop : tie.decreases_loop
+abbrev decreases_loop : tie.decreases-loop-i
 decreases_loop s p n ok₀ i₀ ok i = n - i
 
 pub is_misfit_spec : {M : Type 1} → statement M
@@ -30,5 +30,5 @@ is_misfit_spec =
     (λ c κs. search rules)
     (λ c. search rules)
     (λ c. search rules)
-    (λ c. let b = c.before.before in let l = b.before in asked_on (tidy_partition_spec l.before.requires.0) l.loop.invariant _ b.loop-test.true (ap not c.has-source.ensures))
-    (λ c. asked_end (tidy_partition_spec c.before.before.requires.0) c.before.loop.invariant c.loop-test.false))
+    (λ c. let b = c.before.before in asked_on (tidy_partition_spec b.requires.0) b.loop-i.invariant _ b.loop-i-test.true (ap not c.has_source.ensures))
+    (λ c. asked_end (tidy_partition_spec c.requires.0) c.loop-i.invariant c.loop-i-test.false))

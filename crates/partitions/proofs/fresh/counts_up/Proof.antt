@@ -1,4 +1,5 @@
 -- The ids before `i` are in sequence, and `wanted` is the next.
+use mir.Syntax.{w64}
 use Prim.Native.Nat.{◌-◌}
 use mathlib.Core.Path.{sym, ◌∙◌}
 use borrow.Author.Rules.{rules, sfits_of}
@@ -10,10 +11,10 @@ use Rattle.partitions.proofs.Sequence.{InSequence, sequence_start, sequence_on, 
 use Rattle.partitions.proofs.fresh.counts_up.Statement.{statement}
 use Rattle.partitions.proofs.fresh.counts_up.Tie as tie
 
-abbrev invariant_loop : tie.invariant_loop
+abbrev invariant_loop : tie.invariant-loop-i
 invariant_loop ids wanted₀ i₀ wanted i = InSequence ids wanted.0 i
 
-abbrev decreases_loop : tie.decreases_loop
+abbrev decreases_loop : tie.decreases-loop-i
 decreases_loop ids wanted₀ i₀ wanted i = length ids - i
 
 pub counts_up_spec : {M : Type 1} → statement M
@@ -25,11 +26,9 @@ counts_up_spec =
     (λ c. sequence_start c.requires)
     (λ c. search rules)
     (λ c. search rules)
-    (λ c. let b = c.before.before.before in let l = b.before in
-    sequence_broken l.loop.invariant b.loop-test.true (sym (eq_bits (get_or l.before.args.ids.now l.loop.i (pos 0)) l.loop.wanted.0 (sfits_of c.before.if12.given) (sfits_of c.before.before.struct_told.given.0.1)) ∙ ne_eqb _ _ c.if1.true))
+    (λ c. let b = c.before.before.before in sequence_broken b.loop-i.invariant b.loop-i-test.true (sym (eq_bits {w = w64} (get_or b.args.ids.now b.loop-i.i (pos 0)) b.loop-i.wanted.0 (sfits_of c.t8-1.given) (sfits_of c.struct_told-1.given.0.1)) ∙ ne_eqb _ _ c.if-ids-i.true))
     (λ c κs. search rules)
     (λ c. search rules)
     (λ c. search rules)
-    (λ c. let e = c.before in let b = e.before.before.before in let l = b.before in
-    sequence_on l.loop.invariant b.loop-test.true (sym (eq_bits (get_or l.before.args.ids.now l.loop.i (pos 0)) l.loop.wanted.0 (sfits_of e.before.if12.given) (sfits_of e.before.before.struct_told.given.0.1)) ∙ eq-eqb _ _ e.if1.false) c.next.ensures)
-    (λ c. sequence_end c.before.loop.invariant c.loop-test.false))
+    (λ c. let e = c.before in let b = e.before.before.before in sequence_on b.loop-i.invariant b.loop-i-test.true (sym (eq_bits {w = w64} (get_or b.args.ids.now b.loop-i.i (pos 0)) b.loop-i.wanted.0 (sfits_of e.t8-1.given) (sfits_of e.struct_told-1.given.0.1)) ∙ eq-eqb _ _ e.if-ids-i.false) c.next-wanted.ensures)
+    (λ c. sequence_end c.loop-i.invariant c.loop-i-test.false))

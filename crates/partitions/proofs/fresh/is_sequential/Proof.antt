@@ -11,7 +11,7 @@ is_sequential_spec =
     tie.close
     (tie.spec
     (λ c κs. search rules)
-    (λ c. let g = c.before in ids_within g.before.requires g.given-ids.ensures)
-    (λ c. let g = c.before.before in ids_slice g.before.requires g.given-ids.ensures)
-    (λ c κs. let g = c.before.before in ids_few g.before.requires g.given-ids.ensures)
-    (λ c. let g = c.before.before.before in c.counts_up.ensures ∙ ap (is_sequential first_partition_id) (ids_lent g.before.requires g.given-ids.ensures)))
+    (λ c. ids_within c.requires c.given_ids-given.ensures)
+    (λ c. ids_slice c.requires c.given_ids-given.ensures)
+    (λ c κs. ids_few c.requires c.given_ids-given.ensures)
+    (λ c. c.counts_up.ensures ∙ ap (is_sequential first_partition_id) (ids_lent c.requires c.given_ids-given.ensures)))

@@ -18,9 +18,8 @@ use Rattle.partitions.proofs.fresh.last_partition.Tie as tie
 
 top_fits : (c : tie.After-highest) → SFits w32 c.highest.result.0
 top_fits c =
-    let g = c.before.before.before.before.before in
-    let l = take g.given-ids.result.count g.given-ids.result.ids in
-    subst (SFits w32) (sym c.highest.ensures) (highest_fits w32 l (take_fits w32 g.given-ids.result.count g.given-ids.result.ids g.given-ids.ensures.1.1))
+    let l = take c.given_ids-given.result.count c.given_ids-given.result.ids in
+    subst (SFits w32) (sym c.highest.ensures) (highest_fits w32 l (take_fits w32 c.given_ids-given.result.count c.given_ids-given.result.ids c.given_ids-given.ensures.1.1))
 
 pub last_partition_spec : {M : Type 1} → statement M
 last_partition_spec =
@@ -29,17 +28,15 @@ last_partition_spec =
     (λ c κs. search rules)
     (λ c κs. search rules)
     (λ c κs. search rules)
-    (λ c κs. subst (SFits w32) (sym c.larger.ensures) (larger_fits w32 _ _ c.before.before.field-key.ensures.1 (record { sfits = omega arith })))
-    (λ c. let i = c.before.before in let k = i.before in let s = k.before.before.before in
-    let e = empty_told (read_partition_spec s.args.p).fields (read_length (tidy_partition_spec s.requires) ∙ i.if1.true) in
-    c.field-id.ensures ∙ c.before.larger.ensures ∙ rw (k.field-key.ensures.0, e))
-    (λ c. let g = c.before.before.before in ids_within g.before.requires g.given-ids.ensures)
-    (λ c. let g = c.before.before.before.before in ids_slice g.before.requires g.given-ids.ensures)
+    (λ c κs. subst (SFits w32) (sym c.larger.ensures) (larger_fits w32 _ _ c.field_key-k.ensures.1 (record { sfits = omega arith })))
+    (λ c. let i = c.before.before in let k = i.before in let e = empty_told (read_partition_spec k.args.p).fields (read_length (tidy_partition_spec k.requires) ∙ i.if-n-eq0.true) in
+    c.field_id.ensures ∙ c.larger.ensures ∙ rw (k.field_key-k.ensures.0, e))
+    (λ c. ids_within c.requires c.given_ids-given.ensures)
+    (λ c. ids_slice c.requires c.given_ids-given.ensures)
     (λ c κs. search rules)
     (λ c κs. search rules)
-    (λ c κs. subst (SFits w32) (sym c.larger2.ensures) (larger_fits w32 _ _ c.before.before.before.before.field-key.ensures.1 (top_fits c.before)))
-    (λ c. let h = c.before.before in let i = h.before.before in let k = i.before in let g = k.before.before in let s = g.before in
-    let t = tidy_partition_spec s.requires in
-    let e = used_told (read_partition_spec s.args.p).fields (λ z. i.if1.false (sym (read_length t) ∙ z)) in
-    let l = ids_lent s.requires g.given-ids.ensures in
-    c.field-id2.ensures ∙ c.before.larger2.ensures ∙ rw (k.field-key.ensures.0, e, h.highest.ensures, l)))
+    (λ c κs. subst (SFits w32) (sym c.larger-2.ensures) (larger_fits w32 _ _ c.field_key-k.ensures.1 (top_fits c.before)))
+    (λ c. let h = c.before.before in let i = h.before.before in let k = i.before in let g = k.before.before in let t = tidy_partition_spec g.requires in
+    let e = used_told (read_partition_spec g.args.p).fields (λ z. i.if-n-eq0.false (sym (read_length t) ∙ z)) in
+    let l = ids_lent g.requires g.given_ids-given.ensures in
+    c.field_id-2.ensures ∙ c.larger-2.ensures ∙ rw (k.field_key-k.ensures.0, e, h.highest.ensures, l)))

@@ -9,15 +9,15 @@ use Rattle.partitions.proofs.Free.{Passed, passed_none, passed_one, passed_free,
 use Rattle.partitions.proofs.fresh.next_free.Statement.{statement}
 use Rattle.partitions.proofs.fresh.next_free.Tie as tie
 
-abbrev invariant_loop : tie.invariant_loop
+abbrev invariant_loop : tie.invariant-loop-i
 invariant_loop taken k₀ i₀ k i = Passed taken k₀.0 k.0 i
 
-abbrev decreases_loop : tie.decreases_loop
+abbrev decreases_loop : tie.decreases-loop-i
 decreases_loop taken k₀ i₀ k i = length taken - i
 
 -- the first that is asked about
-begins : (c : tie.After-next invariant_loop decreases_loop) → c.next.result.0 ≡ suc_ℤ c.before.args.after.0
-begins c = goes_on_lem c.before.args.after.0 (length c.before.args.taken.now) c.before.requires c.next.ensures
+begins : (c : tie.After-next-k invariant_loop decreases_loop) → c.next-k.result.0 ≡ suc_ℤ c.args.after.0
+begins c = goes_on_lem c.args.after.0 (length c.args.taken.now) c.requires c.next-k.ensures
 
 pub next_free_spec : {M : Type 1} → statement M
 next_free_spec =
@@ -26,11 +26,11 @@ next_free_spec =
     invariant_loop
     decreases_loop
     (λ c κs. search rules)
-    (λ c. passed_none c.before.args.after.0 c.before.requires (begins c))
+    (λ c. passed_none c.args.after.0 c.requires (begins c))
     (λ c κs. search rules)
-    (λ c. let l = c.before.before.before in passed_free l.loop.invariant l.before.before.args.after.0 (begins l.before) (sym c.before.is-in.ensures ∙ not-true _ c.if1.true))
+    (λ c. let l = c.before.before.before in passed_free l.loop-i.invariant l.args.after.0 (begins l.before) (sym c.is_in.ensures ∙ not-true _ c.if-not-is_in.true-raw))
     (λ c κs. search rules)
     (λ c. search rules)
     (λ c. search rules)
-    (λ c. let b = c.before.before.before in passed_one b.before.loop.invariant b.loop-test.true (sym c.before.before.is-in.ensures ∙ not-false _ c.before.if1.false) c.next2.ensures)
-    (λ c. passed_all c.before.loop.invariant c.before.before.before.args.after.0 (begins c.before.before) c.loop-test.false))
+    (λ c. passed_one c.loop-i.invariant c.loop-i-test.true (sym c.is_in.ensures ∙ not-false _ c.if-not-is_in.false-raw) c.next-k-in-loop-i.ensures)
+    (λ c. passed_all c.loop-i.invariant c.args.after.0 (begins c.before.before) c.loop-i-test.false))

@@ -17,53 +17,49 @@ use Rattle.partitions.proofs.Numbered.{kept_none, kept_number, kept_field, new_o
 use Rattle.partitions.proofs.fresh.number_field.Statement.{statement}
 use Rattle.partitions.proofs.fresh.number_field.Tie as tie
 
-returns : tie.Need-returns
+returns : tie.Need-returns-then-f
 returns c =
-    let k = c.before in let s = k.before.before.before in
-    let a = s.args in
+    let k = c.before in let a = k.args in
     let f = read_partition_field a.f in
-    let e : f.id ≡ some a.f.field_id.0 = behind _ k.before.if1.true in
-    let q : c.larger.result.0 ≡ larger a.number.0 a.f.field_id.0 = c.larger.ensures ∙ rw k.field-key.ensures.0 in (
+    let e : f.id ≡ some a.f.field_id.0 = behind _ k.if-f.true in
+    let q : c.larger-k.result.0 ≡ larger a.number.0 a.f.field_id.0 = c.larger-k.ensures ∙ rw k.field_key.ensures.0 in (
       sym (kept_none a.taken.now a.number.0 f e),
       (
         (λ u. q ∙ sym (kept_number a.taken.now a.number.0 f e)),
         (
-          (λ u. subst (SFits w32) (sym q) (larger_fits w32 _ _ s.requires.1.0 (rw k.field-key.ensures.0 at k.field-key.ensures.1))),
-          (λ u. sym (ap laid_partition_field (kept_field a.taken.now a.number.0 f e) ∙ s.requires.0)),
+          (λ u. subst (SFits w32) (sym q) (larger_fits w32 _ _ k.requires.1.0 (rw k.field_key.ensures.0 at k.field_key.ensures.1))),
+          (λ u. sym (ap laid_partition_field (kept_field a.taken.now a.number.0 f e) ∙ k.requires.0)),
         ),
       ),
     )
 
-returns_2 : tie.Need-returns-2
+returns_2 : tie.Need-returns-then-is_below
 returns_2 c =
-    let k = c.before.before in let s = k.before.before.before in
-    let a = s.args in
+    let k = c.before.before in let a = k.args in
     let f = read_partition_field a.f in
-    let e : f.id ≡ none = behind _ k.before.if1.false in
-    let b : lt_z (pos largest_field_id) (next_free a.taken.now a.number.0) ≡ true = rw k.next-free.ensures at (sym c.before.is_below.ensures ∙ c.if2.true) in
+    let e : f.id ≡ none = behind _ k.if-f.false in
+    let b : lt_z (pos largest_field_id) (next_free a.taken.now a.number.0) ≡ true = rw k.next_free-k.ensures at (sym c.is_below.ensures ∙ c.if-is_below.true) in
     (sym (new_one a.taken.now a.number.0 f e ∙ b), ((λ u. absurd (true≢false u)), ((λ u. absurd (true≢false u)), (λ u. absurd (true≢false u)))))
 
 -- the id is not too large
-module _ (c : tie.Else2) where
-  unpassed : let k = c.before.before in let a = k.before.before.before.args in lt_z (pos largest_field_id) (next_free a.taken.now a.number.0) ≡ false
-  unpassed = let k = c.before.before in rw k.next-free.ensures at (sym c.before.is_below.ensures ∙ c.if2.false)
+module _ (c : tie.Else-is_below) where
+  unpassed : let k = c.before.before in let a = k.args in lt_z (pos largest_field_id) (next_free a.taken.now a.number.0) ≡ false
+  unpassed = rw c.next_free-k.ensures at (sym c.is_below.ensures ∙ c.if-is_below.false)
 
-  fits : SFits w32 c.before.before.next-free.result.0
-  fits = let k = c.before.before in let s = k.before.before.before in
-      subst (SFits w32) (sym k.next-free.ensures) (fresh_fits s.args.taken.now s.args.number.0 s.requires.1.0 unpassed)
+  fits : SFits w32 c.next_free-k.result.0
+  fits = let k = c.before.before in subst (SFits w32) (sym k.next_free-k.ensures) (fresh_fits k.args.taken.now k.args.number.0 k.requires.1.0 unpassed)
 
-returns_3 : tie.Need-returns-3
+returns_3 : tie.Need-returns
 returns_3 c =
-    let k = c.before.before.before in let s = k.before.before.before in
-    let a = s.args in
+    let k = c.before.before.before in let a = k.args in
     let f = read_partition_field a.f in
-    let e : f.id ≡ none = behind _ k.before.if1.false in (
+    let e : f.id ≡ none = behind _ k.if-f.false in (
       sym (new_one a.taken.now a.number.0 f e ∙ unpassed c.before),
       (
-        (λ u. k.next-free.ensures ∙ sym (new_number a.taken.now a.number.0 f e)),
+        (λ u. k.next_free-k.ensures ∙ sym (new_number a.taken.now a.number.0 f e)),
         (
           (λ u. fits c.before),
-          (λ u. laid_new a.f c.field-id.result s.requires.0 (c.field-id.ensures ∙ k.next-free.ensures) ∙ sym (ap laid_partition_field (new_field a.taken.now a.number.0 f e))),
+          (λ u. laid_new a.f c.field_id-fresh.result k.requires.0 (c.field_id-fresh.ensures ∙ k.next_free-k.ensures) ∙ sym (ap laid_partition_field (new_field a.taken.now a.number.0 f e))),
         ),
       ),
     )
@@ -75,7 +71,7 @@ number_field_spec =
     (λ c κs. search rules)
     (λ c κs. search rules)
     returns
-    (λ c κs. let s = c.before.before in room_left _ _ s.requires.1.0 s.requires.1.1)
+    (λ c κs. room_left _ _ c.requires.1.0 c.requires.1.1)
     (λ c κs. search rules)
     returns_2
     (λ c κs. fits c)

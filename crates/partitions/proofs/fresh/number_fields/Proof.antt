@@ -20,35 +20,33 @@ use Rattle.partitions.proofs.Numbered.{Numbering, numbering_start, numbering_ove
 use Rattle.partitions.proofs.fresh.number_fields.Statement.{statement}
 use Rattle.partitions.proofs.fresh.number_fields.Tie as tie
 
-abbrev invariant_loop : tie.invariant_loop
+abbrev invariant_loop : tie.invariant-loop-i
 invariant_loop p n spec_id_lem m ids number₀ items₀ i₀ number items i = Numbering (take m ids) number₀.0 p number.0 items i
 
-abbrev decreases_loop : tie.decreases_loop
+abbrev decreases_loop : tie.decreases-loop-i
 decreases_loop p n spec_id_lem m ids number₀ items₀ i₀ number items i = n - i
 
 -- the ids that are lent are those that the fields have, and the number begins with the last partition id
-module _ (c : tie.After-items invariant_loop decreases_loop) where
-  begun : {A : Type 0} (f : List ℤ → ℤ → A) → let k = c.before in let g = k.before.before in let a = g.before.before.args in
-      f (take g.given-ids.result.count g.given-ids.result.ids) k.field-key.result.0 ≡ f (partition_ids (read_partition_spec a.t1)) a.last.0
-  begun f = let k = c.before in let g = k.before.before in ap₂ f (ids_lent g.before.before.requires g.given-ids.ensures) k.field-key.ensures.0
+module _ (c : tie.After-items-1 invariant_loop decreases_loop) where
+  begun : {A : Type 0} (f : List ℤ → ℤ → A) → let k = c.before in let g = k.before.before in let a = g.args in
+      f (take g.given_ids-given.result.count g.given_ids-given.result.ids) k.field_key-number.result.0 ≡ f (partition_ids (read_partition_spec a.p)) a.last.0
+  begun f = let k = c.before in ap₂ f (ids_lent k.requires k.given_ids-given.ensures) k.field_key-number.ensures.0
 
-  over : {b : Bool} → let k = c.before in let g = k.before.before in let a = g.before.before.args in
-      b ≡ any (lt_z (pos largest_field_id)) (fresh_ids (take g.given-ids.result.count g.given-ids.result.ids) k.field-key.result.0 (read_partition_spec a.t1).fields)
-      → b ≡ any (lt_z (pos largest_field_id)) (fresh_of a.last.0 (read_partition_spec a.t1))
-  over e = let fs = (read_partition_spec c.before.before.before.before.before.args.t1).fields in e ∙ begun (λ (u : List ℤ) (z : ℤ). any (lt_z (pos largest_field_id)) (fresh_ids u z fs))
+  over : {b : Bool} → let k = c.before in let a = k.args in
+      b ≡ any (lt_z (pos largest_field_id)) (fresh_ids (take k.given_ids-given.result.count k.given_ids-given.result.ids) k.field_key-number.result.0 (read_partition_spec a.p).fields)
+      → b ≡ any (lt_z (pos largest_field_id)) (fresh_of a.last.0 (read_partition_spec a.p))
+  over e = let fs = (read_partition_spec c.args.p).fields in e ∙ begun (λ (u : List ℤ) (z : ℤ). any (lt_z (pos largest_field_id)) (fresh_ids u z fs))
 
-returns : tie.Need-returns invariant_loop decreases_loop
+returns : tie.Need-returns-then-x invariant_loop decreases_loop
 returns c =
-    let x = c.before in let b = x.before.before.before in let l = b.before in let s = l.before.before.before.before.before.before in
-    (over l.before (numbering_over _ _ s.requires _ b.loop-test.true l.loop.invariant (sym x.number-field.ensures.0 ∙ c.if1.true)), ((λ u. absurd (true≢false u)), s.requires))
+    let x = c.before in let b = x.before.before.before in let l = b.before in (over l.before (numbering_over _ _ l.requires _ b.loop-i-test.true l.loop-i.invariant (sym x.number_field-x.ensures.0 ∙ c.if-x.true)), ((λ u. absurd (true≢false u)), l.requires))
 
-returns_2 : tie.Need-returns-2 invariant_loop decreases_loop
+returns_2 : tie.Need-returns invariant_loop decreases_loop
 unfolding completed
 returns_2 c =
-    let l = c.before in let s = l.before.before.before.before.before.before in
-    let p = read_partition_spec s.args.t1 in
-    let d = numbering_end _ _ s.requires c.loop-test.false l.loop.invariant ∙ begun l.before (λ (u : List ℤ) (z : ℤ). laid_partition_spec (record { id = p.id; fields = numbered u z p.fields })) in
-    (over l.before (numbering_none _ _ s.requires c.loop-test.false l.loop.invariant), ((λ u. d), completed_laid s.args.last.0 s.requires d))
+    let l = c.before in let p = read_partition_spec l.args.p in
+    let d = numbering_end _ _ l.requires c.loop-i-test.false l.loop-i.invariant ∙ begun l.before (λ (u : List ℤ) (z : ℤ). laid_partition_spec (record { id = p.id; fields = numbered u z p.fields })) in
+    (over l.before (numbering_none _ _ l.requires c.loop-i-test.false l.loop-i.invariant), ((λ u. d), completed_laid l.args.last.0 l.requires d))
 
 pub number_fields_spec : {M : Type 1} → statement M
 number_fields_spec =
@@ -58,19 +56,17 @@ number_fields_spec =
     decreases_loop
     (λ c κs. search rules)
     (λ c κs. search rules)
-    (λ c. let k = c.before in numbering_start _ _ k.before.before.before.before.requires k.field-key.ensures.1)
+    (λ c. numbering_start _ _ c.requires c.field_key-number.ensures.1)
     (λ c. search rules)
     (λ c. search rules)
-    (λ c. let g = c.before.before.before.before.before.before in ids_within g.before.before.requires g.given-ids.ensures)
-    (λ c. let g = c.before.before.before.before.before.before.before in ids_slice g.before.before.requires g.given-ids.ensures)
-    (λ c κs. let b = c.before.before in let l = b.before in let g = l.before.before.before.before in
-    (element_back (tidy_partition_spec g.before.before.requires) l.loop.i _ b.loop-test.true, (l.loop.invariant.small, ids_few g.before.before.requires g.given-ids.ensures)))
+    (λ c. ids_within c.requires c.given_ids-given.ensures)
+    (λ c. ids_slice c.requires c.given_ids-given.ensures)
+    (λ c κs. let b = c.before.before in let l = b.before in (element_back (tidy_partition_spec l.requires) l.loop-i.i _ b.loop-i-test.true, (l.loop-i.invariant.small, ids_few l.requires l.given_ids-given.ensures)))
     returns
     (λ c. search rules)
     (λ c. search rules)
     (λ c. search rules)
     (λ c. search rules)
-    (λ c. let f = c.before.before in let x = f.before.number-field in let b = f.before.before.before.before in let l = b.before in let s = l.before.before.before.before.before.before in
-    let e = x.ensures in let n = f.if1.false in
-    numbering_on _ _ s.requires _ b.loop-test.true l.loop.invariant (sym e.0 ∙ n) (e.1.0 n) (e.1.1.0 n) (e.1.1.1 n))
+    (λ c. let f = c.before.before in let x = f.number_field-x in let b = f.before.before.before.before in let l = b.before in let e = x.ensures in let n = f.if-x.false in
+    numbering_on _ _ l.requires _ b.loop-i-test.true l.loop-i.invariant (sym e.0 ∙ n) (e.1.0 n) (e.1.1.0 n) (e.1.1.1 n))
     returns_2)

@@ -11,10 +11,10 @@ use Rattle.partitions.proofs.Named.{column_name}
 use Rattle.partitions.proofs.names.is_taken.Statement.{statement}
 use Rattle.partitions.proofs.names.is_taken.Tie as tie
 
-abbrev invariant_loop : tie.invariant_loop
+abbrev invariant_loop : tie.invariant-loop-i
 invariant_loop schemas specs s n ok₀ i₀ ok i = Asked schema_fields (λ f. names_partition (read_partition_specs specs) f.name && not (names_column (read_schemas schemas) f.name)) s 0 i ok
 
-abbrev decreases_loop : tie.decreases_loop
+abbrev decreases_loop : tie.decreases-loop-i
 decreases_loop schemas specs s n ok₀ i₀ ok i = n - i
 
 by_second : {x a y b : Bool} → x ≡ a → x ≡ true → y ≡ b → not y ≡ a && not b
@@ -34,12 +34,10 @@ is_taken_spec =
     (λ c. search rules)
     (λ c. search rules)
     (λ c. search rules)
-    (λ c κs. let b = c.before.before in let p = b.before.before.requires in (p.1.1, column_name p.0 b.before.loop.i _ b.loop-test.true))
-    (λ c κs. let b = c.before.before.before.before in let p = b.before.before.requires in (p.1.0, column_name p.0 b.before.loop.i _ b.loop-test.true))
+    (λ c κs. let p = c.requires in (p.1.1, column_name p.0 c.loop-i.i _ c.loop-i-test.true))
+    (λ c κs. let p = c.requires in (p.1.0, column_name p.0 c.loop-i.i _ c.loop-i-test.true))
     (λ c. search rules)
-    (λ c. let b = c.before.before.before.before.before in let l = b.before in
-    asked_on (tidy_schema l.before.requires.0) l.loop.invariant _ b.loop-test.true (by_second c.before.before.names-partition.ensures c.before.if1.true c.names-column.ensures))
+    (λ c. let b = c.before.before.before.before.before in asked_on (tidy_schema b.requires.0) b.loop-i.invariant _ b.loop-i-test.true (by_second c.names_partition.ensures c.if-names_partition.true c.names_column.ensures))
     (λ c. search rules)
-    (λ c. let b = c.before.before.before.before in let l = b.before in
-    asked_past (tidy_schema l.before.requires.0) l.loop.invariant _ b.loop-test.true (by_first _ c.before.names-partition.ensures c.if1.false))
-    (λ c. asked_end (tidy_schema c.before.before.requires.0) c.before.loop.invariant c.loop-test.false))
+    (λ c. let b = c.before.before.before.before in asked_past (tidy_schema b.requires.0) b.loop-i.invariant _ b.loop-i-test.true (by_first _ c.names_partition.ensures c.if-names_partition.false))
+    (λ c. asked_end (tidy_schema c.requires.0) c.loop-i.invariant c.loop-i-test.false))

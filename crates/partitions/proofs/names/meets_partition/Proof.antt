@@ -11,10 +11,10 @@ use Rattle.partitions.proofs.Scans.{Asked, asked_start, asked_on, asked_end}
 use Rattle.partitions.proofs.names.meets_partition.Statement.{statement}
 use Rattle.partitions.proofs.names.meets_partition.Tie as tie
 
-abbrev invariant_loop : tie.invariant_loop
+abbrev invariant_loop : tie.invariant-loop-i
 invariant_loop s t n ok₀ i₀ ok i = Asked partition_specs (λ p. any (λ f. any (λ g. same_bytes g.name f.name) p.fields) (read_schema s).fields) t 0 i ok
 
-abbrev decreases_loop : tie.decreases_loop
+abbrev decreases_loop : tie.decreases-loop-i
 decreases_loop s t n ok₀ i₀ ok i = n - i
 
 pub meets_partition_spec : {M : Type 1} → statement M
@@ -26,10 +26,9 @@ meets_partition_spec =
     (λ c. asked_start (tidy_partition_specs c.requires.1))
     (λ c. search rules)
     (λ c. search rules)
-    (λ c κs. let b = c.before in let p = b.before.before.requires in (p.0, spec_at_lem p.1 b.before.loop.i _ b.loop-test.true))
+    (λ c κs. let p = c.requires in (p.0, spec_at_lem p.1 c.loop-i.i _ c.loop-i-test.true))
     (λ c. search rules)
     (λ c. search rules)
-    (λ c. let b = c.before.before in let l = b.before in asked_on (tidy_partition_specs l.before.requires.1) l.loop.invariant _ b.loop-test.true c.meets-spec.ensures)
-    (λ c. let s = c.before.before in
-    asked_end (tidy_partition_specs s.requires.1) c.before.loop.invariant c.loop-test.false
-    ∙ sym (any_turned (λ (f : plain.SchemaField) (p : plain.PartitionSpec). any (λ (g : plain.PartitionField). same_bytes g.name f.name) p.fields) (read_schema s.args.s).fields (read_partition_specs s.args.t2))))
+    (λ c. let b = c.before.before in asked_on (tidy_partition_specs b.requires.1) b.loop-i.invariant _ b.loop-i-test.true c.meets_spec-ok.ensures)
+    (λ c. asked_end (tidy_partition_specs c.requires.1) c.loop-i.invariant c.loop-i-test.false
+    ∙ sym (any_turned (λ (f : plain.SchemaField) (p : plain.PartitionSpec). any (λ (g : plain.PartitionField). same_bytes g.name f.name) p.fields) (read_schema c.args.s).fields (read_partition_specs c.args.t))))

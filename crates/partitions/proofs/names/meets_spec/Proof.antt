@@ -9,10 +9,10 @@ use Rattle.partitions.proofs.Named.{column_name}
 use Rattle.partitions.proofs.names.meets_spec.Statement.{statement}
 use Rattle.partitions.proofs.names.meets_spec.Tie as tie
 
-abbrev invariant_loop : tie.invariant_loop
+abbrev invariant_loop : tie.invariant-loop-i
 invariant_loop p s n ok₀ i₀ ok i = Asked schema_fields (λ f. any (λ g. same_bytes g.name f.name) (read_partition_spec p).fields) s 0 i ok
 
-abbrev decreases_loop : tie.decreases_loop
+abbrev decreases_loop : tie.decreases-loop-i
 decreases_loop p s n ok₀ i₀ ok i = n - i
 
 pub meets_spec_spec : {M : Type 1} → statement M
@@ -24,8 +24,8 @@ meets_spec_spec =
     (λ c. asked_start (tidy_schema c.requires.0))
     (λ c. search rules)
     (λ c. search rules)
-    (λ c κs. let b = c.before in let p = b.before.before.requires in (p.1, column_name p.0 b.before.loop.i _ b.loop-test.true))
+    (λ c κs. let p = c.requires in (p.1, column_name p.0 c.loop-i.i _ c.loop-i-test.true))
     (λ c. search rules)
     (λ c. search rules)
-    (λ c. let b = c.before.before in let l = b.before in asked_on (tidy_schema l.before.requires.0) l.loop.invariant _ b.loop-test.true c.names-field.ensures)
-    (λ c. asked_end (tidy_schema c.before.before.requires.0) c.before.loop.invariant c.loop-test.false))
+    (λ c. let b = c.before.before in asked_on (tidy_schema b.requires.0) b.loop-i.invariant _ b.loop-i-test.true c.names_field-ok.ensures)
+    (λ c. asked_end (tidy_schema c.requires.0) c.loop-i.invariant c.loop-i-test.false))

@@ -11,10 +11,10 @@ use Rattle.partitions.proofs.Named.{field_name_lem}
 use Rattle.partitions.proofs.names.names_field.Statement.{statement}
 use Rattle.partitions.proofs.names.names_field.Tie as tie
 
-abbrev invariant_loop : tie.invariant_loop
+abbrev invariant_loop : tie.invariant-loop-i
 invariant_loop name p n ok₀ i₀ ok i = Asked partition_fields (λ f. same_bytes f.name (read_name name)) p 0 i ok
 
-abbrev decreases_loop : tie.decreases_loop
+abbrev decreases_loop : tie.decreases-loop-i
 decreases_loop name p n ok₀ i₀ ok i = n - i
 
 pub names_field_spec : {M : Type 1} → statement M
@@ -29,6 +29,6 @@ names_field_spec =
     (λ c κs. search rules)
     (λ c. search rules)
     (λ c. search rules)
-    (λ c. let b = c.before.before in let l = b.before in let p = l.before.requires in
-    asked_on (tidy_partition_spec p.0) l.loop.invariant _ b.loop-test.true (c.same-name.ensures ∙ names_alike _ _ (field_name_lem p.0 l.loop.i _ b.loop-test.true) p.1))
-    (λ c. asked_end (tidy_partition_spec c.before.before.requires.0) c.before.loop.invariant c.loop-test.false))
+    (λ c. let b = c.before.before in let p = b.requires in
+    asked_on (tidy_partition_spec p.0) b.loop-i.invariant _ b.loop-i-test.true (c.same_name-ok.ensures ∙ names_alike _ _ (field_name_lem p.0 b.loop-i.i _ b.loop-i-test.true) p.1))
+    (λ c. asked_end (tidy_partition_spec c.requires.0) c.loop-i.invariant c.loop-i-test.false))

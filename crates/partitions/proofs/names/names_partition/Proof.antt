@@ -8,10 +8,10 @@ use Rattle.partitions.proofs.Scans.{Asked, asked_start, asked_on, asked_end}
 use Rattle.partitions.proofs.names.names_partition.Statement.{statement}
 use Rattle.partitions.proofs.names.names_partition.Tie as tie
 
-abbrev invariant_loop : tie.invariant_loop
+abbrev invariant_loop : tie.invariant-loop-i
 invariant_loop name t n ok₀ i₀ ok i = Asked partition_specs (λ s. any (λ f. same_bytes f.name (read_name name)) s.fields) t 0 i ok
 
-abbrev decreases_loop : tie.decreases_loop
+abbrev decreases_loop : tie.decreases-loop-i
 decreases_loop name t n ok₀ i₀ ok i = n - i
 
 pub names_partition_spec : {M : Type 1} → statement M
@@ -23,8 +23,8 @@ names_partition_spec =
     (λ c. asked_start (tidy_partition_specs c.requires.0))
     (λ c. search rules)
     (λ c. search rules)
-    (λ c κs. let b = c.before in let p = b.before.before.requires in (spec_at_lem p.0 b.before.loop.i _ b.loop-test.true, p.1))
+    (λ c κs. let p = c.requires in (spec_at_lem p.0 c.loop-i.i _ c.loop-i-test.true, p.1))
     (λ c. search rules)
     (λ c. search rules)
-    (λ c. let b = c.before.before in let l = b.before in asked_on (tidy_partition_specs l.before.requires.0) l.loop.invariant _ b.loop-test.true c.names-field.ensures)
-    (λ c. asked_end (tidy_partition_specs c.before.before.requires.0) c.before.loop.invariant c.loop-test.false))
+    (λ c. let b = c.before.before in asked_on (tidy_partition_specs b.requires.0) b.loop-i.invariant _ b.loop-i-test.true c.names_field-ok.ensures)
+    (λ c. asked_end (tidy_partition_specs c.requires.0) c.loop-i.invariant c.loop-i-test.false))

@@ -72,10 +72,10 @@ module _ {p : PartitionSpec} (h : LaidSpec p) where
       let n : p.count ≡ length (map (λ (f : plain.PartitionField). f.id) (read_partition_spec p).fields) = sym (length-map (read_partition_spec p).fields (λ (f : plain.PartitionField). f.id) ∙ read_length (tidy_partition_spec h)) in
       λ j. record { spec_id = p.spec_id; at = o.at; count = n j; ids = e j }
 
-abbrev invariant_loop : tie.invariant_loop
+abbrev invariant_loop : tie.invariant-loop-i
 invariant_loop o p n ids₀ i₀ ids i = Written p ids i
 
-abbrev decreases_loop : tie.decreases_loop
+abbrev decreases_loop : tie.decreases-loop-i
 decreases_loop o p n ids₀ i₀ ids i = n - i
 
 pub logged_offer_spec : {M : Type 1} → statement M
@@ -85,12 +85,12 @@ logged_offer_spec =
     invariant_loop
     decreases_loop
     (λ c κs. search rules)
-    (λ c. rw c.blank.ensures (written_start c.before.requires))
+    (λ c. rw c.blank-none.ensures (written_start c.requires))
     (λ c. search rules)
     (λ c. search rules)
     (λ c. search rules)
     (λ c. search rules)
     (λ c. search rules)
     (λ c. search rules)
-    (λ c. let b = c.before.before in written_on b.before.before.before.requires _ b.loop-test.true b.before.loop.invariant)
-    (λ c. let b = c.before in written_end b.before.before.before.requires b.before.before.before.args.o b.loop-test.false b.before.loop.invariant))
+    (λ c. written_on c.requires _ c.loop-i-test.true c.loop-i.invariant)
+    (λ c. written_end c.requires c.args.o c.loop-i-test.false c.loop-i.invariant))

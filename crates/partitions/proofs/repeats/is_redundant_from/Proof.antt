@@ -8,10 +8,10 @@ use Rattle.partitions.proofs.Scans.{Asked, asked_start, asked_on, asked_end}
 use Rattle.partitions.proofs.repeats.is_redundant_from.Statement.{statement}
 use Rattle.partitions.proofs.repeats.is_redundant_from.Tie as tie
 
-abbrev invariant_loop : tie.invariant_loop
+abbrev invariant_loop : tie.invariant-loop-i
 invariant_loop x from p n ok₀ i₀ ok i = Asked partition_fields (is_redundant (read_partition_field x)) p from i ok
 
-abbrev decreases_loop : tie.decreases_loop
+abbrev decreases_loop : tie.decreases-loop-i
 decreases_loop x from p n ok₀ i₀ ok i = n - i
 
 pub is_redundant_from_spec : {M : Type 1} → statement M
@@ -26,5 +26,5 @@ is_redundant_from_spec =
     (λ c κs. search rules)
     (λ c. search rules)
     (λ c. search rules)
-    (λ c. let b = c.before.before in let l = b.before in asked_on (tidy_partition_spec l.before.requires) l.loop.invariant _ b.loop-test.true c.is-redundant.ensures)
-    (λ c. asked_end (tidy_partition_spec c.before.before.requires) c.before.loop.invariant c.loop-test.false))
+    (λ c. let b = c.before.before in asked_on (tidy_partition_spec b.requires) b.loop-i.invariant _ b.loop-i-test.true c.is_redundant-ok.ensures)
+    (λ c. asked_end (tidy_partition_spec c.requires) c.loop-i.invariant c.loop-i-test.false))

@@ -10,10 +10,10 @@ use Rattle.partitions.proofs.Named.{field_name_lem}
 use Rattle.partitions.proofs.repeats.names_differ.Statement.{statement}
 use Rattle.partitions.proofs.repeats.names_differ.Tie as tie
 
-abbrev invariant_loop : tie.invariant_loop
+abbrev invariant_loop : tie.invariant-loop-i
 invariant_loop p n twice₀ i₀ twice i = Apart partition_fields (λ a b. same_bytes a.name b.name) p i twice
 
-abbrev decreases_loop : tie.decreases_loop
+abbrev decreases_loop : tie.decreases-loop-i
 decreases_loop p n twice₀ i₀ twice i = n - i
 
 pub names_differ_spec : {M : Type 1} → statement M
@@ -26,7 +26,7 @@ names_differ_spec =
     (λ c. search rules)
     (λ c. search rules)
     (λ c. search rules)
-    (λ c κs. let b = c.before in let p = b.before.before.requires in (p, field_name_lem p b.before.loop.i _ b.loop-test.true))
+    (λ c κs. let p = c.requires in (p, field_name_lem p c.loop-i.i _ c.loop-i-test.true))
     (λ c. search rules)
-    (λ c. let b = c.before.before in let l = b.before in apart_on (tidy_partition_spec l.before.requires) l.loop.invariant _ b.loop-test.true c.name-repeats.ensures)
-    (λ c. let s = c.before.before in apart_end (tidy_partition_spec s.requires) c.before.loop.invariant c.loop-test.false ∙ unequal_map same_bytes (λ f. f.name) (read_partition_spec s.args.t1).fields))
+    (λ c. let b = c.before.before in apart_on (tidy_partition_spec b.requires) b.loop-i.invariant _ b.loop-i-test.true c.name_repeats-twice.ensures)
+    (λ c. apart_end (tidy_partition_spec c.requires) c.loop-i.invariant c.loop-i-test.false ∙ unequal_map same_bytes (λ f. f.name) (read_partition_spec c.args.p).fields))

@@ -7,10 +7,10 @@ use Rattle.partitions.proofs.Twice.{Apart, apart_start, apart_on, apart_end}
 use Rattle.partitions.proofs.repeats.none_redundant.Statement.{statement}
 use Rattle.partitions.proofs.repeats.none_redundant.Tie as tie
 
-abbrev invariant_loop : tie.invariant_loop
+abbrev invariant_loop : tie.invariant-loop-i
 invariant_loop p n twice₀ i₀ twice i = Apart partition_fields is_redundant p i twice
 
-abbrev decreases_loop : tie.decreases_loop
+abbrev decreases_loop : tie.decreases-loop-i
 decreases_loop p n twice₀ i₀ twice i = n - i
 
 pub none_redundant_spec : {M : Type 1} → statement M
@@ -25,5 +25,5 @@ none_redundant_spec =
     (λ c. search rules)
     (λ c κs. search rules)
     (λ c. search rules)
-    (λ c. let b = c.before.before in let l = b.before in apart_on (tidy_partition_spec l.before.requires) l.loop.invariant _ b.loop-test.true c.is-redundant-from.ensures)
-    (λ c. let s = c.before.before in apart_end (tidy_partition_spec s.requires) c.before.loop.invariant c.loop-test.false))
+    (λ c. let b = c.before.before in apart_on (tidy_partition_spec b.requires) b.loop-i.invariant _ b.loop-i-test.true c.is_redundant_from-twice.ensures)
+    (λ c. apart_end (tidy_partition_spec c.requires) c.loop-i.invariant c.loop-i-test.false))

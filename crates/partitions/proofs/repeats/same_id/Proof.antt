@@ -9,4 +9,4 @@ same_id_spec =
     tie.close
     (tie.spec
     (λ c κs. search rules)
-    (λ c. let a = c.before.before.before.args in cc (both_given a.a.has_id a.b.has_id a.a.field_id.0 a.b.field_id.0)))
+    (λ c. let a = c.args in cc (both_given a.a.has_id a.b.has_id a.a.field_id.0 a.b.field_id.0)))

@@ -9,4 +9,4 @@ id_of_spec =
     tie.close
     (tie.spec
     (λ c κs. search rules)
-    (λ c. let a = c.before.before.before.args in cc (given_if a.old.has_id c.before.is-like.result a.old.field_id.0)))
+    (λ c. let a = c.args in cc (given_if a.old.has_id c.is_like.result a.old.field_id.0)))

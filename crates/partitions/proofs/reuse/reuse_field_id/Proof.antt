@@ -10,9 +10,9 @@ pub reuse_field_id_spec : {M : Type 1} → statement M
 reuse_field_id_spec =
     tie.close
     (tie.spec
-    (λ c. let s = c.before in own_id (fields_of_all (read_partition_specs s.args.t)) s.args.f s.requires.1 c.if1.true)
+    (λ c. own_id (fields_of_all (read_partition_specs c.args.t)) c.args.f c.requires.1 c.if-f.true)
     (λ c κs. search rules)
-    (λ c. let k = c.before.before in let s = k.before.before in let r = k.smallest-like.result in
-    no_id (fields_of_all (read_partition_specs s.args.t)) s.args.f s.requires.1 k.before.if1.false r.found r.id k.smallest-like.ensures c.if2.true)
-    (λ c. let k = c.before.before.before in let s = k.before.before in let r = k.smallest-like.result in
-    old_id (fields_of_all (read_partition_specs s.args.t)) s.args.f s.requires.1 k.before.if1.false r.found r.id k.smallest-like.ensures c.before.if2.false))
+    (λ c. let k = c.before.before in let r = k.smallest_like-best.result in
+    no_id (fields_of_all (read_partition_specs k.args.t)) k.args.f k.requires.1 k.if-f.false r.found r.id k.smallest_like-best.ensures c.if-not-best.true)
+    (λ c. let k = c.before.before.before in let r = k.smallest_like-best.result in
+    old_id (fields_of_all (read_partition_specs k.args.t)) k.args.f k.requires.1 k.if-f.false r.found r.id k.smallest_like-best.ensures c.if-not-best.false))

@@ -9,5 +9,5 @@ smaller_spec =
     tie.close
     (tie.spec
     (λ c κs. search rules)
-    (λ c. let s = c.before.before.before in let a = s.before.args in second a.a.found a.b.found a.a.id.0 a.b.id.0 s.is_below.ensures c.if1.true)
-    (λ c. let s = c.before.before.before in let a = s.before.args in otherwise a.a.found a.b.found a.a.id.0 a.b.id.0 s.is_below.ensures c.if1.false))
+    (λ c. let a = c.args in second a.a.found a.b.found a.a.id.0 a.b.id.0 c.is_below-below.ensures c.if-b-a.true)
+    (λ c. let a = c.args in otherwise a.a.found a.b.found a.a.id.0 a.b.id.0 c.is_below-below.ensures c.if-b-a.false))

@@ -11,10 +11,10 @@ use Rattle.partitions.proofs.Smallest.{numbers_join, of_specs, specs_on}
 use Rattle.partitions.proofs.reuse.smallest_like.Statement.{statement}
 use Rattle.partitions.proofs.reuse.smallest_like.Tie as tie
 
-abbrev invariant_loop : tie.invariant_loop
+abbrev invariant_loop : tie.invariant-loop-i
 invariant_loop f t n r₀ i₀ r i = Scanned lesser partition_specs (of_specs (read_partition_field f)) t 0 i none (given r.found r.id.0)
 
-abbrev decreases_loop : tie.decreases_loop
+abbrev decreases_loop : tie.decreases-loop-i
 decreases_loop f t n r₀ i₀ r i = n - i
 
 pub smallest_like_spec : {M : Type 1} → statement M
@@ -26,8 +26,8 @@ smallest_like_spec =
     (λ c. scan_start numbers_join (tidy_partition_specs c.requires))
     (λ c. search rules)
     (λ c. search rules)
-    (λ c κs. let b = c.before in spec_at_lem b.before.before.requires b.before.loop.i _ b.loop-test.true)
+    (λ c κs. spec_at_lem c.requires c.loop-i.i _ c.loop-i-test.true)
     (λ c. search rules)
     (λ c. search rules)
-    (λ c. let b = c.before.before in let l = b.before in specs_on (read_partition_field l.before.args.f) c.smallest-in.ensures (tidy_partition_specs l.before.requires) l.loop.invariant _ b.loop-test.true refl)
-    (λ c. scan_end numbers_join (tidy_partition_specs c.before.before.requires) c.before.loop.invariant c.loop-test.false refl))
+    (λ c. let b = c.before.before in specs_on (read_partition_field b.args.f) c.smallest_in-r.ensures (tidy_partition_specs b.requires) b.loop-i.invariant _ b.loop-i-test.true refl)
+    (λ c. scan_end numbers_join (tidy_partition_specs c.requires) c.loop-i.invariant c.loop-i-test.false refl))

@@ -10,11 +10,11 @@ pub after_plus_spec : {M : Type 1} → statement M
 after_plus_spec =
     tie.close
     (tie.spec
-    (λ c. let text = c.before.args.text.now in
-    no_plus text (λ e. omega (arith, get_or-eq_default text 0 {n = 0} (omega (arith, c.if1.true)))))
+    (λ c. let text = c.args.text.now in
+    no_plus text (λ e. omega (arith, get_or-eq_default text 0 {n = 0} (omega (arith, c.if-text-eq0.true)))))
     (λ c. search rules)
     (λ c. search rules)
     (λ c. search rules)
     (λ c. search rules)
-    (λ c. past_plus c.before.before.before.before.args.text.now c.before.before.before.if1.false c.before.if2.true)
-    (λ c. no_plus c.before.before.before.args.text.now c.if2.false))
+    (λ c. past_plus c.args.text.now c.if-text-eq0.false c.if-text-eq43.true)
+    (λ c. no_plus c.args.text.now c.if-text-eq43.false))

@@ -14,54 +14,54 @@ use Rattle.primitives.proofs.Digits.{limit_from, no_digits, at_first, at_last, n
 use Rattle.primitives.proofs.limit.digits_limit.Statement.{statement}
 use Rattle.primitives.proofs.limit.digits_limit.Tie as tie
 
-abbrev invariant_loop : tie.invariant_loop
+abbrev invariant_loop : tie.invariant-loop-i
 invariant_loop digits number₀ i₀ number i =
     (i ≤ length digits) × (number ≤ largest_unsigned) × (digits_limit digits ≡ limit_from number (drop i digits))
 
-abbrev decreases_loop : tie.decreases_loop
+abbrev decreases_loop : tie.decreases-loop-i
 decreases_loop digits number₀ i₀ number i = length digits - i
 
 -- at a byte
-module _ (c : tie.After-is-digit invariant_loop decreases_loop) where
-  abbrev at_loop : tie.At-loop invariant_loop decreases_loop
+module _ (c : tie.After-is_digit invariant_loop decreases_loop) where
+  abbrev at_loop : tie.At-loop-i invariant_loop decreases_loop
   at_loop = c.before.before.before
 
   abbrev bs : List ℕ
-  bs = at_loop.before.before.before.args.digits.now
+  bs = at_loop.args.digits.now
 
   abbrev i : ℕ
-  i = at_loop.loop.i
+  i = at_loop.loop-i.i
 
   abbrev number : ℕ
-  number = at_loop.loop.number
+  number = at_loop.loop-i.number
 
   abbrev byte : ℕ
   byte = get_or bs i 0
 
   within : i < length bs
-  within = c.before.before.loop-test.true
+  within = c.loop-i-test.true
 
 -- at a digit
-module _ (c : tie.Else2 invariant_loop decreases_loop) where
+module _ (c : tie.Else-not-is_digit invariant_loop decreases_loop) where
   is_digit_lem : is_digit (byte c.before) ≡ true
-  is_digit_lem = sym c.before.is_digit.ensures ∙ not-false _ c.if2.false
+  is_digit_lem = sym c.is_digit.ensures ∙ not-false _ c.if-not-is_digit.false-raw
 
 -- with the digit's worth
-module _ (c : tie.After-wide invariant_loop decreases_loop) where
-  abbrev k : tie.After-is-digit invariant_loop decreases_loop
+module _ (c : tie.After-wide-digit invariant_loop decreases_loop) where
+  abbrev k : tie.After-is_digit invariant_loop decreases_loop
   k = c.before.before
 
-  read : digits_limit (bs k) ≡ limit_from (number k * 10 + c.wide.result) (drop (i k + 1) (bs k))
-  read = (at_loop k).loop.inv.2 ∙ one_digit (number k) (bs k) (i k) (within k) c.wide.result c.wide.ensures (is_digit_lem c.before)
+  read : digits_limit (bs k) ≡ limit_from (number k * 10 + c.wide-digit.result) (drop (i k + 1) (bs k))
+  read = (at_loop k).loop-i.invariant.2 ∙ one_digit (number k) (bs k) (i k) (within k) c.wide-digit.result c.wide-digit.ensures (is_digit_lem c.before)
 
-room : (c : tie.Else3 invariant_loop decreases_loop) → number (k c.before.before) * 10 + c.before.before.wide.result ≤ largest_unsigned
-room c = leb-true _ _ (sym c.before.has_room.ensures ∙ not-false _ c.if3.false)
+room : (c : tie.Else-not-has_room invariant_loop decreases_loop) → number (k c.before.before) * 10 + c.wide-digit.result ≤ largest_unsigned
+room c = leb-true _ _ (sym c.has_room.ensures ∙ not-false _ c.if-not-has_room.false-raw)
 
 -- past the last byte
-ended : (c : tie.After-loop invariant_loop decreases_loop) → digits_limit c.before.before.before.before.args.digits.now ≡ max 1 c.before.loop.number
+ended : (c : tie.After-loop-i invariant_loop decreases_loop) → digits_limit c.args.digits.now ≡ max 1 c.loop-i.number
 ended c =
-    let l = c.before.loop in
-    l.invariant.2 ∙ at_last l.number c.before.before.before.before.args.digits.now l.i l.invariant.1 c.loop-test.false
+    let l = c.loop-i in
+    l.invariant.2 ∙ at_last l.number c.args.digits.now l.i l.invariant.1 c.loop-i-test.false
 
 pub digits_limit_spec : {M : Type 1} → statement M
 digits_limit_spec =
@@ -69,20 +69,20 @@ digits_limit_spec =
     (tie.spec
     invariant_loop
     decreases_loop
-    (λ c. sym (no_digits c.before.before.args.digits.now c.if1.true))
-    (λ c. (search rules, search rules, at_first c.before.before.args.digits.now c.if1.false))
+    (λ c. sym (no_digits c.args.digits.now c.if-digits-eq0.true))
+    (λ c. (search rules, search rules, at_first c.args.digits.now c.if-digits-eq0.false))
     (λ c. search rules)
     (λ c κs. search rules)
     (λ c. let k = c.before in
-    sym ((at_loop k).loop.invariant.2 ∙ not_digit (number k) (bs k) (i k) (within k) (sym k.is_digit.ensures ∙ not-true _ c.if2.true)))
+    sym ((at_loop k).loop-i.invariant.2 ∙ not_digit (number k) (bs k) (i k) (within k) (sym k.is_digit.ensures ∙ not-true _ c.if-not-is_digit.true-raw)))
     (λ c. omega (arith, digit_from (byte c.before) (is_digit_lem c)))
     (λ c κs. search rules)
     (λ c κs. search rules)
-    (λ c. sym (read c.before.before ∙ too_large_lem _ _ (leb-false _ _ (sym c.before.has_room.ensures ∙ not-true _ c.if3.true))))
+    (λ c. sym (read c.before.before ∙ too_large_lem _ _ (leb-false _ _ (sym c.has_room.ensures ∙ not-true _ c.if-not-has_room.true-raw))))
     (λ c. omega (arith, room c))
     (λ c. omega (arith, room c))
     (λ c. search rules)
     (λ c. search rules)
     (λ c. (search rules, room c, read c.before.before))
-    (λ c. omega (arith, ended c.before, c.if4.true))
-    (λ c. omega (arith, ended c.before, c.if4.false)))
+    (λ c. omega (arith, ended c.before, c.if-number-eq0.true))
+    (λ c. omega (arith, ended c.before, c.if-number-eq0.false)))

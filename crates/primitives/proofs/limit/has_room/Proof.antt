@@ -13,7 +13,7 @@ pub has_room_spec : {M : Type 1} → statement M
 has_room_spec =
     tie.close
     (tie.spec
-    (λ c. let a = c.before.args in sym (lt-leb (a.number * 10 + a.digit) largest_unsigned (omega arith)))
+    (λ c. let a = c.args in sym (lt-leb (a.number * 10 + a.digit) largest_unsigned (omega arith)))
     (λ c. search rules)
     (λ c. search rules)
-    (λ c. let a = c.before.args in same_test a.digit (largest_unsigned - a.number * 10) (a.number * 10 + a.digit) largest_unsigned (λ h. omega arith) (λ h. omega arith)))
+    (λ c. let a = c.args in same_test a.digit (largest_unsigned - a.number * 10) (a.number * 10 + a.digit) largest_unsigned (λ h. omega arith) (λ h. omega arith)))

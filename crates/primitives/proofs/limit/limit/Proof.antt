@@ -8,7 +8,7 @@ use Rattle.primitives.proofs.limit.limit.Tie as tie
 
 returns : tie.Need-returns
 unfolding limit_of digits_limit
-returns c = c.digits-limit.ensures ∙ ap digits_limit c.before.after_plus.ensures
+returns c = c.digits_limit.ensures ∙ ap digits_limit c.after_plus.ensures
 
 pub limit_spec : {M : Type 1} → statement M
 limit_spec = tie.close (tie.spec (λ c κs. search rules) (λ c κs. search rules) returns)

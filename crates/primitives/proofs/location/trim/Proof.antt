@@ -10,10 +10,10 @@ use Rattle.primitives.proofs.Slashes.{slash_off, other_stays, nothing_left}
 use Rattle.primitives.proofs.location.trim.Statement.{statement}
 use Rattle.primitives.proofs.location.trim.Tie as tie
 
-abbrev invariant_loop : tie.invariant_loop
+abbrev invariant_loop : tie.invariant-loop-n
 invariant_loop location n₀ n = (n ≤ length location) × (trimmed location ≡ trimmed (take n location))
 
-abbrev decreases_loop : tie.decreases_loop
+abbrev decreases_loop : tie.decreases-loop-n
 decreases_loop location n₀ n = n
 
 pub trim_spec : {M : Type 1} → statement M
@@ -26,12 +26,9 @@ trim_spec =
     (λ c. search rules)
     (λ c. search rules)
     (λ c. sym (length-take-le _ _ (omega arith)))
-    (λ c. let l = c.before.before.before.before in
-    (other_stays _ l.loop.n (omega arith) (omega arith) c.before.if1.true ∙ sym l.loop.invariant.1, refl))
+    (λ c. (other_stays _ c.loop-n.n (omega arith) (omega arith) c.if-location-n-ne47.true ∙ sym c.loop-n.invariant.1, refl))
     (λ c. search rules)
     (λ c. search rules)
-    (λ c. let l = c.before.before.before in
-    (omega arith, l.loop.invariant.1 ∙ slash_off _ l.loop.n (omega arith) (omega arith) c.if1.false))
+    (λ c. (omega arith, c.loop-n.invariant.1 ∙ slash_off _ c.loop-n.n (omega arith) (omega arith) c.if-location-n-ne47.false))
     (λ c. sym (length-take-le _ _ (omega arith)))
-    (λ c. let l = c.before.before in
-    (nothing_left _ l.loop.n c.before.loop-test.false ∙ sym l.loop.invariant.1, refl)))
+    (λ c. (nothing_left _ c.loop-n.n c.loop-n-test.false ∙ sym c.loop-n.invariant.1, refl)))

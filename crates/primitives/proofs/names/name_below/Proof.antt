@@ -9,10 +9,10 @@ use Rattle.primitives.proofs.Bytes.{below_end, below_prefix, below_on, below_her
 use Rattle.primitives.proofs.names.name_below.Statement.{statement}
 use Rattle.primitives.proofs.names.name_below.Tie as tie
 
-abbrev invariant_loop : tie.invariant_loop
+abbrev invariant_loop : tie.invariant-loop-i
 invariant_loop a b i₀ i = (i ≤ length a) × (name_below a b ≡ name_below (drop i a) (drop i b))
 
-abbrev decreases_loop : tie.decreases_loop
+abbrev decreases_loop : tie.decreases-loop-i
 decreases_loop a b i₀ i = length b - i
 
 pub name_below_spec : {M : Type 1} → statement M
@@ -22,15 +22,11 @@ name_below_spec =
     invariant_loop
     decreases_loop
     (λ c. (search rules, refl))
-    (λ c. let l = c.before.before in
-    sym (l.loop.invariant.1 ∙ below_prefix _ _ l.loop.i (omega arith) (omega arith)))
+    (λ c. sym (c.loop-i.invariant.1 ∙ below_prefix _ _ c.loop-i.i (omega arith) (omega arith)))
     (λ c. search rules)
     (λ c. search rules)
-    (λ c. let l = c.before.before.before.before.before in
-    sym (l.loop.invariant.1 ∙ below_here _ _ l.loop.i (omega arith) (omega arith) c.if2.true))
+    (λ c. sym (c.loop-i.invariant.1 ∙ below_here _ _ c.loop-i.i (omega arith) (omega arith) c.if-x-y.true))
     (λ c. search rules)
     (λ c. search rules)
-    (λ c. let l = c.before.before.before.before.before in
-    (omega arith, l.loop.invariant.1 ∙ below_on _ _ l.loop.i (omega arith) (omega arith) c.if2.false))
-    (λ c. let l = c.before in
-    sym (l.loop.invariant.1 ∙ below_end _ _ l.loop.i c.loop-test.false)))
+    (λ c. (omega arith, c.loop-i.invariant.1 ∙ below_on _ _ c.loop-i.i (omega arith) (omega arith) c.if-x-y.false))
+    (λ c. sym (c.loop-i.invariant.1 ∙ below_end _ _ c.loop-i.i c.loop-i-test.false)))

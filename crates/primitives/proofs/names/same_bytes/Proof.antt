@@ -9,10 +9,10 @@ use Rattle.primitives.proofs.Bytes.{unequal_lengths, same_end, same_on, same_not
 use Rattle.primitives.proofs.names.same_bytes.Statement.{statement}
 use Rattle.primitives.proofs.names.same_bytes.Tie as tie
 
-abbrev invariant_loop : tie.invariant_loop
+abbrev invariant_loop : tie.invariant-loop-i
 invariant_loop a b i₀ i = (i ≤ length a) × (same_bytes a b ≡ same_bytes (drop i a) (drop i b))
 
-abbrev decreases_loop : tie.decreases_loop
+abbrev decreases_loop : tie.decreases-loop-i
 decreases_loop a b i₀ i = length a - i
 
 pub same_bytes_spec : {M : Type 1} → statement M
@@ -21,15 +21,12 @@ same_bytes_spec =
     (tie.spec
     invariant_loop
     decreases_loop
-    (λ c. sym (unequal_lengths c.before.args.a.now c.before.args.b.now c.if1.true))
+    (λ c. sym (unequal_lengths c.args.a.now c.args.b.now c.if-a-b.true))
     (λ c. (search rules, refl))
     (λ c. search rules)
     (λ c. search rules)
-    (λ c. let l = c.before.before.before.before in
-    sym (l.loop.invariant.1 ∙ same_not _ _ l.loop.i (search rules) (search rules) c.if2.true))
+    (λ c. sym (c.loop-i.invariant.1 ∙ same_not _ _ c.loop-i.i (search rules) (search rules) c.if-a-i.true))
     (λ c. search rules)
     (λ c. search rules)
-    (λ c. let l = c.before.before.before.before in
-    (search rules, l.loop.invariant.1 ∙ same_on _ _ l.loop.i (search rules) (search rules) c.if2.false))
-    (λ c. let l = c.before in
-    sym (l.loop.invariant.1 ∙ same_end _ _ l.loop.i (omega arith) (omega arith))))
+    (λ c. (search rules, c.loop-i.invariant.1 ∙ same_on _ _ c.loop-i.i (search rules) (search rules) c.if-a-i.false))
+    (λ c. sym (c.loop-i.invariant.1 ∙ same_end _ _ c.loop-i.i (omega arith) (omega arith))))

@@ -14,10 +14,10 @@ unfolding rows_checked row_number row_next
 check_rows_spec =
     tie.close
     (tie.spec
-    (λ c. rw (lt-ltb _ _ c.if1.true))
+    (λ c. rw (lt-ltb _ _ c.if-first-next.true))
     (λ c. search rules)
-    (λ c. let a = c.before.before.before.before.before.args in
+    (λ c. let a = c.args in
     rw (le-ltb a.first.0 a.next.0 (omega arith), lt-ltb largest_unsigned (a.first.0 + a.added) (omega arith)))
     (λ c. search rules)
-    (λ c. let a = c.before.before.before.before.before.before.args in
+    (λ c. let a = c.args in
     rw (le-ltb a.first.0 a.next.0 (omega arith), le-ltb largest_unsigned (a.first.0 + a.added) (omega arith))))

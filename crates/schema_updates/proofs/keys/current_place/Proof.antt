@@ -1,4 +1,5 @@
 -- The place among the ids is that in the table.
+use mir.Syntax.{w64}
 use mathlib.Core.Path.{◌≡◌, ap, ◌∙◌}
 use mathlib.Core.List.{List}
 use borrow.Author.Rules.{rules, sfits_of}
@@ -20,10 +21,9 @@ long c = search rules
 returns : tie.Need-returns
 returns c l e =
     let k = c.before.before.before in
-    let s = k.before.before.before in
-    let id : ℤ = s.args.b.fields.current_schema_id.0 in
+    let id : ℤ = k.args.b.fields.current_schema_id.0 in
     c.position.ensures
-    ∙ ap (λ (z : ℤ). index_of (λ x. eq_z x z) (lent_keys s.args.keys)) (to_z-of_z (sfits_of c.before.struct_told.given.0.1) ∙ k.schema-key.ensures.0)
+    ∙ ap (λ (z : ℤ). index_of (λ x. eq_z x z) (lent_keys k.args.keys)) (to_z-of_z {w = w64} (sfits_of c.struct_told-1.given.0.1) ∙ k.schema_key-k.ensures.0)
     ∙ ap (index_of (λ x. eq_z x id)) (keys_lent l e)
     ∙ index_map (λ x. eq_z x id) (λ (x : plain.Schema). x.id) l
 
@@ -32,7 +32,7 @@ current_place_spec =
     tie.close
     (tie.spec
     (λ c κs. search rules)
-    (λ c. let s = c.before.before.before in keys_within s.requires (long s))
-    (λ c. let s = c.before.before.before.before in keys_slice s.requires (long s))
+    (λ c. let s = c.before.before.before.before in keys_within s.requires (long s))
+    (λ c. let s = c.before.before.before.before.before in keys_slice s.requires (long s))
     (λ c κs. search rules)
     returns)

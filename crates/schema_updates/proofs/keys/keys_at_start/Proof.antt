@@ -7,7 +7,7 @@ pub keys_at_start_spec : {M : Type 1} → statement M
 keys_at_start_spec =
     tie.close
     (tie.spec
-    (λ c κs. c.before.requires c.if1.true)
+    (λ c κs. c.requires c.if-number-eq-ACCEPTED.true)
     (λ c. (c.keys_of.ensures.0, λ z. c.keys_of.ensures.1))
     (λ c κs. search rules)
-    (λ c. (c.no_keys.ensures.0, λ z. absurd (c.before.if1.false z))))
+    (λ c. (c.no_keys.ensures.0, λ z. absurd (c.if-number-eq-ACCEPTED.false z))))

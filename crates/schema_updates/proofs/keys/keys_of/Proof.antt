@@ -16,22 +16,21 @@ use Rattle.schema_updates.specs.Keys.{laid_keys, KeysFit}
 use Rattle.schema_updates.proofs.keys.keys_of.Statement.{statement}
 use Rattle.schema_updates.proofs.keys.keys_of.Tie as tie
 
-abbrev invariant_loop : tie.invariant_loop
+abbrev invariant_loop : tie.invariant-loop-i
 invariant_loop t n r₀ i₀ r i = KeysFit r × (i ≤ t.count) × (r ≡ laid_keys (take i (read_schemas t)))
 
-abbrev decreases_loop : tie.decreases_loop
+abbrev decreases_loop : tie.decreases-loop-i
 decreases_loop t n r₀ i₀ r i = n - i
 
 -- what the logic reads past the end of the table
 abbrev past : Schema
 past = record { schema_id = no_schema_id; items = []; count = 0 }
 
-room : (c : tie.In-loop invariant_loop decreases_loop) → c.before.loop.r.count < 16
+room : (c : tie.In-loop-i invariant_loop decreases_loop) → c.loop-i.r.count < 16
 unfolding laid_keys
 room c =
-    let l = c.before in
-    let t = tidy_schemas l.before.before.requires in
-    omega (arith, within t, read_length t, length-take-le l.loop.i (read_schemas l.before.before.args.t1) (omega (arith, read_length t)), ap (λ (k : SchemaKeys). k.count) l.loop.invariant.2)
+    let t = tidy_schemas c.requires in
+    omega (arith, within t, read_length t, length-take-le c.loop-i.i (read_schemas c.args.t) (omega (arith, read_length t)), ap (λ (k : SchemaKeys). k.count) c.loop-i.invariant.2)
 
 pub keys_of_spec : {M : Type 1} → statement M
 keys_of_spec =
@@ -40,17 +39,15 @@ keys_of_spec =
     invariant_loop
     decreases_loop
     (λ c κs. search rules)
-    (λ c. (c.no_keys.ensures.0, omega arith, c.no_keys.ensures.1))
-    (λ c. omega (arith, within (tidy_schemas c.before.before.before.requires)))
-    (λ c. omega (arith, within (tidy_schemas c.before.before.before.requires)))
-    (λ c κs. (c.before.before.loop.invariant.0, room c.before))
+    (λ c. (c.no_keys-r.ensures.0, omega arith, c.no_keys-r.ensures.1))
+    (λ c. omega (arith, within (tidy_schemas c.requires)))
+    (λ c. omega (arith, within (tidy_schemas c.requires)))
+    (λ c κs. (c.loop-i.invariant.0, room c.before.before))
     (λ c. search rules)
     (λ c. search rules)
-    (λ c. let b = c.before.before in
-    let l = b.before in
-    let i = l.loop.i in
-    let s = get_or l.before.before.args.t1.items i past in
-    (c.with-key.ensures.0, omega arith, c.with-key.ensures.1 (take i (read_schemas l.before.before.args.t1)) (read_schema s) l.loop.invariant.2 refl (listed_length schema_fields s) ∙ ap laid_keys (sym (next (tidy_schemas l.before.before.requires) i past b.loop-test.true))))
-    (λ c. let l = c.before in
-    let t = tidy_schemas l.before.before.requires in
-    (l.loop.invariant.0, l.loop.invariant.2 ∙ ap laid_keys (take_all l.loop.i (read_schemas l.before.before.args.t1) (omega (arith, read_length t))))))
+    (λ c. let b = c.before.before.before in
+    let i = b.loop-i.i in
+    let s = get_or b.args.t.items i past in
+    (c.with_key-r.ensures.0, omega arith, c.with_key-r.ensures.1 (take i (read_schemas b.args.t)) (read_schema s) b.loop-i.invariant.2 refl (listed_length schema_fields s) ∙ ap laid_keys (sym (next (tidy_schemas b.requires) i past b.loop-i-test.true))))
+    (λ c. let t = tidy_schemas c.requires in
+    (c.loop-i.invariant.0, c.loop-i.invariant.2 ∙ ap laid_keys (take_all c.loop-i.i (read_schemas c.args.t) (omega (arith, read_length t))))))

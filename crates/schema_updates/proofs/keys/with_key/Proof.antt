@@ -33,11 +33,10 @@ one_more_lem l s {keys} {z} {size} h e q m =
 
 returns : tie.Need-returns
 returns c =
-    let k = c.before.schema-key in
-    let s = c.before.before in
-    let z : to_z w64 (of_z w64 k.result.0) ≡ s.args.id.0 = to_z-of_z (sfits_of c.struct_told.given.0.1) ∙ k.ensures.0 in (
-      record { within = omega (arith, s.requires.1); narrow = set_fits w32 s.args.keys.items s.args.keys.count _ s.requires.0.narrow (subst (SFits w32) (k.ensures.0 ∙ sym z) k.ensures.1) },
-      λ l x e q m. one_more_lem l x s.requires.1 e (z ∙ sym q) m,
+    let k = c.schema_key-k in
+    let z : to_z w64 (of_z w64 k.result.0) ≡ c.args.id.0 = to_z-of_z {w = w64} (sfits_of c.struct_told-1.given.0.1) ∙ k.ensures.0 in (
+      record { within = omega (arith, c.requires.1); narrow = set_fits w32 c.args.keys.items c.args.keys.count _ c.requires.0.narrow (subst (SFits w32) (k.ensures.0 ∙ sym z) k.ensures.1) },
+      λ l x e q m. one_more_lem l x c.requires.1 e (z ∙ sym q) m,
     )
 
 pub with_key_spec : {M : Type 1} → statement M

@@ -39,49 +39,49 @@ module _ (s : tie.Start) where
   offer = read_spec_offer s.args.u.partition_specs.added
 
   as_kind : s.args.u ≡ by_kind 18 s.args.u
-  as_kind = of_kind_lem s.args.u s.pre.1.1.1.0 18 s.pre.1.1.1.1
+  as_kind = of_kind_lem s.args.u s.requires.1.1.1.0 18 s.requires.1.1.1.1
 
   read : read_update s.args.u ≡ AddPartitionSpec offer
-  read = read_kind_lem s.args.u s.pre.1.1.1.0 18 s.pre.1.1.1.1
+  read = read_kind_lem s.args.u s.requires.1.1.1.0 18 s.requires.1.1.1.1
 
 -- the offered spec with the ids that it reuses
-said : (c : tie.After-reuse-partition-field-ids) → let s = c.before.before.before in (terms : Terms) (st : State) → SpecOffered terms.offers (offer s) s.args.offered → s.args.t ≡ laid_partition_specs st.metadata.specs
-    → read_partition_spec c.reuse-partition-field-ids.result ≡ reusing st.metadata.specs (offered_spec terms.offers (offer s))
+said : (c : tie.After-reuse_partition_field_ids-p) → let s = c.before.before.before.before in (terms : Terms) (st : State) → SpecOffered terms.offers (offer s) s.args.offered → s.args.t ≡ laid_partition_specs st.metadata.specs
+    → read_partition_spec c.reuse_partition_field_ids-p.result ≡ reusing st.metadata.specs (offered_spec terms.offers (offer s))
 said c terms st f q =
-    let s = c.before.before.before in
-    let w : s.args.offered.formed ≡ true = not-false s.args.offered.formed c.before.if1.false in
-    reused_read (read_partition_specs s.args.t) s.requires.1.1.0 c.reuse-partition-field-ids.ensures
+    let s = c.before.before.before.before in
+    let w : s.args.offered.formed ≡ true = not-false s.args.offered.formed c.if-not-offered.false in
+    reused_read (read_partition_specs s.args.t) s.requires.1.1.0 c.reuse_partition_field_ids-p.ensures
     ∙ (λ i. reusing (specs_read st.metadata.specs q i) ((ap read_partition_spec (f.says w) ∙ reread_partition_spec (offered_spec terms.offers (offer s))) i))
 
-returns : tie.Need-returns
+returns : tie.Need-returns-then-not-offered
 unfolding checks offers_formed
 returns c =
     let s = c.before.before.before in
-    let n : s.args.offered.formed ≡ false = not-true s.args.offered.formed c.before.if1.true in
-    let d : c.decided.result.number ≡ 3 = ap (λ (x : Decision). x.number) c.decided.ensures in
-    let z : c.decided.result.number ≡ 0 → ⊥ = λ e. (let y : ◌≡◌ {A = ℕ} 3 0 = sym d ∙ e in omega arith) in
+    let n : s.args.offered.formed ≡ false = not-true s.args.offered.formed c.if-not-offered.true in
+    let d : c.decided-decision.result.number ≡ 3 = ap (λ (x : Decision). x.number) c.decided-decision.ensures in
+    let z : c.decided-decision.result.number ≡ 0 → ⊥ = λ e. (let y : ◌≡◌ {A = ℕ} 3 0 = sym d ∙ e in omega arith) in
     record {
       answers = λ terms st f v r q. rw (read s, sym f.formed ∙ n) (d, λ e. absurd (z e));
       table = λ terms st f v q e. absurd (z e);
     }
 
-returns_2 : tie.Need-returns-2
+returns_2 : tie.Need-returns
 unfolding checks offers_formed effect add_partition_spec_checks add_partition_spec
 returns_2 c =
-    let d = c.before in
+    let d = c.before.before in
     let x = d.before.before.before in
-    let p = x.before.before in
-    let s = p.before.before.before in
-    let a = x.spec-addition in
-    let w : s.args.offered.formed ≡ true = not-false s.args.offered.formed p.before.if1.false in
+    let p = x.before.before.before in
+    let s = p.before.before.before.before in
+    let a = x.spec_addition-x in
+    let w : s.args.offered.formed ≡ true = not-false s.args.offered.formed p.if-not-offered.false in
     record {
       answers = λ terms st f v r q.
-          rw (d.decided2.ensures, read s, sym f.formed ∙ w)
+          rw (d.decided-decision-2.ensures, read s, sym f.formed ∙ w)
           (entry_as (rw (said p terms st f q) at (a.ensures.answers st v r q)) (ap (λ (y : TableUpdate). with_partition_specs_part (with_spec_offer a.result.offer y.partition_specs) y) (as_kind s)));
       table = λ terms st f v q z.
-          c.specs-after.ensures
+          c.specs_after-table.ensures
           ∙ grown st.metadata.specs q a.result.grows (read_partition_spec a.result.spec)
-          ∙ ap laid_partition_specs (sym (a.ensures.table st v q (sym (ap (λ (y : Decision). y.number) d.decided2.ensures) ∙ z)))
+          ∙ ap laid_partition_specs (sym (a.ensures.table st v q (sym (ap (λ (y : Decision). y.number) d.decided-decision-2.ensures) ∙ z)))
           ∙ rw (read s) (ap (λ (y : plain.PartitionSpec). laid_partition_specs (spec_added (offer s) y st).metadata.specs) (said p terms st f q));
     }
 
@@ -91,10 +91,9 @@ add_partition_spec_spec =
     (tie.spec
     (λ c κs. search rules)
     returns
-    (λ c κs. let s = c.before.before in (s.requires.1.0, s.requires.1.1.0))
-    (λ c κs. let p = c.before in
-    let s = p.before.before.before in
-    (s.requires.0, (s.requires.1.0, reused_laid (read_partition_specs s.args.t) s.requires.1.1.0 p.reuse-partition-field-ids.ensures)))
+    (λ c κs. (c.requires.1.0, c.requires.1.1.0))
+    (λ c κs. let p = c.before.before in
+    (p.requires.0, (p.requires.1.0, reused_laid (read_partition_specs p.args.t) p.requires.1.1.0 p.reuse_partition_field_ids-p.ensures)))
     (λ c κs. search rules)
-    (λ c κs. let x = c.before.before.before in (x.before.before.before.before.before.requires.1.0, x.spec-addition.ensures.put))
+    (λ c κs. (c.requires.1.0, c.spec_addition-x.ensures.put))
     returns_2)

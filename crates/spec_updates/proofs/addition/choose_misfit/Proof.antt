@@ -10,9 +10,8 @@ returns c =
     let w = c.before in
     let m = w.before in
     let r = m.before in
-    let k = r.before in
-    let later = w.choose.ensures ∙ ap (λ (x : Bool). cond x 32 k.before.args.rest) m.is-misfit.ensures in
-    c.choose2.ensures ∙ (λ i. cond (k.is-clashing.ensures i || r.is-repeating.ensures i) 31 (later i))
+    let later = w.choose-later.ensures ∙ ap (λ (x : Bool). cond x 32 r.args.rest) m.is_misfit-misfit.ensures in
+    c.choose.ensures ∙ (λ i. cond (r.is_clashing.ensures i || r.is_repeating.ensures i) 31 (later i))
 
 pub choose_misfit_spec : {M : Type 1} → statement M
 choose_misfit_spec =

@@ -53,13 +53,12 @@ returns c =
     let y = z.before.before in
     let w = y.before in
     let q = w.before in
-    let x = q.before.before in
-    let a = x.before.args in
-    let r = x.number-fields in
-    let after = y.choose2.ensures ∙ (λ i. cond (eqb a.version 1 && not (q.is-sequential.ensures i)) 33 (w.choose.ensures i)) in
+    let a = q.args in
+    let r = q.number_fields-x in
+    let after = y.choose-later.ensures ∙ (λ i. cond (eqb a.version 1 && not (q.is_sequential-out.ensures i)) 33 (w.choose-full.ensures i)) in
     done a.p a.last.0 a.version a.over a.count r.result.exhausted r.result.spec r.ensures.0 r.ensures.1.0
-    (z.choose3.ensures ∙ ap (cond (a.over || r.result.exhausted) 18) after)
-    c.last-partition.ensures
+    (z.choose-number.ensures ∙ ap (cond (a.over || r.result.exhausted) 18) after)
+    c.last_partition-top.ensures
     r.ensures.1.1
 
 pub complete_spec : {M : Type 1} → statement M

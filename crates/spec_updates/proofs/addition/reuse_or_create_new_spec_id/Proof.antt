@@ -16,18 +16,17 @@ use Rattle.builder.proofs.NewIds.{given_fits, numbered, reused_at}
 use Rattle.spec_updates.proofs.addition.reuse_or_create_new_spec_id.Statement.{statement}
 use Rattle.spec_updates.proofs.addition.reuse_or_create_new_spec_id.Tie as tie
 
-fits : (c : tie.After-ids-of) → (k : ℕ) → SFits w32 (get_or (take c.before.args.t.count c.ids-of.result) k (pos 0))
-fits c = take_fits w32 c.before.args.t.count c.ids-of.result c.ids-of.ensures.1
+fits : (c : tie.After-ids_of-ids) → (k : ℕ) → SFits w32 (get_or (take c.args.t.count c.ids_of-ids.result) k (pos 0))
+fits c = take_fits w32 c.args.t.count c.ids_of-ids.result c.ids_of-ids.ensures.1
 
 returns : tie.Need-returns
 returns c =
-    let x = c.before in
+    let x = c.before.before in
     let k = x.before.before in
     let i = k.before.before in
-    let s = i.before in
-    let e = lent (tidy_partition_specs s.requires.0) (λ y. y.id) i.ids-of.ensures.0 in
-    numbered w32 (fits i) x.reuse-or-create-new-id.ensures e (ap (given s.args.has_last) k.spec-key.ensures.0) c.spec-id.ensures
-    (reused_at (λ (y : plain.PartitionSpec). same_list same_partition y.fields (read_partition_spec s.args.p).fields) (λ y. y.id) (read_partition_specs s.args.t) k.before.find-equal.ensures e)
+    let e = lent (tidy_partition_specs i.requires.0) (λ y. y.id) i.ids_of-ids.ensures.0 in
+    numbered w32 (fits i) x.reuse_or_create_new_id-x.ensures e (ap (given i.args.has_last) k.spec_key-k.ensures.0) c.spec_id-id.ensures
+    (reused_at (λ (y : plain.PartitionSpec). same_list same_partition y.fields (read_partition_spec i.args.p).fields) (λ y. y.id) (read_partition_specs i.args.t) k.find_equal-i.ensures e)
 
 pub reuse_or_create_new_spec_id_spec : {M : Type 1} → statement M
 reuse_or_create_new_spec_id_spec =
@@ -36,8 +35,8 @@ reuse_or_create_new_spec_id_spec =
     (λ c κs. search rules)
     (λ c κs. search rules)
     (λ c κs. search rules)
-    (λ c. let i = c.before.before in lent_within (tidy_partition_specs i.before.requires.0) (λ y. y.id) i.ids-of.ensures.0)
-    (λ c. let i = c.before.before.before in lent_slice (tidy_partition_specs i.before.requires.0) (λ y. y.id) i.ids-of.ensures.0)
+    (λ c. lent_within (tidy_partition_specs c.requires.0) (λ y. y.id) c.ids_of-ids.ensures.0)
+    (λ c. lent_slice (tidy_partition_specs c.requires.0) (λ y. y.id) c.ids_of-ids.ensures.0)
     (λ c κs. search rules)
-    (λ c κs. given_fits w32 (fits c.before.before.before.before) c.reuse-or-create-new-id.ensures)
+    (λ c κs. given_fits w32 (fits c.before.before.before.before.before) c.reuse_or_create_new_id-x.ensures)
     returns)

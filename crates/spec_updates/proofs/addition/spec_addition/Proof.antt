@@ -207,38 +207,36 @@ module _ (b : TableMetadataBuilder) (s : Schema) (t : PartitionSpecs) (p : Parti
           put = λ h. let z = eqb-true number 0 h in (k.laid, omega (arith, leb-false spec_room t.count (accepted z).1.1.0));
         }
 
-returns : tie.Need-returns
+returns : tie.Need-returns-then-found
 returns c =
     let m = c.before in
     let f = m.before.before in
-    let r = f.before.before in
-    let a = r.before.args in
-    let x = r.reuse-or-create-new-spec-id in
-    let yes = m.before.if1.true in
-    held a.b a.s a.t a.p a.o x.result.id f.logged-offer.result f.logged-offer.ensures (x.ensures.held yes) x.result.is_last (x.ensures.again yes) m.choose-misfit.ensures
+    let a = f.args in
+    let x = f.reuse_or_create_new_spec_id-x in
+    let yes = m.if-found.true in
+    held a.b a.s a.t a.p a.o x.result.id f.logged_offer-offer.result f.logged_offer-offer.ensures (x.ensures.held yes) x.result.is_last (x.ensures.again yes) m.choose_misfit-number.ensures
 
-returns_2 : tie.Need-returns-2
+returns_2 : tie.Need-returns
 returns_2 c =
     let m = c.before.before in
     let y = m.before in
     let j = y.before.before in
     let f = j.before in
-    let r = f.before.before in
-    let a = r.before.args in
-    let x = r.reuse-or-create-new-spec-id in
-    let no = j.if1.false in
-    new a.b a.s a.t a.p a.o x.result.id f.logged-offer.result f.logged-offer.ensures
+    let a = f.args in
+    let x = f.reuse_or_create_new_spec_id-x in
+    let no = j.if-found.false in
+    new a.b a.s a.t a.p a.o x.result.id f.logged_offer-offer.result f.logged_offer-offer.ensures
     (x.ensures.new no) x.result.exhausted (x.ensures.over no) (x.ensures.gets no)
-    y.complete.result y.complete.ensures m.choose-misfit2.result m.choose-misfit2.ensures
+    y.complete-y.result y.complete-y.ensures m.choose_misfit-number-2.result m.choose_misfit-number-2.ensures
 
 pub spec_addition_spec : {M : Type 1} → statement M
 spec_addition_spec =
     tie.close
     (tie.spec
     (λ c κs. search rules)
-    (λ c κs. let s = c.before.before in spec_renamed s.args.p s.requires.1.1 c.before.reuse-or-create-new-spec-id.result.id)
+    (λ c κs. spec_renamed c.args.p c.requires.1.1 c.reuse_or_create_new_spec_id-x.result.id)
     (λ c κs. search rules)
     returns
-    (λ c κs. let r = c.before.before.before.before in spec_renamed r.before.args.p r.before.requires.1.1 r.reuse-or-create-new-spec-id.result.id)
+    (λ c κs. spec_renamed c.args.p c.requires.1.1 c.reuse_or_create_new_spec_id-x.result.id)
     (λ c κs. search rules)
     returns_2)

@@ -11,10 +11,9 @@ pub specs_after_spec : {M : Type 1} → statement M
 specs_after_spec =
     tie.close
     (tie.spec
-    (λ c. omega (arith, (c.before.requires.1 c.if1.true).1))
-    (λ c. omega (arith, (c.before.requires.1 c.if1.true).1))
-    (λ c. omega (arith, (c.before.requires.1 c.if1.true).1))
-    (λ c. let s = c.before in
-    let k = s.requires.1 c.if1.true in
-    rw c.if1.true (pushed_one made_partition_specs (tidy_partition_specs s.requires.0) s.args.p k.1 k.0.back refl refl))
+    (λ c. omega (arith, (c.requires.1 c.if-grows.true).1))
+    (λ c. omega (arith, (c.requires.1 c.if-grows.true).1))
+    (λ c. omega (arith, (c.requires.1 c.if-grows.true).1))
+    (λ c. let k = c.requires.1 c.if-grows.true in
+    rw c.if-grows.true (pushed_one made_partition_specs (tidy_partition_specs c.requires.0) c.args.p k.1 k.0.back refl refl))
     (λ c. search rules))

@@ -17,10 +17,10 @@ none_with : {A : Type 0} (p : A → Bool) (o : Option A) → is_some o ≡ false
 none_with p none e = refl
 none_with p (some a) e = absurd (true≢false e)
 
-returns : tie.Need-returns
+returns : tie.Need-returns-then-not-holds
 returns c =
-    let a = c.before.before.args in
-    none_with (is_misfit (read_schema a.s).fields) (first (has_spec a.id.0) (read_partition_specs a.t)) (first_any (has_spec a.id.0) (read_partition_specs a.t) ∙ sym c.before.holds.ensures ∙ not-true _ c.if1.true)
+    let a = c.args in
+    none_with (is_misfit (read_schema a.s).fields) (first (has_spec a.id.0) (read_partition_specs a.t)) (first_any (has_spec a.id.0) (read_partition_specs a.t) ∙ sym c.holds.ensures ∙ not-true _ c.if-not-holds.true-raw)
 
 pub is_held_misfit_spec : {M : Type 1} → statement M
 is_held_misfit_spec =
@@ -28,7 +28,6 @@ is_held_misfit_spec =
     (tie.spec
     (λ c κs. search rules)
     returns
-    (λ c κs. (c.before.before.requires.0, sym c.before.holds.ensures ∙ not-false _ c.if1.false))
+    (λ c κs. (c.requires.0, sym c.holds.ensures ∙ not-false _ c.if-not-holds.false-raw))
     (λ c κs. search rules)
-    (λ c. let g = c.before in
-    c.is-misfit.ensures ∙ sym (ap (λ (o : Option plain.PartitionSpec). some_with (is_misfit (read_schema g.before.before.before.args.s).fields) o) g.get.ensures.0)))
+    (λ c. c.is_misfit.ensures ∙ sym (ap (λ (o : Option plain.PartitionSpec). some_with (is_misfit (read_schema c.args.s).fields) o) c.get-p.ensures.0)))

@@ -13,11 +13,10 @@ returns : tie.Need-returns
 unfolding checks offers_formed effect
 returns c terms st p r q =
     let x = c.before.before.before in
-    let s = x.before.before in
-    let u = s.args.u in
-    let tidy = s.requires.1.1.0 in
-    let kind = s.requires.1.1.1 in
-    rw (c.decided.ensures, read_kind_lem u tidy 19 kind) (entry_as (x.spec-choice.ensures st p r q) (ap (λ (y : TableUpdate). with_partition_specs_part (with_spec_id x.spec-choice.result.spec_id y.partition_specs) y) (of_kind_lem u tidy 19 kind)))
+    let u = x.args.u in
+    let tidy = x.requires.1.1.0 in
+    let kind = x.requires.1.1.1 in
+    rw (c.decided.ensures, read_kind_lem u tidy 19 kind) (entry_as (x.spec_choice-x.ensures st p r q) (ap (λ (y : TableUpdate). with_partition_specs_part (with_spec_id x.spec_choice-x.result.spec_id y.partition_specs) y) (of_kind_lem u tidy 19 kind)))
 
 pub set_default_partition_spec_spec : {M : Type 1} → statement M
 set_default_partition_spec_spec = tie.close (tie.spec (λ c κs. search rules) (λ c κs. search rules) returns)

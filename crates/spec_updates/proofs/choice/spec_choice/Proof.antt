@@ -48,23 +48,22 @@ returns c st p r q =
     let x = d.before in
     let k = x.before.before in
     let g = k.before.before.before in
-    let s = g.before.before in
-    let a = s.args in
+    let a = g.args in
     let m = st.metadata in
     let last : Option ℤ = st.added.spec in
     let current : ℤ = m.fields.default_spec in
     let K =
-    chosen_as k.before.before.spec-key.ensures.0
-    (ap (given a.b.has_spec) k.before.spec-key2.ensures.0 ∙ ap (λ (b : TableMetadataBuilder). added_spec b) p ∙ given_back last)
-    (k.spec-key3.ensures.0 ∙ ap (λ (b : TableMetadataBuilder). b.fields.default_spec_id.0) p)
-    (λ i z. (lent_in (tidy_partition_specs s.requires.1) (λ y. y.id) g.ids-of.ensures.0 z ∙ ap (λ (l : List plain.PartitionSpec). holds_spec l z) (specs_read m.specs q)) i)
-    x.choose-id.ensures in
+    chosen_as k.spec_key-asked.ensures.0
+    (ap (given a.b.has_spec) k.spec_key-last.ensures.0 ∙ ap (λ (b : TableMetadataBuilder). added_spec b) p ∙ given_back last)
+    (k.spec_key-current.ensures.0 ∙ ap (λ (b : TableMetadataBuilder). b.fields.default_spec_id.0) p)
+    (λ i z. (lent_in (tidy_partition_specs g.requires.1) (λ y. y.id) g.ids_of-ids.ensures.0 z ∙ ap (λ (l : List plain.PartitionSpec). holds_spec l z) (specs_read m.specs q)) i)
+    x.choose_id-x.ensures in
     let y : ℤ = chosen a.id.0 last in
-    let new : d.spec-id.result ≡ record { 0 = y } = λ i. record { 0 = (d.spec-id.ensures ∙ K.takes) i } in
-    let put : h.before.spec-id2.result ≡ record { 0 = choice_logged y last } = λ i. record { 0 = (h.before.spec-id2.ensures ∙ K.logs) i } in
-    let misfit : h.is-held-misfit.result ≡ is_held_misfit y m = h.is-held-misfit.ensures ∙ (λ i. some_with (is_misfit (columns m a.s r i)) (first (has_spec (new i).0) (specs_read m.specs q i))) in
-    let later : w.choose.result ≡ first_of (misfit_checks y m) = w.choose.ensures ∙ (λ i. cond (not (K.unchanged i) && misfit i) 32 0) in (
-      n.choose2.ensures ∙ (λ i. cond (eqb (K.checked i) 0) (later i) (K.checked i)) ∙ then_of (choice_checks a.id.0 last current (holds_spec m.specs)) (misfit_checks y m) refl,
+    let new : d.spec_id-chosen.result ≡ record { 0 = y } = λ i. record { 0 = (d.spec_id-chosen.ensures ∙ K.takes) i } in
+    let put : h.spec_id-logged.result ≡ record { 0 = choice_logged y last } = λ i. record { 0 = (h.spec_id-logged.ensures ∙ K.logs) i } in
+    let misfit : h.is_held_misfit-misfit.result ≡ is_held_misfit y m = h.is_held_misfit-misfit.ensures ∙ (λ i. some_with (is_misfit (columns m a.s r i)) (first (has_spec (new i).0) (specs_read m.specs q i))) in
+    let later : w.choose-later.result ≡ first_of (misfit_checks y m) = w.choose-later.ensures ∙ (λ i. cond (not (K.unchanged i) && misfit i) 32 0) in (
+      n.choose-number.ensures ∙ (λ i. cond (eqb (K.checked i) 0) (later i) (K.checked i)) ∙ then_of (choice_checks a.id.0 last current (holds_spec m.specs)) (misfit_checks y m) refl,
       λ z. rw (K.unchanged, put, new, p) (stepped_unless (eq_z y current) st (on_fields (with_default_spec y) st) (SetDefaultPartitionSpec (choice_logged y last)) _ _ refl refl refl),
     )
 
@@ -76,11 +75,11 @@ spec_choice_spec =
     (λ c κs. search rules)
     (λ c κs. search rules)
     (λ c κs. search rules)
-    (λ c. let g = c.before.before.before in lent_within (tidy_partition_specs g.before.before.requires.1) (λ y. y.id) g.ids-of.ensures.0)
-    (λ c. let g = c.before.before.before.before in lent_slice (tidy_partition_specs g.before.before.requires.1) (λ y. y.id) g.ids-of.ensures.0)
+    (λ c. lent_within (tidy_partition_specs c.requires.1) (λ y. y.id) c.ids_of-ids.ensures.0)
+    (λ c. lent_slice (tidy_partition_specs c.requires.1) (λ y. y.id) c.ids_of-ids.ensures.0)
     (λ c κs. search rules)
-    (λ c κs. let k = c.before.before.before in takes_fits w32 k.before.before.before.before.args.b.has_spec k.spec-key2.result.0 c.choose-id.ensures k.before.spec-key.ensures.1 k.spec-key2.ensures.1)
-    (λ c κs. let k = c.before.before.before.before in logs_fits w32 k.before.before.before.before.args.b.has_spec k.spec-key2.result.0 c.before.choose-id.ensures k.before.spec-key.ensures.1 k.spec-key2.ensures.1)
+    (λ c κs. takes_fits w32 c.args.b.has_spec c.spec_key-last.result.0 c.choose_id-x.ensures c.spec_key-asked.ensures.1 c.spec_key-last.ensures.1)
+    (λ c κs. logs_fits w32 c.args.b.has_spec c.spec_key-last.result.0 c.choose_id-x.ensures c.spec_key-asked.ensures.1 c.spec_key-last.ensures.1)
     (λ c κs. search rules)
     (λ c κs. search rules)
     (λ c κs. search rules)

@@ -20,32 +20,31 @@ specs_same : (terms : Terms) (st : State) (id : ℤ) → st.metadata.specs ≡ (
 unfolding effect set_default_partition_spec
 specs_same terms st id = by_test (λ (s : State). st.metadata.specs ≡ s.metadata.specs) (eq_z (chosen id st.added.spec) st.metadata.fields.default_spec) (λ _. refl) (λ _. refl)
 
-removes : (c : tie.Else2) → c.before.before.before.args.u.kind ≡ remove_partition_specs_kind
-removes c = let p = c.before.before.before.requires.1.1.1.1.1 in omega (arith, p.0, p.1, c.before.if1.false, c.if2.false)
+removes : (c : tie.Else-kind-eq-SET_DEFAULT_PARTITION_SPEC) → c.args.u.kind ≡ remove_partition_specs_kind
+removes c = let p = c.requires.1.1.1.1.1 in omega (arith, p.0, p.1, c.if-kind-eq-ADD_PARTITION_SPEC.false, c.if-kind-eq-SET_DEFAULT_PARTITION_SPEC.false)
 
-returns : tie.Need-returns
+returns : tie.Need-returns-then-kind-eq-ADD_PARTITION_SPEC
 returns c =
-    let D = c.add-partition-spec.ensures in
-    let o = c.before.spec.ensures in
+    let D = c.add_partition_spec.ensures in
+    let o = c.spec-offered.ensures in
     record {
       answers = λ terms st e v r q. D.answers terms st (rw e o) v r q;
       table = λ terms st e v q z. D.table terms st (rw e o) v q z;
     }
 
-returns_2 : tie.Need-returns-2
+returns_2 : tie.Need-returns-then-kind-eq-SET_DEFAULT_PARTITION_SPEC
 returns_2 c =
-    let s = c.before.before.before.before in
-    let u = s.args.u in
+    let u = c.args.u in
     let id : ℤ = u.partition_specs.chosen.0 in
-    let k : read_update u ≡ SetDefaultPartitionSpec id = read_kind_lem u s.requires.1.1.1.0 19 c.before.if2.true in
+    let k : read_update u ≡ SetDefaultPartitionSpec id = read_kind_lem u c.requires.1.1.1.0 19 c.if-kind-eq-SET_DEFAULT_PARTITION_SPEC.true in
     record {
-      answers = λ terms st e v r q. c.set-default-partition-spec.ensures terms st v r q;
+      answers = λ terms st e v r q. c.set_default_partition_spec-decision.ensures terms st v r q;
       table = λ terms st e v q z. q ∙ ap laid_partition_specs (specs_same terms st id ∙ ap (λ (x : Update). (effect terms x st).metadata.specs) (sym k));
     }
 
-returns_3 : tie.Need-returns-3
+returns_3 : tie.Need-returns
 returns_3 c =
-    let D = c.remove-partition-specs.ensures in
+    let D = c.remove_partition_specs.ensures in
     record {
       answers = λ terms st e v r q. D.0 terms st v q;
       table = λ terms st e v q z. D.1 terms st q;
@@ -60,5 +59,5 @@ decide_spec =
     returns
     (λ c κs. search rules)
     returns_2
-    (λ c κs. let p = c.before.before.before.requires.1 in (p.0, (p.1.0, (p.1.1.0, (p.1.1.1.0, removes c)))))
+    (λ c κs. let p = c.requires.1 in (p.0, (p.1.0, (p.1.1.0, (p.1.1.1.0, removes c)))))
     returns_3)

@@ -56,11 +56,11 @@ module _ (s : tie.Start) where
   laid_ids = given_spec_ids s.args.u s.requires.1.1.0 (formed_kind s.args.u s.requires.1.1.0 20 s.requires.1.1.1.1 s.requires.1.1.1.0)
 
   read : read_update s.args.u ≡ RemovePartitionSpecs (read_spec_ids s.args.u.partition_specs.removed)
-  read = read_kind_lem s.args.u s.pre.1.1.0 20 s.pre.1.1.1.1
+  read = read_kind_lem s.args.u s.requires.1.1.0 20 s.requires.1.1.1.1
 
   ascends : ascending spec_below (read_partition_specs s.args.t) ≡ true
   unfolding specs_formed
-  ascends = (table_parts_lem spec_room spec_formed spec_below (read_partition_specs s.args.t) s.pre.1.0).2
+  ascends = (table_parts_lem spec_room spec_formed spec_below (read_partition_specs s.args.t) s.requires.1.0).2
 
 returns : tie.Need-returns
 unfolding checks offers_formed effect remove_partition_specs_checks remove_partition_specs laid_spec_ids laid_builder laid_fields laid_update
@@ -73,15 +73,15 @@ returns c =
     let ids : List ℤ = read_spec_ids u.partition_specs.removed in (
       λ terms st p q.
           let l = st.metadata.specs in
-          let held : h.held.result ≡ laid_spec_ids (held_specs ids l) = h.held.ensures ∙ ap (λ (x : List plain.PartitionSpec). laid_spec_ids (held_specs ids x)) (specs_read l q) in
-          let some : ltb 0 h.held.result.count ≡ not (is_empty (held_specs ids l)) = some_counted (held_specs ids l) h.held.result.count (sym (ap (λ (x : SpecIds). x.count) held)) in
-          let e : with_partition_specs_part (with_spec_ids h.held.result u.partition_specs) u ≡ laid_update (RemovePartitionSpecs (held_specs ids l)) =
-          ap (λ (y : TableUpdate). with_partition_specs_part (with_spec_ids h.held.result y.partition_specs) y) (of_kind_lem u s.requires.1.1.0 20 s.requires.1.1.1.1) ∙ rw held in
-          rw (d.decided.ensures, read s, some) (
-            h.before.choose.ensures ∙ rw (r.has-spec.ensures, ap (λ (b : TableMetadataBuilder). b.fields.default_spec_id.0) p),
+          let held : h.held-logged.result ≡ laid_spec_ids (held_specs ids l) = h.held-logged.ensures ∙ ap (λ (x : List plain.PartitionSpec). laid_spec_ids (held_specs ids x)) (specs_read l q) in
+          let some : ltb 0 h.held-logged.result.count ≡ not (is_empty (held_specs ids l)) = some_counted (held_specs ids l) h.held-logged.result.count (sym (ap (λ (x : SpecIds). x.count) held)) in
+          let e : with_partition_specs_part (with_spec_ids h.held-logged.result u.partition_specs) u ≡ laid_update (RemovePartitionSpecs (held_specs ids l)) =
+          ap (λ (y : TableUpdate). with_partition_specs_part (with_spec_ids h.held-logged.result y.partition_specs) y) (of_kind_lem u s.requires.1.1.0 20 s.requires.1.1.1.1) ∙ rw held in
+          rw (d.decided-decision.ensures, read s, some) (
+            h.choose-number.ensures ∙ rw (r.has_spec-removed.ensures, ap (λ (b : TableMetadataBuilder). b.fields.default_spec_id.0) p),
             λ z. stepped_unless (is_empty (held_specs ids l)) st (with_metadata (with_specs (left ids l) st.metadata) st) (RemovePartitionSpecs (held_specs ids l)) _ _ refl p e,
           ),
-      λ terms st q. c.without.ensures ∙ ap (λ (x : List plain.PartitionSpec). laid_partition_specs (left ids x)) (specs_read st.metadata.specs q) ∙ rw (read s) (ap laid_partition_specs (left_is ids st)),
+      λ terms st q. c.without-table.ensures ∙ ap (λ (x : List plain.PartitionSpec). laid_partition_specs (left ids x)) (specs_read st.metadata.specs q) ∙ rw (read s) (ap laid_partition_specs (left_is ids st)),
     )
 
 pub remove_partition_specs_spec : {M : Type 1} → statement M

@@ -24,27 +24,26 @@ removes : (u : TableUpdate) (which : StatisticsTable) → Within which u → is_
 removes u Statistics w f = let n = neither (eqb u.kind set_statistics_kind) (eqb u.kind set_partition_statistics_kind) f in omega (arith, eqb-false u.kind set_statistics_kind n.0)
 removes u PartitionStatistics w f = let n = neither (eqb u.kind set_statistics_kind) (eqb u.kind set_partition_statistics_kind) f in omega (arith, eqb-false u.kind set_partition_statistics_kind n.1)
 
-returns : tie.Need-returns
+returns : tie.Need-returns-then-kind
 unfolding files_after
 returns c =
-    let u = c.before.before.args.u in
-    let D = c.set-statistics.ensures in
-    let t = c.before.if1.true in
+    let u = c.args.u in
+    let D = c.set_statistics.ensures in
+    let t = c.if-kind.true in
     record {
       answers = λ which terms st w p q. D.answers which terms st (sets u which w t) p q;
-      table = λ which terms st w q z. statistics_grown which st q c.set-statistics.result (rw t) (D.table which terms st (sets u which w t) z);
+      table = λ which terms st w q z. statistics_grown which st q c.set_statistics.result (rw t) (D.table which terms st (sets u which w t) z);
       new = λ _. D.new;
     }
 
-returns_2 : tie.Need-returns-2
+returns_2 : tie.Need-returns
 unfolding files_after
 returns_2 c =
-    let s = c.before.before in
-    let u = s.args.u in
-    let f = c.before.if1.false in
+    let u = c.args.u in
+    let f = c.if-kind.false in
     record {
-      answers = λ which terms st w p q. c.remove-statistics.ensures which terms st (removes u which w f) p q;
-      table = λ which terms st w q z. statistics_left which st q terms (read_update u) u.statistics.removed.0 (remove_read u s.requires.1.0 which (removes u which w f)) (rw f);
+      answers = λ which terms st w p q. c.remove_statistics.ensures which terms st (removes u which w f) p q;
+      table = λ which terms st w q z. statistics_left which st q terms (read_update u) u.statistics.removed.0 (remove_read u c.requires.1.0 which (removes u which w f)) (rw f);
       new = λ t. absurd (true≢false (sym t ∙ f));
     }
 
@@ -52,7 +51,7 @@ pub decide_spec : {M : Type 1} → statement M
 decide_spec =
     tie.close
     (tie.spec
-    (λ c κs. let s = c.before in (s.requires.0, (s.requires.1.0, (s.requires.1.1, c.if1.true))))
+    (λ c κs. (c.requires.0, (c.requires.1.0, (c.requires.1.1, c.if-kind.true))))
     returns
-    (λ c κs. let s = c.before in (s.requires.0, s.requires.1.0))
+    (λ c κs. (c.requires.0, c.requires.1.0))
     returns_2)

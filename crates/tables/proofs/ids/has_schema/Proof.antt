@@ -8,10 +8,10 @@ use Rattle.tables.proofs.Each.{schema_ids, tidy_schema_ids}
 use Rattle.tables.proofs.ids.has_schema.Statement.{statement}
 use Rattle.tables.proofs.ids.has_schema.Tie as tie
 
-abbrev invariant_loop : tie.invariant_loop
+abbrev invariant_loop : tie.invariant-loop-i
 invariant_loop id ids n i₀ i = Sought schema_ids (eq_z id.0) ids i
 
-abbrev decreases_loop : tie.decreases_loop
+abbrev decreases_loop : tie.decreases-loop-i
 decreases_loop id ids n i₀ i = n - i
 
 pub has_schema_spec : {M : Type 1} → statement M
@@ -24,10 +24,8 @@ has_schema_spec =
     (λ c. search rules)
     (λ c. search rules)
     (λ c κs. search rules)
-    (λ c. let l = c.before.before.before.before in
-    found_here (tidy_schema_ids l.before.requires) _ c.before.before.before.loop-test.true l.loop.invariant (sym c.before.same-schema.ensures ∙ c.if1.true))
+    (λ c. found_here (tidy_schema_ids c.requires) _ c.loop-i-test.true c.loop-i.invariant (sym c.same_schema.ensures ∙ c.if-same_schema.true))
     (λ c. search rules)
     (λ c. search rules)
-    (λ c. let l = c.before.before.before.before in
-    sought_on (tidy_schema_ids l.before.requires) _ c.before.before.before.loop-test.true l.loop.invariant (sym c.before.same-schema.ensures ∙ c.if1.false))
-    (λ c. found_end (tidy_schema_ids c.before.before.requires) c.loop-test.false c.before.loop.invariant))
+    (λ c. sought_on (tidy_schema_ids c.requires) _ c.loop-i-test.true c.loop-i.invariant (sym c.same_schema.ensures ∙ c.if-same_schema.false))
+    (λ c. found_end (tidy_schema_ids c.requires) c.loop-i-test.false c.loop-i.invariant))

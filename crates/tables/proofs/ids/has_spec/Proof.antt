@@ -8,10 +8,10 @@ use Rattle.tables.proofs.Each.{spec_ids, tidy_spec_ids}
 use Rattle.tables.proofs.ids.has_spec.Statement.{statement}
 use Rattle.tables.proofs.ids.has_spec.Tie as tie
 
-abbrev invariant_loop : tie.invariant_loop
+abbrev invariant_loop : tie.invariant-loop-i
 invariant_loop id ids n i₀ i = Sought spec_ids (eq_z id.0) ids i
 
-abbrev decreases_loop : tie.decreases_loop
+abbrev decreases_loop : tie.decreases-loop-i
 decreases_loop id ids n i₀ i = n - i
 
 pub has_spec_spec : {M : Type 1} → statement M
@@ -24,10 +24,8 @@ has_spec_spec =
     (λ c. search rules)
     (λ c. search rules)
     (λ c κs. search rules)
-    (λ c. let l = c.before.before.before.before in
-    found_here (tidy_spec_ids l.before.requires) _ c.before.before.before.loop-test.true l.loop.invariant (sym c.before.same_spec.ensures ∙ c.if1.true))
+    (λ c. found_here (tidy_spec_ids c.requires) _ c.loop-i-test.true c.loop-i.invariant (sym c.same_spec.ensures ∙ c.if-same_spec.true))
     (λ c. search rules)
     (λ c. search rules)
-    (λ c. let l = c.before.before.before.before in
-    sought_on (tidy_spec_ids l.before.requires) _ c.before.before.before.loop-test.true l.loop.invariant (sym c.before.same_spec.ensures ∙ c.if1.false))
-    (λ c. found_end (tidy_spec_ids c.before.before.requires) c.loop-test.false c.before.loop.invariant))
+    (λ c. sought_on (tidy_spec_ids c.requires) _ c.loop-i-test.true c.loop-i.invariant (sym c.same_spec.ensures ∙ c.if-same_spec.false))
+    (λ c. found_end (tidy_spec_ids c.requires) c.loop-i-test.false c.loop-i.invariant))

@@ -14,5 +14,5 @@ is_held_spec =
     tie.close
     (tie.spec
     (λ c κs. search rules)
-    (λ c. let a = c.before.before.args in
-    ap (λ (n : ℕ). ltb n (length a.ids.now)) (rw (to_z-of_z (sfits_of c.before.struct_told.given.0.1)) at c.position-ascending.ensures) ∙ id_found a.id.0 a.ids.now))
+    (λ c. let a = c.args in
+    ap (λ (n : ℕ). ltb n (length a.ids.now)) (rw (to_z-of_z (sfits_of c.struct_told-1.given.0.1)) at c.position_ascending.ensures) ∙ id_found a.id.0 a.ids.now))

@@ -8,8 +8,8 @@ use Rattle.tables.proofs.Keyed.{wide_fits}
 use Rattle.tables.proofs.keys.field_key.Statement.{statement}
 use Rattle.tables.proofs.keys.field_key.Tie as tie
 
-fits : (c : tie.After-struct-told) → SFits w32 c.before.args.id.0
-fits c = sfits_of c.struct_told.given.0.1
+fits : (c : tie.After-struct_told-1) → SFits w32 c.args.id.0
+fits c = sfits_of c.struct_told-1.given.0.1
 
 pub field_key_spec : {M : Type 1} → statement M
 field_key_spec =

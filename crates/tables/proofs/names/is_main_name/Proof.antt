@@ -10,7 +10,7 @@ pub is_main_name_spec : {M : Type 1} → statement M
 is_main_name_spec =
     tie.close
     (tie.spec
-    (λ c. name_within c.before.requires)
-    (λ c. name_counted c.before.before.requires)
+    (λ c. name_within c.requires)
+    (λ c. name_counted c.requires)
     (λ c κs. search rules)
-    (λ c. c.is-main.ensures ∙ ap is_main (name_read c.before.before.before.requires)))
+    (λ c. c.is_main.ensures ∙ ap is_main (name_read c.requires)))

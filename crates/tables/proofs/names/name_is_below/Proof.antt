@@ -10,10 +10,10 @@ pub name_is_below_spec : {M : Type 1} → statement M
 name_is_below_spec =
     tie.close
     (tie.spec
-    (λ c. name_within c.before.before.requires.0)
-    (λ c. name_counted c.before.before.before.requires.0)
-    (λ c. name_within c.before.before.before.requires.1)
-    (λ c. name_counted c.before.before.before.before.requires.1)
+    (λ c. name_within c.requires.0)
+    (λ c. name_counted c.requires.0)
+    (λ c. name_within c.requires.1)
+    (λ c. name_counted c.requires.1)
     (λ c κs. search rules)
-    (λ c. let p = c.before.before.before.before.before.requires in
+    (λ c. let p = c.requires in
     c.name_below.ensures ∙ ap₂ name_below (name_read p.0) (name_read p.1)))

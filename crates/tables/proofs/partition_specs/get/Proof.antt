@@ -16,16 +16,15 @@ use Rattle.tables.proofs.partition_specs.get.Statement.{statement}
 use Rattle.tables.proofs.partition_specs.get.Tie as tie
 
 -- the place among the keys is that in the table
-placed : (c : tie.After-position) → let s = c.before.before.before.before.before in c.position.result ≡ index_of (has_spec s.args.id.0) (read_partition_specs s.args.t1)
+placed : (c : tie.After-position-i) → let s = c.before.before.before.before.before in c.position-i.result ≡ index_of (has_spec s.args.id.0) (read_partition_specs s.args.t)
 placed c =
-    let k = c.before.before.before in let s = k.before.before in
-    lent_place (tidy_partition_specs s.requires.0) (λ x. x.id) k.before.ids-of.ensures.0 (λ z. eq_z z s.args.id.0) (rw (to_z-of_z (sfits_of c.before.struct_told.given.0.1), k.spec-key.ensures.0) at c.position.ensures)
+    let k = c.before.before.before in lent_place (tidy_partition_specs k.requires.0) (λ x. x.id) k.ids_of-ids.ensures.0 (λ z. eq_z z k.args.id.0) (rw (to_z-of_z (sfits_of c.struct_told-1.given.0.1), k.spec_key-k.ensures.0) at c.position-i.ensures)
 
-found : (c : tie.After-position) → c.position.result < c.before.before.before.before.before.args.t1.count
-found c = let s = c.before.before.before.before.before in found_within (tidy_partition_specs s.requires.0) (has_spec s.args.id.0) s.requires.1 (placed c)
+found : (c : tie.After-position-i) → c.position-i.result < c.args.t.count
+found c = found_within (tidy_partition_specs c.requires.0) (has_spec c.args.id.0) c.requires.1 (placed c)
 
-inside : (c : tie.After-position) → c.position.result < 16
-inside c = omega (arith, found c, within (tidy_partition_specs c.before.before.before.before.before.requires.0))
+inside : (c : tie.After-position-i) → c.position-i.result < 16
+inside c = omega (arith, found c, within (tidy_partition_specs c.requires.0))
 
 pub get_spec : {M : Type 1} → statement M
 get_spec =
@@ -33,12 +32,12 @@ get_spec =
     (tie.spec
     (λ c κs. search rules)
     (λ c κs. search rules)
-    (λ c. lent_within (tidy_partition_specs c.before.before.requires.0) (λ x. x.id) c.before.ids-of.ensures.0)
-    (λ c. lent_slice (tidy_partition_specs c.before.before.before.requires.0) (λ x. x.id) c.before.before.ids-of.ensures.0)
+    (λ c. lent_within (tidy_partition_specs c.requires.0) (λ x. x.id) c.ids_of-ids.ensures.0)
+    (λ c. lent_slice (tidy_partition_specs c.requires.0) (λ x. x.id) c.ids_of-ids.ensures.0)
     (λ c κs. search rules)
     (λ c. omega (arith, inside c))
     inside
-    (λ c. let s = c.before.before.before.before.before.before in (
-      found_first (tidy_partition_specs s.requires.0) (has_spec s.args.id.0) s.requires.1 (placed c.before) _,
-      spec_at_lem s.requires.0 _ _ (found c.before),
+    (λ c. (
+      found_first (tidy_partition_specs c.requires.0) (has_spec c.args.id.0) c.requires.1 (placed c.before) _,
+      spec_at_lem c.requires.0 _ _ (found c.before),
     )))

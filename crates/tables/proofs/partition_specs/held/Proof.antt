@@ -9,10 +9,10 @@ use Rattle.tables.proofs.Each.{partition_specs, tidy_partition_specs, none_spec_
 use Rattle.tables.proofs.partition_specs.held.Statement.{statement}
 use Rattle.tables.proofs.partition_specs.held.Tie as tie
 
-abbrev invariant_loop : tie.invariant_loop
+abbrev invariant_loop : tie.invariant-loop-i
 invariant_loop ids t n r₀ i₀ r i = Gathered partition_specs laid_spec_ids (λ x. x.id) (read_spec_ids ids) t r i
 
-abbrev decreases_loop : tie.decreases_loop
+abbrev decreases_loop : tie.decreases-loop-i
 decreases_loop ids t n r₀ i₀ r i = n - i
 
 pub held_spec : {M : Type 1} → statement M
@@ -22,19 +22,16 @@ held_spec =
     invariant_loop
     decreases_loop
     (λ c κs. search rules)
-    (λ c. gather_start (tidy_partition_specs c.before.requires.0) (c.blank.ensures ∙ none_spec_ids))
+    (λ c. gather_start (tidy_partition_specs c.requires.0) (c.blank-r.ensures ∙ none_spec_ids))
     (λ c. search rules)
     (λ c. search rules)
     (λ c. search rules)
     (λ c κs. search rules)
-    (λ c κs. let b = c.before.before.before.before in
-    let p = b.before.before.before.requires in
-    let f = gather_room (tidy_partition_specs p.0) _ b.loop-test.true b.before.loop.invariant (sym c.before.has-spec.ensures ∙ c.if1.true) p.1.1 in
-    room_spec_ids _ b.before.loop.invariant.gathered (omega (arith, f, p.1.0.fits)))
+    (λ c κs. let p = c.requires in
+    let f = gather_room (tidy_partition_specs p.0) _ c.loop-i-test.true c.loop-i.invariant (sym c.has_spec.ensures ∙ c.if-has_spec.true) p.1.1 in
+    room_spec_ids _ c.loop-i.invariant.gathered (omega (arith, f, p.1.0.fits)))
     (λ c. search rules)
-    (λ c. let b = c.before.before.before.before.before in
-    gather_more (tidy_partition_specs b.before.before.before.requires.0) _ b.loop-test.true b.before.loop.invariant (sym c.before.before.has-spec.ensures ∙ c.before.if1.true) (read_spec_ids_lem _ b.before.loop.invariant.gathered) c.push_spec.ensures)
+    (λ c. gather_more (tidy_partition_specs c.requires.0) _ c.loop-i-test.true c.loop-i.invariant (sym c.has_spec.ensures ∙ c.if-has_spec.true) (read_spec_ids_lem _ c.loop-i.invariant.gathered) c.push_spec-r.ensures)
     (λ c. search rules)
-    (λ c. let b = c.before.before.before.before in
-    gather_less (tidy_partition_specs b.before.before.before.requires.0) _ b.loop-test.true b.before.loop.invariant (sym c.before.has-spec.ensures ∙ c.if1.false))
-    (λ c. gather_end (tidy_partition_specs c.before.before.before.requires.0) c.loop-test.false c.before.loop.invariant))
+    (λ c. gather_less (tidy_partition_specs c.requires.0) _ c.loop-i-test.true c.loop-i.invariant (sym c.has_spec.ensures ∙ c.if-has_spec.false))
+    (λ c. gather_end (tidy_partition_specs c.requires.0) c.loop-i-test.false c.loop-i.invariant))

@@ -6,14 +6,13 @@ use Rattle.tables.proofs.Each.{tidy_partition_specs}
 use Rattle.tables.proofs.partition_specs.holds.Statement.{statement}
 use Rattle.tables.proofs.partition_specs.holds.Tie as tie
 
-pub holds_spec_lem : {M : Type 1} → statement M
-holds_spec_lem =
+pub holds_spec : {M : Type 1} → statement M
+holds_spec =
     tie.close
     (tie.spec
     (λ c κs. search rules)
     (λ c κs. search rules)
-    (λ c. lent_within (tidy_partition_specs c.before.before.requires) (λ x. x.id) c.before.ids-of.ensures.0)
-    (λ c. lent_slice (tidy_partition_specs c.before.before.before.requires) (λ x. x.id) c.before.before.ids-of.ensures.0)
+    (λ c. lent_within (tidy_partition_specs c.requires) (λ x. x.id) c.ids_of-ids.ensures.0)
+    (λ c. lent_slice (tidy_partition_specs c.requires) (λ x. x.id) c.ids_of-ids.ensures.0)
     (λ c κs. search rules)
-    (λ c. let k = c.before.before in let s = k.before.before in
-    c.is-in.ensures ∙ rw k.spec-key.ensures.0 (lent_in (tidy_partition_specs s.requires) (λ x. x.id) k.before.ids-of.ensures.0 s.args.id.0)))
+    (λ c. let k = c.before.before in c.is_in.ensures ∙ rw k.spec_key-k.ensures.0 (lent_in (tidy_partition_specs k.requires) (λ x. x.id) k.ids_of-ids.ensures.0 k.args.id.0)))

@@ -10,10 +10,10 @@ use Rattle.tables.proofs.Each.{partition_specs, tidy_partition_specs, made_parti
 use Rattle.tables.proofs.partition_specs.without.Statement.{statement}
 use Rattle.tables.proofs.partition_specs.without.Tie as tie
 
-abbrev invariant_loop : tie.invariant_loop
+abbrev invariant_loop : tie.invariant-loop-i
 invariant_loop ids t n r₀ i₀ r i = Filtered partition_specs laid_partition_specs (λ x. not (is_in (read_spec_ids ids) x.id)) t r i
 
-abbrev decreases_loop : tie.decreases_loop
+abbrev decreases_loop : tie.decreases-loop-i
 decreases_loop ids t n r₀ i₀ r i = n - i
 
 pub without_spec : {M : Type 1} → statement M
@@ -23,7 +23,7 @@ without_spec =
     invariant_loop
     decreases_loop
     (λ c κs. search rules)
-    (λ c. filtered_start made_partition_specs (tidy_partition_specs c.before.requires.0) (c.blank.ensures ∙ none_partition_specs))
+    (λ c. filtered_start made_partition_specs (tidy_partition_specs c.requires.0) (c.blank-r.ensures ∙ none_partition_specs))
     (λ c. search rules)
     (λ c. search rules)
     (λ c. search rules)
@@ -32,9 +32,7 @@ without_spec =
     (λ c. search rules)
     (λ c. search rules)
     (λ c. search rules)
-    (λ c. let b = c.before.before.before.before in
-    filtered_more made_partition_specs (tidy_partition_specs b.before.before.before.requires.0) _ b.loop-test.true b.before.loop.invariant (ap not (sym c.before.has-spec.ensures) ∙ c.if1.true) refl refl)
+    (λ c. filtered_more made_partition_specs (tidy_partition_specs c.requires.0) _ c.loop-i-test.true c.loop-i.invariant (ap not (sym c.has_spec.ensures) ∙ c.if-not-has_spec.true-raw) refl refl)
     (λ c. search rules)
-    (λ c. let b = c.before.before.before.before in
-    filtered_less made_partition_specs (tidy_partition_specs b.before.before.before.requires.0) _ b.loop-test.true b.before.loop.invariant (ap not (sym c.before.has-spec.ensures) ∙ c.if1.false))
-    (λ c. filtered_end made_partition_specs (tidy_partition_specs c.before.before.before.requires.0) c.loop-test.false c.before.loop.invariant))
+    (λ c. filtered_less made_partition_specs (tidy_partition_specs c.requires.0) _ c.loop-i-test.true c.loop-i.invariant (ap not (sym c.has_spec.ensures) ∙ c.if-not-has_spec.false-raw))
+    (λ c. filtered_end made_partition_specs (tidy_partition_specs c.requires.0) c.loop-i-test.false c.loop-i.invariant))

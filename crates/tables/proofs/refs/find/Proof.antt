@@ -10,10 +10,10 @@ use Rattle.tables.proofs.Each.{refs, tidy_refs, ref_at_lem, name_of}
 use Rattle.tables.proofs.refs.find.Statement.{statement}
 use Rattle.tables.proofs.refs.find.Tie as tie
 
-abbrev invariant_loop : tie.invariant_loop
+abbrev invariant_loop : tie.invariant-loop-i
 invariant_loop name t n i₀ i = Sought refs (has_name (read_name name)) t i
 
-abbrev decreases_loop : tie.decreases_loop
+abbrev decreases_loop : tie.decreases-loop-i
 decreases_loop name t n i₀ i = n - i
 
 pub find_spec : {M : Type 1} → statement M
@@ -26,12 +26,12 @@ find_spec =
     (λ c. search rules)
     (λ c. search rules)
     (λ c κs. search rules)
-    (λ c. let b = c.before.before.before.before in let p = b.before.before.requires in
-    let e = c.before.same-name.ensures ∙ same_names (name_of (ref_at_lem p.0 b.before.loop.i _ b.loop-test.true)) p.1 in
-    sought_here (tidy_refs p.0) _ b.loop-test.true b.before.loop.invariant (sym e ∙ c.if1.true))
+    (λ c. let p = c.requires in
+    let e = c.same_name.ensures ∙ same_names (name_of (ref_at_lem p.0 c.loop-i.i _ c.loop-i-test.true)) p.1 in
+    sought_here (tidy_refs p.0) _ c.loop-i-test.true c.loop-i.invariant (sym e ∙ c.if-same_name.true))
     (λ c. search rules)
     (λ c. search rules)
-    (λ c. let b = c.before.before.before.before in let p = b.before.before.requires in
-    let e = c.before.same-name.ensures ∙ same_names (name_of (ref_at_lem p.0 b.before.loop.i _ b.loop-test.true)) p.1 in
-    sought_on (tidy_refs p.0) _ b.loop-test.true b.before.loop.invariant (sym e ∙ c.if1.false))
-    (λ c. sought_end (tidy_refs c.before.before.requires.0) c.loop-test.false c.before.loop.invariant))
+    (λ c. let p = c.requires in
+    let e = c.same_name.ensures ∙ same_names (name_of (ref_at_lem p.0 c.loop-i.i _ c.loop-i-test.true)) p.1 in
+    sought_on (tidy_refs p.0) _ c.loop-i-test.true c.loop-i.invariant (sym e ∙ c.if-same_name.false))
+    (λ c. sought_end (tidy_refs c.requires.0) c.loop-i-test.false c.loop-i.invariant))

@@ -10,10 +10,10 @@ use Rattle.tables.proofs.Each.{refs, tidy_refs, ref_at_lem, name_of}
 use Rattle.tables.proofs.refs.place.Statement.{statement}
 use Rattle.tables.proofs.refs.place.Tie as tie
 
-abbrev invariant_loop : tie.invariant_loop
+abbrev invariant_loop : tie.invariant-loop-i
 invariant_loop name t n i₀ i = Sought refs (λ x. not (name_below x.name (read_name name))) t i
 
-abbrev decreases_loop : tie.decreases_loop
+abbrev decreases_loop : tie.decreases-loop-i
 decreases_loop name t n i₀ i = n - i
 
 pub place_spec : {M : Type 1} → statement M
@@ -25,12 +25,10 @@ place_spec =
     (λ c. sought_start (tidy_refs c.requires.0))
     (λ c. search rules)
     (λ c. search rules)
-    (λ c κs. let b = c.before.before in let p = b.before.before.requires in
-    (name_of (ref_at_lem p.0 b.before.loop.i _ b.loop-test.true), p.1))
-    (λ c. let b = c.before.before.before.before in
-    sought_here (tidy_refs b.before.before.requires.0) _ b.loop-test.true b.before.loop.invariant (ap not (sym c.before.name-is-below.ensures) ∙ c.if1.true))
+    (λ c κs. let p = c.requires in
+    (name_of (ref_at_lem p.0 c.loop-i.i _ c.loop-i-test.true), p.1))
+    (λ c. sought_here (tidy_refs c.requires.0) _ c.loop-i-test.true c.loop-i.invariant (ap not (sym c.name_is_below.ensures) ∙ c.if-not-name_is_below.true-raw))
     (λ c. search rules)
     (λ c. search rules)
-    (λ c. let b = c.before.before.before.before in
-    sought_on (tidy_refs b.before.before.requires.0) _ b.loop-test.true b.before.loop.invariant (ap not (sym c.before.name-is-below.ensures) ∙ c.if1.false))
-    (λ c. sought_end (tidy_refs c.before.before.requires.0) c.loop-test.false c.before.loop.invariant))
+    (λ c. sought_on (tidy_refs c.requires.0) _ c.loop-i-test.true c.loop-i.invariant (ap not (sym c.name_is_below.ensures) ∙ c.if-not-name_is_below.false-raw))
+    (λ c. sought_end (tidy_refs c.requires.0) c.loop-i-test.false c.loop-i.invariant))

@@ -9,10 +9,10 @@ use Rattle.tables.proofs.Each.{refs, tidy_refs, made_refs, none_refs}
 use Rattle.tables.proofs.refs.pointing.Statement.{statement}
 use Rattle.tables.proofs.refs.pointing.Tie as tie
 
-abbrev invariant_loop : tie.invariant_loop
+abbrev invariant_loop : tie.invariant-loop-i
 invariant_loop ids t n r₀ i₀ r i = Filtered refs laid_refs (λ x. is_in ids x.reference.snapshot) t r i
 
-abbrev decreases_loop : tie.decreases_loop
+abbrev decreases_loop : tie.decreases-loop-i
 decreases_loop ids t n r₀ i₀ r i = n - i
 
 pub pointing_spec : {M : Type 1} → statement M
@@ -22,7 +22,7 @@ pointing_spec =
     invariant_loop
     decreases_loop
     (λ c κs. search rules)
-    (λ c. filtered_start made_refs (tidy_refs c.before.requires.0) (c.blank.ensures ∙ none_refs))
+    (λ c. filtered_start made_refs (tidy_refs c.requires.0) (c.blank-r.ensures ∙ none_refs))
     (λ c. search rules)
     (λ c. search rules)
     (λ c. search rules)
@@ -31,9 +31,7 @@ pointing_spec =
     (λ c. search rules)
     (λ c. search rules)
     (λ c. search rules)
-    (λ c. let b = c.before.before.before.before.before in
-    filtered_more made_refs (tidy_refs b.before.before.before.requires.0) _ b.loop-test.true b.before.loop.invariant (sym c.before.is_held.ensures ∙ c.if1.true) refl refl)
+    (λ c. filtered_more made_refs (tidy_refs c.requires.0) _ c.loop-i-test.true c.loop-i.invariant (sym c.is_held.ensures ∙ c.if-is_held.true) refl refl)
     (λ c. search rules)
-    (λ c. let b = c.before.before.before.before.before in
-    filtered_less made_refs (tidy_refs b.before.before.before.requires.0) _ b.loop-test.true b.before.loop.invariant (sym c.before.is_held.ensures ∙ c.if1.false))
-    (λ c. filtered_end made_refs (tidy_refs c.before.before.before.requires.0) c.loop-test.false c.before.loop.invariant))
+    (λ c. filtered_less made_refs (tidy_refs c.requires.0) _ c.loop-i-test.true c.loop-i.invariant (sym c.is_held.ensures ∙ c.if-is_held.false))
+    (λ c. filtered_end made_refs (tidy_refs c.requires.0) c.loop-i-test.false c.loop-i.invariant))

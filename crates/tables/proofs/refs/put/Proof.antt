@@ -43,42 +43,42 @@ owner_made : (office : ℕ) (name : List ℕ) (l : List plain.NamedRef) → ref_
 owner_made office name l e = rw (e, owner_after)
 
 -- where the ways meet, no ref with its name stands at the place
-module _ (c : tie.Joined1) where
+module _ (c : tie.Joined-at-n) where
   abbrev s : tie.Start
   s = c.before.before.before.before
 
   abbrev made : plain.NamedRef
   made = read_ref (owned s.args.x s.args.office)
 
-  vacant : Vacant refs same_bytes (λ x. x.name) made s.args.t1 c.before.place.result
+  vacant : Vacant refs same_bytes (λ x. x.name) made s.args.t c.place-at.result
   vacant =
       ⊎_elim
-      (λ w. let e = w.3.ensures ∙ same_names (name_of (ref_at_lem s.pre.0 c.before.place.result _ w.0.taken)) s.pre.1.0.name in
-      record { past = _; free = λ b. sym e ∙ w.4.left })
-      (λ w. record { past = owned s.args.x 0; free = λ b. absurd (omega (arith, w.left)) })
-      c.if1.branch
+      (λ w. let e = w.same_name.ensures ∙ same_names (name_of (ref_at_lem s.requires.0 c.place-at.result _ w.if-at-n.true)) s.requires.1.0.name in
+      record { past = _; free = λ b. sym e ∙ w.if-same_name.false })
+      (λ w. record { past = owned s.args.x 0; free = λ b. absurd (omega (arith, w.if-at-n.false)) })
+      c.if-at-n.branch-raw
 
 pub put_spec : {M : Type 1} → statement M
 put_spec =
     tie.close
     (tie.spec
     (λ c κs. search rules)
-    (λ c. omega (arith, within (tidy_refs c.before.before.before.before.requires.0)))
-    (λ c. omega (arith, within (tidy_refs c.before.before.before.before.requires.0)))
+    (λ c. omega (arith, within (tidy_refs c.requires.0)))
+    (λ c. omega (arith, within (tidy_refs c.requires.0)))
     (λ c κs. search rules)
-    (λ c. omega (arith, within (tidy_refs c.before.before.before.before.before.before.before.before.requires.0)))
-    (λ c. omega (arith, within (tidy_refs c.before.before.before.before.before.before.before.before.requires.0)))
-    (λ c. let b = c.before.before.before.before in let s = b.before.before.before.before in let p = s.requires in
-    let e = sym (c.before.same-name.ensures ∙ same_names (name_of (ref_at_lem p.0 b.before.place.result _ b.if1.true)) p.1.0.name) ∙ c.if2.true in
-    replaced made_refs (tidy_refs p.0) b.before.place.result (owned s.args.x _) b.if1.true (part_ref p.1.0 _).back refl refl
+    (λ c. omega (arith, within (tidy_refs c.requires.0)))
+    (λ c. omega (arith, within (tidy_refs c.requires.0)))
+    (λ c. let b = c.before.before.before.before in let p = b.requires in
+    let e = sym (c.same_name.ensures ∙ same_names (name_of (ref_at_lem p.0 b.place-at.result _ b.if-at-n.true)) p.1.0.name) ∙ c.if-same_name.true in
+    replaced made_refs (tidy_refs p.0) b.place-at.result (owned b.args.x _) b.if-at-n.true (part_ref p.1.0 _).back refl refl
     ∙ ap laid_refs
-    (put_replaced (tidy_refs p.0) names_ordered names_told_lem (λ x. x.name) (read_ref (owned s.args.x _)) b.before.place.ensures _ b.if1.true e
-    ∙ by_rule s.args.office _ s.args.x (read_refs s.args.t1) (owner_kept s.args.office (read_name s.args.x.name) (read_refs s.args.t1) _ (first_replaced (tidy_refs p.0) names_ordered names_told_lem (λ x. x.name) (read_ref (owned s.args.x 0)) b.before.place.ensures _ b.if1.true e))))
+    (put_replaced (tidy_refs p.0) names_ordered names_told_lem (λ x. x.name) (read_ref (owned b.args.x _)) b.place-at.ensures _ b.if-at-n.true e
+    ∙ by_rule b.args.office _ b.args.x (read_refs b.args.t) (owner_kept b.args.office (read_name b.args.x.name) (read_refs b.args.t) _ (first_replaced (tidy_refs p.0) names_ordered names_told_lem (λ x. x.name) (read_ref (owned b.args.x 0)) b.place-at.ensures _ b.if-at-n.true e))))
     (λ c κs. let p = (s c).requires in
-    (p.0, (part_ref p.1.0 (s c).args.office, (put_room (tidy_refs p.0) names_ordered names_told_lem (λ x. x.name) (made c) c.before.place.ensures (vacant c) p.1.1.1 p.1.1.0, place_within (tidy_refs p.0) (λ y. not (name_below y.name (made c).name)) c.before.place.ensures))))
+    (p.0, (part_ref p.1.0 (s c).args.office, (put_room (tidy_refs p.0) names_ordered names_told_lem (λ x. x.name) (made c) c.place-at.ensures (vacant c) p.1.1.1 p.1.1.0, place_within (tidy_refs p.0) (λ y. not (name_below y.name (made c).name)) c.place-at.ensures))))
     (λ c. let b = c.before in let p = (s b).requires in
-    let n = none_held (tidy_refs p.0) names_ordered names_told_lem (λ x. x.name) (made b) b.before.place.ensures (vacant b) p.1.1.1 in
-    c.insert-at.ensures
+    let n = none_held (tidy_refs p.0) names_ordered names_told_lem (λ x. x.name) (made b) b.place-at.ensures (vacant b) p.1.1.1 in
+    c.insert_at.ensures
     ∙ ap laid_refs
-    (put_vacant (tidy_refs p.0) names_ordered names_told_lem (λ x. x.name) (made b) b.before.place.ensures (vacant b)
-    ∙ by_rule (s b).args.office (s b).args.office (s b).args.x (read_refs (s b).args.t1) (owner_made (s b).args.office (read_name (s b).args.x.name) (read_refs (s b).args.t1) (first_none (has_name (read_name (s b).args.x.name)) (read_refs (s b).args.t1) n)))))
+    (put_vacant (tidy_refs p.0) names_ordered names_told_lem (λ x. x.name) (made b) b.place-at.ensures (vacant b)
+    ∙ by_rule (s b).args.office (s b).args.office (s b).args.x (read_refs (s b).args.t) (owner_made (s b).args.office (read_name (s b).args.x.name) (read_refs (s b).args.t) (first_none (has_name (read_name (s b).args.x.name)) (read_refs (s b).args.t) n)))))

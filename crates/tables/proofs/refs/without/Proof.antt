@@ -11,10 +11,10 @@ use Rattle.tables.proofs.Each.{refs, tidy_refs, made_refs, none_refs, ref_at_lem
 use Rattle.tables.proofs.refs.without.Statement.{statement}
 use Rattle.tables.proofs.refs.without.Tie as tie
 
-abbrev invariant_loop : tie.invariant_loop
+abbrev invariant_loop : tie.invariant-loop-i
 invariant_loop name t n r₀ i₀ r i = Filtered refs laid_refs (λ x. not (has_name (read_name name) x)) t r i
 
-abbrev decreases_loop : tie.decreases_loop
+abbrev decreases_loop : tie.decreases-loop-i
 decreases_loop name t n r₀ i₀ r i = n - i
 
 pub without_spec : {M : Type 1} → statement M
@@ -24,7 +24,7 @@ without_spec =
     invariant_loop
     decreases_loop
     (λ c κs. search rules)
-    (λ c. filtered_start made_refs (tidy_refs c.before.requires.0) (c.blank.ensures ∙ none_refs))
+    (λ c. filtered_start made_refs (tidy_refs c.requires.0) (c.blank-r.ensures ∙ none_refs))
     (λ c. search rules)
     (λ c. search rules)
     (λ c. search rules)
@@ -33,11 +33,11 @@ without_spec =
     (λ c. search rules)
     (λ c. search rules)
     (λ c. search rules)
-    (λ c. let b = c.before.before.before.before in let p = b.before.before.before.requires in
-    let e = c.before.same-name.ensures ∙ same_names (name_of (ref_at_lem p.0 b.before.loop.i _ b.loop-test.true)) p.1 in
-    filtered_more made_refs (tidy_refs p.0) _ b.loop-test.true b.before.loop.invariant (ap not (sym e) ∙ c.if1.true) refl refl)
+    (λ c. let p = c.requires in
+    let e = c.same_name.ensures ∙ same_names (name_of (ref_at_lem p.0 c.loop-i.i _ c.loop-i-test.true)) p.1 in
+    filtered_more made_refs (tidy_refs p.0) _ c.loop-i-test.true c.loop-i.invariant (ap not (sym e) ∙ c.if-not-same_name.true-raw) refl refl)
     (λ c. search rules)
-    (λ c. let b = c.before.before.before.before in let p = b.before.before.before.requires in
-    let e = c.before.same-name.ensures ∙ same_names (name_of (ref_at_lem p.0 b.before.loop.i _ b.loop-test.true)) p.1 in
-    filtered_less made_refs (tidy_refs p.0) _ b.loop-test.true b.before.loop.invariant (ap not (sym e) ∙ c.if1.false))
-    (λ c. filtered_end made_refs (tidy_refs c.before.before.before.requires.0) c.loop-test.false c.before.loop.invariant))
+    (λ c. let p = c.requires in
+    let e = c.same_name.ensures ∙ same_names (name_of (ref_at_lem p.0 c.loop-i.i _ c.loop-i-test.true)) p.1 in
+    filtered_less made_refs (tidy_refs p.0) _ c.loop-i-test.true c.loop-i.invariant (ap not (sym e) ∙ c.if-not-same_name.false-raw))
+    (λ c. filtered_end made_refs (tidy_refs c.requires.0) c.loop-i-test.false c.loop-i.invariant))

@@ -6,16 +6,17 @@ use lib.IntN.{pos}
 use lib.ListN.{get_or, set}
 use mir.Syntax.{w32}
 use mir.Val.{SFits}
+use mir.Syntax.{w64}
 use mir.Facts.{to_z-of_z}
 use Rattle.tables.proofs.Keyed.{Keyed, keyed_start, keyed_on, keyed_end, zeros_fit, set_fits}
 use Rattle.tables.proofs.Each.{schema_fields, tidy_schema}
 use Rattle.tables.proofs.schemas.field_ids_of.Statement.{statement}
 use Rattle.tables.proofs.schemas.field_ids_of.Tie as tie
 
-abbrev invariant_loop : tie.invariant_loop
+abbrev invariant_loop : tie.invariant-loop-i
 invariant_loop s n r₀ i₀ r i = Keyed schema_fields (λ x. x.id) s r i × ((k : ℕ) → SFits w32 (get_or r k (pos 0)))
 
-abbrev decreases_loop : tie.decreases_loop
+abbrev decreases_loop : tie.decreases-loop-i
 decreases_loop s n r₀ i₀ r i = n - i
 
 pub field_ids_of_spec : {M : Type 1} → statement M
@@ -32,9 +33,8 @@ field_ids_of_spec =
     (λ c. search rules)
     (λ c. search rules)
     (λ c. search rules)
-    (λ c. let k = c.before.field-key in let b = c.before.before.before.before in let l = b.before in
-    let z = to_z-of_z (sfits_of c.struct_told.given.0.1) in (
-      keyed_on (tidy_schema l.before.requires) (λ x. x.id) _ b.loop-test.true l.loop.invariant.0 (ap (set l.loop.r l.loop.i) (z ∙ k.ensures.0)),
-      set_fits w32 l.loop.r l.loop.i _ l.loop.invariant.1 (rw z k.ensures.1),
+    (λ c. let k = c.field_key-k in let b = c.before.before.before.before in let z = to_z-of_z {w = w64} (sfits_of c.struct_told-1.given.0.1) in (
+      keyed_on (tidy_schema b.requires) (λ x. x.id) _ b.loop-i-test.true b.loop-i.invariant.0 (ap (set b.loop-i.r b.loop-i.i) (z ∙ k.ensures.0)),
+      set_fits w32 b.loop-i.r b.loop-i.i _ b.loop-i.invariant.1 (rw z k.ensures.1),
     ))
-    (λ c. let l = c.before in (keyed_end (tidy_schema l.before.requires) (λ x. x.id) c.loop-test.false l.loop.invariant.0, l.loop.invariant.1)))
+    (λ c. (keyed_end (tidy_schema c.requires) (λ x. x.id) c.loop-i-test.false c.loop-i.invariant.0, c.loop-i.invariant.1)))

@@ -11,10 +11,10 @@ use Rattle.tables.proofs.Each.{schemas, tidy_schemas, schema_at_lem, tidy_schema
 use Rattle.tables.proofs.schemas.find_equal.Statement.{statement}
 use Rattle.tables.proofs.schemas.find_equal.Tie as tie
 
-abbrev invariant_loop : tie.invariant_loop
+abbrev invariant_loop : tie.invariant-loop-i
 invariant_loop s t n i₀ i = Sought schemas (λ x. same_list same_schema_field x.fields (read_schema s).fields) t i
 
-abbrev decreases_loop : tie.decreases_loop
+abbrev decreases_loop : tie.decreases-loop-i
 decreases_loop s t n i₀ i = n - i
 
 pub find_equal_spec : {M : Type 1} → statement M
@@ -26,13 +26,11 @@ find_equal_spec =
     (λ c. sought_start (tidy_schemas c.requires.0))
     (λ c. search rules)
     (λ c. search rules)
-    (λ c κs. let b = c.before in let p = b.before.before.requires in
-    let x = schema_at_lem p.0 b.before.loop.i _ b.loop-test.true in
+    (λ c κs. let p = c.requires in
+    let x = schema_at_lem p.0 c.loop-i.i _ c.loop-i-test.true in
     ((x.back, within (tidy_schema x)), (p.1.back, within (tidy_schema p.1))))
-    (λ c. let b = c.before.before.before in
-    sought_here (tidy_schemas b.before.before.requires.0) _ b.loop-test.true b.before.loop.invariant (sym c.before.same-fields.ensures ∙ c.if1.true))
+    (λ c. sought_here (tidy_schemas c.requires.0) _ c.loop-i-test.true c.loop-i.invariant (sym c.same_fields.ensures ∙ c.if-same_fields.true))
     (λ c. search rules)
     (λ c. search rules)
-    (λ c. let b = c.before.before.before in
-    sought_on (tidy_schemas b.before.before.requires.0) _ b.loop-test.true b.before.loop.invariant (sym c.before.same-fields.ensures ∙ c.if1.false))
-    (λ c. sought_end (tidy_schemas c.before.before.requires.0) c.loop-test.false c.before.loop.invariant))
+    (λ c. sought_on (tidy_schemas c.requires.0) _ c.loop-i-test.true c.loop-i.invariant (sym c.same_fields.ensures ∙ c.if-same_fields.false))
+    (λ c. sought_end (tidy_schemas c.requires.0) c.loop-i-test.false c.loop-i.invariant))

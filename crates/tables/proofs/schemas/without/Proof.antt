@@ -10,10 +10,10 @@ use Rattle.tables.proofs.Each.{schemas, tidy_schemas, made_schemas, none_schemas
 use Rattle.tables.proofs.schemas.without.Statement.{statement}
 use Rattle.tables.proofs.schemas.without.Tie as tie
 
-abbrev invariant_loop : tie.invariant_loop
+abbrev invariant_loop : tie.invariant-loop-i
 invariant_loop ids t n r₀ i₀ r i = Filtered schemas laid_schemas (λ x. not (is_in (read_schema_ids ids) x.id)) t r i
 
-abbrev decreases_loop : tie.decreases_loop
+abbrev decreases_loop : tie.decreases-loop-i
 decreases_loop ids t n r₀ i₀ r i = n - i
 
 pub without_spec : {M : Type 1} → statement M
@@ -23,7 +23,7 @@ without_spec =
     invariant_loop
     decreases_loop
     (λ c κs. search rules)
-    (λ c. filtered_start made_schemas (tidy_schemas c.before.requires.0) (c.blank.ensures ∙ none_schemas))
+    (λ c. filtered_start made_schemas (tidy_schemas c.requires.0) (c.blank-r.ensures ∙ none_schemas))
     (λ c. search rules)
     (λ c. search rules)
     (λ c. search rules)
@@ -32,9 +32,7 @@ without_spec =
     (λ c. search rules)
     (λ c. search rules)
     (λ c. search rules)
-    (λ c. let b = c.before.before.before.before in
-    filtered_more made_schemas (tidy_schemas b.before.before.before.requires.0) _ b.loop-test.true b.before.loop.invariant (ap not (sym c.before.has-schema.ensures) ∙ c.if1.true) refl refl)
+    (λ c. filtered_more made_schemas (tidy_schemas c.requires.0) _ c.loop-i-test.true c.loop-i.invariant (ap not (sym c.has_schema.ensures) ∙ c.if-not-has_schema.true-raw) refl refl)
     (λ c. search rules)
-    (λ c. let b = c.before.before.before.before in
-    filtered_less made_schemas (tidy_schemas b.before.before.before.requires.0) _ b.loop-test.true b.before.loop.invariant (ap not (sym c.before.has-schema.ensures) ∙ c.if1.false))
-    (λ c. filtered_end made_schemas (tidy_schemas c.before.before.before.requires.0) c.loop-test.false c.before.loop.invariant))
+    (λ c. filtered_less made_schemas (tidy_schemas c.requires.0) _ c.loop-i-test.true c.loop-i.invariant (ap not (sym c.has_schema.ensures) ∙ c.if-not-has_schema.false-raw))
+    (λ c. filtered_end made_schemas (tidy_schemas c.requires.0) c.loop-i-test.false c.loop-i.invariant))

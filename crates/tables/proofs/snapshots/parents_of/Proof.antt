@@ -8,6 +8,7 @@ use borrow.Table.Steps.{cases}
 use lib.Dec.{ltb}
 use lib.IntN.{ℤ, negsuc}
 use lib.ListN.{set}
+use mir.Syntax.{w64}
 use mir.Facts.{to_z-of_z}
 use Rattle.rules.specs.Words.{or_else}
 use Rattle.rules.specs.Register as plain
@@ -22,18 +23,18 @@ use Rattle.tables.proofs.snapshots.parents_of.Tie as tie
 abbrev parent_of : plain.Snapshot → ℤ
 parent_of s = or_else s.parent (negsuc 0)
 
-abbrev invariant_loop : tie.invariant_loop
+abbrev invariant_loop : tie.invariant-loop-i
 invariant_loop t n r₀ i₀ r i = (i ≤ 64) × (LaidSnapshots t → Keyed snapshots parent_of t r i)
 
-abbrev decreases_loop : tie.decreases_loop
+abbrev decreases_loop : tie.decreases-loop-i
 decreases_loop t n r₀ i₀ r i = n - i
 
 -- the slot is counted, and it is one of the 64
-counted : (c : tie.In-loop invariant_loop decreases_loop) → c.before.loop.i < c.before.before.args.t1.count
-counted c = ltb-true _ _ (and_left (ltb c.before.loop.i c.before.before.args.t1.count) (ltb c.before.loop.i 64) c.loop-test.true)
+counted : (c : tie.In-loop-i invariant_loop decreases_loop) → c.loop-i.i < c.args.t.count
+counted c = ltb-true _ _ (and_left (ltb c.loop-i.i c.args.t.count) (ltb c.loop-i.i 64) c.loop-i-test.true)
 
-below : (c : tie.In-loop invariant_loop decreases_loop) → c.before.loop.i < 64
-below c = ltb-true _ _ (and_right (ltb c.before.loop.i c.before.before.args.t1.count) (ltb c.before.loop.i 64) c.loop-test.true)
+below : (c : tie.In-loop-i invariant_loop decreases_loop) → c.loop-i.i < 64
+below c = ltb-true _ _ (and_right (ltb c.loop-i.i c.args.t.count) (ltb c.loop-i.i 64) c.loop-i-test.true)
 
 pub parents_of_spec : {M : Type 1} → statement M
 parents_of_spec =
@@ -49,14 +50,13 @@ parents_of_spec =
     (λ c. below c.before.before.before)
     (λ c. omega (arith, below c.before.before.before))
     (λ c. omega (arith, counted c.before.before.before))
-    (λ c. let l = c.before.before.before.before in (
+    (λ c. (
       omega (arith, below c.before.before.before),
-      λ h. keyed_on (tidy_snapshots h) parent_of _ (counted c.before.before.before) (l.loop.invariant.1 h) (ap (set l.loop.r l.loop.i) (to_z-of_z (sfits_of c.struct_told.given.0.1) ∙ c.before.parent-key.ensures)),
+      λ h. keyed_on (tidy_snapshots h) parent_of _ (counted c.before.before.before) (c.loop-i.invariant.1 h) (ap (set c.loop-i.r c.loop-i.i) (to_z-of_z {w = w64} (sfits_of c.struct_told-1.given.0.1) ∙ c.parent_key-x.ensures)),
     ))
-    (λ c. let l = c.before in
-    λ h. let k = l.loop.invariant.1 h in
+    (λ c. λ h. let k = c.loop-i.invariant.1 h in
     keyed_end (tidy_snapshots h) parent_of
-    (cases (ltb l.loop.i l.before.args.t1.count)
-    (λ e. omega (arith, k.fits, ltb-false l.loop.i 64 (rw e at c.loop-test.false)))
-    (λ e. ltb-false l.loop.i l.before.args.t1.count e))
+    (cases (ltb c.loop-i.i c.args.t.count)
+    (λ e. omega (arith, k.fits, ltb-false c.loop-i.i 64 (rw e at c.loop-i-test.false)))
+    (λ e. ltb-false c.loop-i.i c.args.t.count e))
     k))

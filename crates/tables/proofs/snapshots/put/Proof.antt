@@ -14,10 +14,9 @@ use Rattle.tables.proofs.snapshots.put.Statement.{statement}
 use Rattle.tables.proofs.snapshots.put.Tie as tie
 
 -- the place among the keys is that in the table
-placed : (c : tie.After-place) → let s = c.before.before.before.before.before in c.place.result ≡ index_of (λ x. not (lt_z x.id s.args.s.snapshot_id.0)) (read_snapshots s.args.t)
+placed : (c : tie.After-place-at) → let s = c.before.before.before.before.before in c.place-at.result ≡ index_of (λ x. not (lt_z x.id s.args.s.snapshot_id.0)) (read_snapshots s.args.t)
 placed c =
-    let k = c.before.before in let s = k.before.before.before in
-    lent_place (tidy_snapshots s.requires.0) (λ x. x.id) (k.before.ids-of.ensures s.requires.0) (λ z. not (lt_z z s.args.s.snapshot_id.0)) (rw k.snapshot-key.ensures at c.place.ensures)
+    let k = c.before.before in lent_place (tidy_snapshots k.requires.0) (λ x. x.id) (k.ids_of-ids.ensures k.requires.0) (λ z. not (lt_z z k.args.s.snapshot_id.0)) (rw k.snapshot_key-k.ensures at c.place-at.ensures)
 
 pub put_spec : {M : Type 1} → statement M
 put_spec =
@@ -26,9 +25,8 @@ put_spec =
     (λ c κs. search rules)
     (λ c κs. search rules)
     (λ c. search rules)
-    (λ c. let s = c.before.before.before.before in lent_slice (tidy_snapshots s.requires.0) (λ x. x.id) (c.before.before.ids-of.ensures s.requires.0))
+    (λ c. lent_slice (tidy_snapshots c.requires.0) (λ x. x.id) (c.ids_of-ids.ensures c.requires.0))
     (λ c κs. search rules)
-    (λ c κs. let p = c.before.before.before.before.before.requires in
+    (λ c κs. let p = c.requires in
     (p.0, (p.1.0, (p.1.1.0, place_within (tidy_snapshots p.0) _ (placed c)))))
-    (λ c. let s = c.before.before.before.before.before.before in
-    c.insert-at.ensures ∙ ap laid_snapshots (put_new numbers_ordered numbers_told (λ x. x.id) (read_snapshot s.args.s) (read_snapshots s.args.t) (placed c.before) s.requires.1.1.1)))
+    (λ c. c.insert_at.ensures ∙ ap laid_snapshots (put_new numbers_ordered numbers_told (λ x. x.id) (read_snapshot c.args.s) (read_snapshots c.args.t) (placed c.before) c.requires.1.1.1)))

@@ -10,10 +10,10 @@ use Rattle.tables.proofs.Each.{snapshots, tidy_snapshots, made_snapshots, none_s
 use Rattle.tables.proofs.snapshots.without.Statement.{statement}
 use Rattle.tables.proofs.snapshots.without.Tie as tie
 
-abbrev invariant_loop : tie.invariant_loop
+abbrev invariant_loop : tie.invariant-loop-i
 invariant_loop ids t n r₀ i₀ r i = Filtered snapshots laid_snapshots (λ x. not (is_in (read_snapshot_ids ids) x.id)) t r i
 
-abbrev decreases_loop : tie.decreases_loop
+abbrev decreases_loop : tie.decreases-loop-i
 decreases_loop ids t n r₀ i₀ r i = n - i
 
 pub without_spec : {M : Type 1} → statement M
@@ -23,7 +23,7 @@ without_spec =
     invariant_loop
     decreases_loop
     (λ c κs. search rules)
-    (λ c. filtered_start made_snapshots (tidy_snapshots c.before.requires.0) (c.blank.ensures ∙ none_snapshots))
+    (λ c. filtered_start made_snapshots (tidy_snapshots c.requires.0) (c.blank-r.ensures ∙ none_snapshots))
     (λ c. search rules)
     (λ c. search rules)
     (λ c. search rules)
@@ -32,9 +32,7 @@ without_spec =
     (λ c. search rules)
     (λ c. search rules)
     (λ c. search rules)
-    (λ c. let b = c.before.before.before.before in
-    filtered_more made_snapshots (tidy_snapshots b.before.before.before.requires.0) _ b.loop-test.true b.before.loop.invariant (ap not (sym c.before.has-snapshot.ensures) ∙ c.if1.true) refl refl)
+    (λ c. filtered_more made_snapshots (tidy_snapshots c.requires.0) _ c.loop-i-test.true c.loop-i.invariant (ap not (sym c.has_snapshot.ensures) ∙ c.if-not-has_snapshot.true-raw) refl refl)
     (λ c. search rules)
-    (λ c. let b = c.before.before.before.before in
-    filtered_less made_snapshots (tidy_snapshots b.before.before.before.requires.0) _ b.loop-test.true b.before.loop.invariant (ap not (sym c.before.has-snapshot.ensures) ∙ c.if1.false))
-    (λ c. filtered_end made_snapshots (tidy_snapshots c.before.before.before.requires.0) c.loop-test.false c.before.loop.invariant))
+    (λ c. filtered_less made_snapshots (tidy_snapshots c.requires.0) _ c.loop-i-test.true c.loop-i.invariant (ap not (sym c.has_snapshot.ensures) ∙ c.if-not-has_snapshot.false-raw))
+    (λ c. filtered_end made_snapshots (tidy_snapshots c.requires.0) c.loop-i-test.false c.loop-i.invariant))

@@ -11,10 +11,10 @@ use Rattle.tables.proofs.Each.{sort_orders, tidy_sort_orders, order_at_lem, tidy
 use Rattle.tables.proofs.sort_orders.find_equal.Statement.{statement}
 use Rattle.tables.proofs.sort_orders.find_equal.Tie as tie
 
-abbrev invariant_loop : tie.invariant_loop
+abbrev invariant_loop : tie.invariant-loop-i
 invariant_loop o t n i₀ i = Sought sort_orders (λ x. same_list same_sort_field x.fields (read_sort_order o).fields) t i
 
-abbrev decreases_loop : tie.decreases_loop
+abbrev decreases_loop : tie.decreases-loop-i
 decreases_loop o t n i₀ i = n - i
 
 pub find_equal_spec : {M : Type 1} → statement M
@@ -26,12 +26,10 @@ find_equal_spec =
     (λ c. sought_start (tidy_sort_orders c.requires.0))
     (λ c. search rules)
     (λ c. search rules)
-    (λ c κs. let b = c.before in let p = b.before.before.requires in
-    (within (tidy_sort_order (order_at_lem p.0 b.before.loop.i _ b.loop-test.true)), within (tidy_sort_order p.1)))
-    (λ c. let b = c.before.before.before in
-    sought_here (tidy_sort_orders b.before.before.requires.0) _ b.loop-test.true b.before.loop.invariant (sym c.before.same-sort-fields.ensures ∙ c.if1.true))
+    (λ c κs. let p = c.requires in
+    (within (tidy_sort_order (order_at_lem p.0 c.loop-i.i _ c.loop-i-test.true)), within (tidy_sort_order p.1)))
+    (λ c. sought_here (tidy_sort_orders c.requires.0) _ c.loop-i-test.true c.loop-i.invariant (sym c.same_sort_fields.ensures ∙ c.if-same_sort_fields.true))
     (λ c. search rules)
     (λ c. search rules)
-    (λ c. let b = c.before.before.before in
-    sought_on (tidy_sort_orders b.before.before.requires.0) _ b.loop-test.true b.before.loop.invariant (sym c.before.same-sort-fields.ensures ∙ c.if1.false))
-    (λ c. sought_end (tidy_sort_orders c.before.before.requires.0) c.loop-test.false c.before.loop.invariant))
+    (λ c. sought_on (tidy_sort_orders c.requires.0) _ c.loop-i-test.true c.loop-i.invariant (sym c.same_sort_fields.ensures ∙ c.if-same_sort_fields.false))
+    (λ c. sought_end (tidy_sort_orders c.requires.0) c.loop-i-test.false c.loop-i.invariant))

@@ -16,16 +16,16 @@ use Rattle.tables.proofs.Each.{sort_fields, tidy_schema, tidy_sort_order}
 use Rattle.tables.proofs.sort_orders.is_unfit.Statement.{statement}
 use Rattle.tables.proofs.sort_orders.is_unfit.Tie as tie
 
-abbrev invariant_loop : tie.invariant_loop
+abbrev invariant_loop : tie.invariant-loop-i
 invariant_loop o n m ids i₀ i = Sought sort_fields (λ f. not (is_in (take m ids) f.source)) o i
 
-abbrev decreases_loop : tie.decreases_loop
+abbrev decreases_loop : tie.decreases-loop-i
 decreases_loop o n m ids i₀ i = n - i
 
 -- what holds of the ids that are lent holds of the schema's
-answer : (c : tie.After-field-ids-of invariant_loop decreases_loop) → let o = read_sort_order c.before.args.t1 in
-    any (λ (f : plain.SortField). not (is_in (take c.before.args.s.count c.field-ids-of.result) f.source)) o.fields ≡ any (λ (f : plain.SortField). not (is_in (field_ids (read_schema c.before.args.s)) f.source)) o.fields
-answer c = ap (λ (l : List ℤ). any (λ (f : plain.SortField). not (is_in l f.source)) (read_sort_order c.before.args.t1).fields) (lent (tidy_schema c.before.requires.1) (λ x. x.id) c.field-ids-of.ensures.0)
+answer : (c : tie.After-field_ids_of-ids invariant_loop decreases_loop) → let o = read_sort_order c.args.o in
+    any (λ (f : plain.SortField). not (is_in (take c.args.s.count c.field_ids_of-ids.result) f.source)) o.fields ≡ any (λ (f : plain.SortField). not (is_in (field_ids (read_schema c.args.s)) f.source)) o.fields
+answer c = ap (λ (l : List ℤ). any (λ (f : plain.SortField). not (is_in l f.source)) (read_sort_order c.args.o).fields) (lent (tidy_schema c.requires.1) (λ x. x.id) c.field_ids_of-ids.ensures.0)
 
 pub is_unfit_spec : {M : Type 1} → statement M
 is_unfit_spec =
@@ -34,17 +34,16 @@ is_unfit_spec =
     invariant_loop
     decreases_loop
     (λ c κs. search rules)
-    (λ c. sought_start (tidy_sort_order c.before.requires.0))
+    (λ c. sought_start (tidy_sort_order c.requires.0))
     (λ c. search rules)
     (λ c. search rules)
     (λ c κs. search rules)
-    (λ c. let a = c.before.before.before.before.before in lent_within (tidy_schema a.before.requires.1) (λ x. x.id) a.field-ids-of.ensures.0)
-    (λ c. let a = c.before.before.before.before.before.before in lent_slice (tidy_schema a.before.requires.1) (λ x. x.id) a.field-ids-of.ensures.0)
+    (λ c. lent_within (tidy_schema c.requires.1) (λ x. x.id) c.field_ids_of-ids.ensures.0)
+    (λ c. lent_slice (tidy_schema c.requires.1) (λ x. x.id) c.field_ids_of-ids.ensures.0)
     (λ c κs. search rules)
     (λ c. let k = c.before.before.before in let b = k.before.before.before in let a = b.before.before in
-    found_here (tidy_sort_order a.before.requires.0) _ b.loop-test.true b.before.loop.invariant (ap not (sym (rw k.field-key.ensures.0 at c.before.is-in.ensures)) ∙ c.if1.true) ∙ answer a)
+    found_here (tidy_sort_order a.requires.0) _ b.loop-i-test.true b.loop-i.invariant (ap not (sym (rw k.field_key-k.ensures.0 at c.is_in.ensures)) ∙ c.if-not-is_in.true-raw) ∙ answer a)
     (λ c. search rules)
     (λ c. search rules)
-    (λ c. let k = c.before.before.before in let b = k.before.before.before in let a = b.before.before in
-    sought_on (tidy_sort_order a.before.requires.0) _ b.loop-test.true b.before.loop.invariant (ap not (sym (rw k.field-key.ensures.0 at c.before.is-in.ensures)) ∙ c.if1.false))
-    (λ c. let a = c.before.before in found_end (tidy_sort_order a.before.requires.0) c.loop-test.false c.before.loop.invariant ∙ answer a))
+    (λ c. let k = c.before.before.before in let b = k.before.before.before in sought_on (tidy_sort_order b.requires.0) _ b.loop-i-test.true b.loop-i.invariant (ap not (sym (rw k.field_key-k.ensures.0 at c.is_in.ensures)) ∙ c.if-not-is_in.false-raw))
+    (λ c. let a = c.before.before in found_end (tidy_sort_order a.requires.0) c.loop-i-test.false c.loop-i.invariant ∙ answer a))

@@ -8,10 +8,10 @@ use Rattle.tables.proofs.Each.{statistics, tidy_statistics}
 use Rattle.tables.proofs.statistics.find.Statement.{statement}
 use Rattle.tables.proofs.statistics.find.Tie as tie
 
-abbrev invariant_loop : tie.invariant_loop
+abbrev invariant_loop : tie.invariant-loop-i
 invariant_loop id t n i₀ i = Sought statistics (is_of id.0) t i
 
-abbrev decreases_loop : tie.decreases_loop
+abbrev decreases_loop : tie.decreases-loop-i
 decreases_loop id t n i₀ i = n - i
 
 pub find_spec : {M : Type 1} → statement M
@@ -24,10 +24,8 @@ find_spec =
     (λ c. search rules)
     (λ c. search rules)
     (λ c κs. search rules)
-    (λ c. let b = c.before.before.before.before in
-    sought_here (tidy_statistics b.before.before.requires) _ b.loop-test.true b.before.loop.invariant (sym c.before.same-snapshot.ensures ∙ c.if1.true))
+    (λ c. sought_here (tidy_statistics c.requires) _ c.loop-i-test.true c.loop-i.invariant (sym c.same_snapshot.ensures ∙ c.if-same_snapshot.true))
     (λ c. search rules)
     (λ c. search rules)
-    (λ c. let b = c.before.before.before.before in
-    sought_on (tidy_statistics b.before.before.requires) _ b.loop-test.true b.before.loop.invariant (sym c.before.same-snapshot.ensures ∙ c.if1.false))
-    (λ c. sought_end (tidy_statistics c.before.before.requires) c.loop-test.false c.before.loop.invariant))
+    (λ c. sought_on (tidy_statistics c.requires) _ c.loop-i-test.true c.loop-i.invariant (sym c.same_snapshot.ensures ∙ c.if-same_snapshot.false))
+    (λ c. sought_end (tidy_statistics c.requires) c.loop-i-test.false c.loop-i.invariant))

@@ -7,4 +7,4 @@ use Rattle.tables.proofs.statistics.has_file_of.Statement.{statement}
 use Rattle.tables.proofs.statistics.has_file_of.Tie as tie
 
 pub has_file_of_spec : {M : Type 1} → statement M
-has_file_of_spec = tie.close (tie.spec (λ c κs. search rules) (λ c. place_held (tidy_statistics c.before.requires) (is_of c.before.args.id.0) c.find.ensures))
+has_file_of_spec = tie.close (tie.spec (λ c κs. search rules) (λ c. place_held (tidy_statistics c.requires) (is_of c.args.id.0) c.find-i.ensures))

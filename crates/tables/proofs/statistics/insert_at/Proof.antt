@@ -7,10 +7,10 @@ use Rattle.tables.proofs.Each.{statistics, tidy_statistics, made_statistics}
 use Rattle.tables.proofs.statistics.insert_at.Statement.{statement}
 use Rattle.tables.proofs.statistics.insert_at.Tie as tie
 
-abbrev invariant_loop : tie.invariant_loop
+abbrev invariant_loop : tie.invariant-loop-i
 invariant_loop at n r₀ carried₀ i₀ r carried i = Shifted statistics r₀ at carried₀ r carried i
 
-abbrev decreases_loop : tie.decreases_loop
+abbrev decreases_loop : tie.decreases-loop-i
 decreases_loop at n r₀ carried₀ i₀ r carried i = n + 1 - i
 
 pub insert_at_spec : {M : Type 1} → statement M
@@ -26,8 +26,7 @@ insert_at_spec =
     (λ c. search rules)
     (λ c. search rules)
     (λ c. search rules)
-    (λ c. let l = c.before.before in
-    shift_on (tidy_statistics l.before.requires.0) _ c.before.loop-test.true l.loop.invariant refl)
+    (λ c. shift_on (tidy_statistics c.requires.0) _ c.loop-i-test.true c.loop-i.invariant refl)
     (λ c. search rules)
-    (λ c. let l = c.before in let p = l.before.requires in
-    shift_end made_statistics (tidy_statistics p.0) p.1.0.back p.1.1.1 c.loop-test.false l.loop.invariant refl refl))
+    (λ c. let p = c.requires in
+    shift_end made_statistics (tidy_statistics p.0) p.1.0.back p.1.1.1 c.loop-i-test.false c.loop-i.invariant refl refl))

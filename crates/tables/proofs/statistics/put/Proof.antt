@@ -17,27 +17,26 @@ use Rattle.tables.proofs.statistics.put.Statement.{statement}
 use Rattle.tables.proofs.statistics.put.Tie as tie
 
 -- where the ways meet, no file of its snapshot stands at the place
-vacant : (c : tie.Joined1) → Vacant statistics eq_z (λ x. x.snapshot) (read_statistics_file c.before.before.before.args.x) c.before.before.before.args.t1 c.before.place.result
+vacant : (c : tie.Joined-at-n) → Vacant statistics eq_z (λ x. x.snapshot) (read_statistics_file c.args.x) c.args.t c.place-at.result
 vacant c =
     ⊎_elim
-    (λ w. record { past = _; free = λ b. sym w.3.ensures ∙ w.4.left })
-    (λ w. record { past = c.before.before.before.args.x; free = λ b. absurd (omega (arith, w.left)) })
-    c.if1.branch
+    (λ w. record { past = _; free = λ b. sym w.same_snapshot.ensures ∙ w.if-same_snapshot.false })
+    (λ w. record { past = c.args.x; free = λ b. absurd (omega (arith, w.if-at-n.false)) })
+    c.if-at-n.branch-raw
 
 pub put_spec : {M : Type 1} → statement M
 put_spec =
     tie.close
     (tie.spec
     (λ c κs. search rules)
-    (λ c. omega (arith, within (tidy_statistics c.before.before.before.requires.0)))
-    (λ c. omega (arith, within (tidy_statistics c.before.before.before.requires.0)))
+    (λ c. omega (arith, within (tidy_statistics c.requires.0)))
+    (λ c. omega (arith, within (tidy_statistics c.requires.0)))
     (λ c κs. search rules)
-    (λ c. omega (arith, within (tidy_statistics c.before.before.before.before.before.before.before.requires.0)))
-    (λ c. omega (arith, within (tidy_statistics c.before.before.before.before.before.before.before.requires.0)))
-    (λ c. let b = c.before.before.before.before in let p = b.before.before.before.requires in
-    replaced made_statistics (tidy_statistics p.0) b.before.place.result b.before.before.before.args.x b.if1.true p.1.0.back refl refl
-    ∙ ap laid_statistics (put_replaced (tidy_statistics p.0) numbers_ordered numbers_told (λ x. x.snapshot) (read_statistics_file b.before.before.before.args.x) b.before.place.ensures _ b.if1.true (sym c.before.same-snapshot.ensures ∙ c.if2.true)))
-    (λ c κs. let p = c.before.before.before.requires in let x = read_statistics_file c.before.before.before.args.x in
-    (p.0, (p.1.0, (put_room (tidy_statistics p.0) numbers_ordered numbers_told (λ x. x.snapshot) x c.before.place.ensures (vacant c) p.1.1.1 p.1.1.0, place_within (tidy_statistics p.0) (λ y. not (lt_z y.snapshot x.snapshot)) c.before.place.ensures))))
-    (λ c. let b = c.before.before in
-    c.insert-at.ensures ∙ ap laid_statistics (put_vacant (tidy_statistics b.before.before.requires.0) numbers_ordered numbers_told (λ x. x.snapshot) (read_statistics_file b.before.before.args.x) b.place.ensures (vacant c.before))))
+    (λ c. omega (arith, within (tidy_statistics c.requires.0)))
+    (λ c. omega (arith, within (tidy_statistics c.requires.0)))
+    (λ c. let p = c.requires in
+    replaced made_statistics (tidy_statistics p.0) c.place-at.result c.args.x c.if-at-n.true p.1.0.back refl refl
+    ∙ ap laid_statistics (put_replaced (tidy_statistics p.0) numbers_ordered numbers_told (λ x. x.snapshot) (read_statistics_file c.args.x) c.place-at.ensures _ c.if-at-n.true (sym c.same_snapshot.ensures ∙ c.if-same_snapshot.true)))
+    (λ c κs. let p = c.requires in let x = read_statistics_file c.args.x in
+    (p.0, (p.1.0, (put_room (tidy_statistics p.0) numbers_ordered numbers_told (λ x. x.snapshot) x c.place-at.ensures (vacant c) p.1.1.1 p.1.1.0, place_within (tidy_statistics p.0) (λ y. not (lt_z y.snapshot x.snapshot)) c.place-at.ensures))))
+    (λ c. c.insert_at.ensures ∙ ap laid_statistics (put_vacant (tidy_statistics c.requires.0) numbers_ordered numbers_told (λ x. x.snapshot) (read_statistics_file c.args.x) c.place-at.ensures (vacant c.before))))

@@ -10,10 +10,10 @@ use Rattle.tables.proofs.Each.{statistics, tidy_statistics, made_statistics, non
 use Rattle.tables.proofs.statistics.without.Statement.{statement}
 use Rattle.tables.proofs.statistics.without.Tie as tie
 
-abbrev invariant_loop : tie.invariant_loop
+abbrev invariant_loop : tie.invariant-loop-i
 invariant_loop id t n r₀ i₀ r i = Filtered statistics laid_statistics (λ x. not (is_of id.0 x)) t r i
 
-abbrev decreases_loop : tie.decreases_loop
+abbrev decreases_loop : tie.decreases-loop-i
 decreases_loop id t n r₀ i₀ r i = n - i
 
 pub without_spec : {M : Type 1} → statement M
@@ -23,7 +23,7 @@ without_spec =
     invariant_loop
     decreases_loop
     (λ c κs. search rules)
-    (λ c. filtered_start made_statistics (tidy_statistics c.before.requires) (c.blank.ensures ∙ none_statistics))
+    (λ c. filtered_start made_statistics (tidy_statistics c.requires) (c.blank-r.ensures ∙ none_statistics))
     (λ c. search rules)
     (λ c. search rules)
     (λ c. search rules)
@@ -32,9 +32,7 @@ without_spec =
     (λ c. search rules)
     (λ c. search rules)
     (λ c. search rules)
-    (λ c. let b = c.before.before.before.before in
-    filtered_more made_statistics (tidy_statistics b.before.before.before.requires) _ b.loop-test.true b.before.loop.invariant (ap not (sym c.before.same-snapshot.ensures) ∙ c.if1.true) refl refl)
+    (λ c. filtered_more made_statistics (tidy_statistics c.requires) _ c.loop-i-test.true c.loop-i.invariant (ap not (sym c.same_snapshot.ensures) ∙ c.if-not-same_snapshot.true-raw) refl refl)
     (λ c. search rules)
-    (λ c. let b = c.before.before.before.before in
-    filtered_less made_statistics (tidy_statistics b.before.before.before.requires) _ b.loop-test.true b.before.loop.invariant (ap not (sym c.before.same-snapshot.ensures) ∙ c.if1.false))
-    (λ c. filtered_end made_statistics (tidy_statistics c.before.before.before.requires) c.loop-test.false c.before.loop.invariant))
+    (λ c. filtered_less made_statistics (tidy_statistics c.requires) _ c.loop-i-test.true c.loop-i.invariant (ap not (sym c.same_snapshot.ensures) ∙ c.if-not-same_snapshot.false-raw))
+    (λ c. filtered_end made_statistics (tidy_statistics c.requires) c.loop-i-test.false c.loop-i.invariant))

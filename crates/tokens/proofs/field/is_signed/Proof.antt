@@ -4,13 +4,13 @@ use Rattle.tokens.specs.Widths.{is_signed}
 use Rattle.tokens.proofs.field.is_signed.Statement.{statement}
 use Rattle.tokens.proofs.field.is_signed.Tie as tie
 
-returns : tie.Need-returns
+returns : tie.Need-returns-then-is_whole
 unfolding is_signed
-returns c = rw (sym c.before.before.is_whole.ensures ∙ c.before.if1.true, c.span.ensures)
+returns c = rw (sym c.is_whole.ensures ∙ c.if-is_whole.true, c.span.ensures)
 
-returns_2 : tie.Need-returns-2
+returns_2 : tie.Need-returns
 unfolding is_signed
-returns_2 c = rw (sym c.before.is_whole.ensures ∙ c.if1.false)
+returns_2 c = rw (sym c.is_whole.ensures ∙ c.if-is_whole.false)
 
 pub is_signed_spec : {M : Type 1} → statement M
 is_signed_spec = tie.close (tie.spec (λ c κs. search rules) (λ c κs. search rules) returns returns_2)

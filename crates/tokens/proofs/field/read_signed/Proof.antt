@@ -6,15 +6,15 @@ use Rattle.tokens.proofs.Fields.{signed_within}
 use Rattle.tokens.proofs.field.read_signed.Statement.{statement}
 use Rattle.tokens.proofs.field.read_signed.Tie as tie
 
-module _ (c : tie.Then1) where
-  within : mag (number_of c.before.before.read-token.result.is_negative c.before.before.read-token.result.magnitude) < c.before.before.before.before.before.args.half
-  within = signed_within _ _ (sym c.before.is_Signed.ensures ∙ c.if1.true)
+module _ (c : tie.Then-is_signed) where
+  within : mag (number_of c.read_token-token.result.is_negative c.read_token-token.result.magnitude) < c.args.half
+  within = signed_within _ _ (sym c.is_signed.ensures ∙ c.if-is_signed.true)
 
-returns : tie.Need-returns
+returns : tie.Need-returns-then-is_signed
 returns c =
     let h = within c.before in
-    let f : SFits w64 c.to-i64.result = rw c.to-i64.ensures (record { sfits = omega (arith, h) }) in
-    rw (to_z-of_z f, c.to-i64.ensures) h
+    let f : SFits w64 c.to_i64.result = rw c.to_i64.ensures (record { sfits = omega (arith, h) }) in
+    rw (to_z-of_z f, c.to_i64.ensures) h
 
 pub read_signed_spec : {M : Type 1} → statement M
 read_signed_spec =

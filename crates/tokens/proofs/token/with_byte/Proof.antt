@@ -5,26 +5,26 @@ use Rattle.tokens.proofs.Digits.{digit_from}
 use Rattle.tokens.proofs.token.with_byte.Statement.{statement}
 use Rattle.tokens.proofs.token.with_byte.Tie as tie
 
-sub_wide : tie.Need-overflow-sub-wide
-sub_wide c = digit_from _ (sym c.before.is_digit.ensures ∙ c.if1.true)
+sub_wide : tie.Need-overflow_sub-byte
+sub_wide c = digit_from _ (sym c.is_digit.ensures ∙ c.if-is_digit.true)
 
-returns : tie.Need-returns
+returns : tie.Need-returns-then-is_digit
 unfolding with_byte
 returns c =
-    c.with-digit.ensures
-    ∙ rw (sym c.before.before.before.is_digit.ensures ∙ c.before.before.if1.true, c.before.wide.ensures)
+    c.with_digit.ensures
+    ∙ rw (sym c.is_digit.ensures ∙ c.if-is_digit.true, c.wide.ensures)
 
-returns_2 : tie.Need-returns-2
+returns_2 : tie.Need-returns-then-byte-eq45
 unfolding with_byte
 returns_2 c =
-    c.with-minus.ensures
-    ∙ rw (sym c.before.before.before.is_digit.ensures ∙ c.before.before.if1.false, eq-eqb _ _ c.before.if2.true)
+    c.with_minus.ensures
+    ∙ rw (sym c.is_digit.ensures ∙ c.if-is_digit.false, eq-eqb _ _ c.if-byte-eq45.true)
 
-returns_3 : tie.Need-returns-3
+returns_3 : tie.Need-returns
 unfolding with_byte
 returns_3 c =
     c.no_number.ensures
-    ∙ rw (sym c.before.before.before.is_digit.ensures ∙ c.before.before.if1.false, ne_eqb _ _ c.before.if2.false)
+    ∙ rw (sym c.is_digit.ensures ∙ c.if-is_digit.false, ne_eqb _ _ c.if-byte-eq45.false)
 
 pub with_byte_spec : {M : Type 1} → statement M
 with_byte_spec =

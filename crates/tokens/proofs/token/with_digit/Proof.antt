@@ -5,16 +5,16 @@ use Rattle.tokens.specs.Token.{largest, with_digit}
 use Rattle.tokens.proofs.token.with_digit.Statement.{statement}
 use Rattle.tokens.proofs.token.with_digit.Tie as tie
 
-room : (c : tie.Else1) → c.before.before.args.token.magnitude * 10 + c.before.before.args.digit ≤ largest
-room c = leb-true _ _ (sym c.before.has_room.ensures ∙ not-false _ c.if1.false)
+room : (c : tie.Else-not-has_room) → c.args.token.magnitude * 10 + c.args.digit ≤ largest
+room c = leb-true _ _ (sym c.has_room.ensures ∙ not-false _ c.if-not-has_room.false-raw)
 
-returns : tie.Need-returns
+returns : tie.Need-returns-then-not-has_room
 unfolding with_digit
-returns c = c.no_number.ensures ∙ rw (sym c.before.before.has_room.ensures ∙ not-true _ c.before.if1.true)
+returns c = c.no_number.ensures ∙ rw (sym c.has_room.ensures ∙ not-true _ c.if-not-has_room.true-raw)
 
-returns_2 : tie.Need-returns-2
+returns_2 : tie.Need-returns
 unfolding with_digit
-returns_2 c = rw (sym c.before.has_room.ensures ∙ not-false _ c.if1.false)
+returns_2 c = rw (sym c.has_room.ensures ∙ not-false _ c.if-not-has_room.false-raw)
 
 pub with_digit_spec : {M : Type 1} → statement M
 with_digit_spec =

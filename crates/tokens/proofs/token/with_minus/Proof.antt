@@ -4,13 +4,13 @@ use Rattle.tokens.specs.Token.{with_minus}
 use Rattle.tokens.proofs.token.with_minus.Statement.{statement}
 use Rattle.tokens.proofs.token.with_minus.Tie as tie
 
-returns : tie.Need-returns
+returns : tie.Need-returns-then-token
 unfolding with_minus
-returns c = c.no_number.ensures ∙ rw c.before.if1.true
+returns c = c.no_number.ensures ∙ rw c.if-token.true
 
-returns_2 : tie.Need-returns-2
+returns_2 : tie.Need-returns
 unfolding with_minus
-returns_2 c = rw c.if1.false
+returns_2 c = rw c.if-token.false
 
 pub with_minus_spec : {M : Type 1} → statement M
 with_minus_spec = tie.close (tie.spec (λ c κs. search rules) returns returns_2)

@@ -19,35 +19,35 @@ use Rattle.walk.proofs.Rising.{rises_not, rises_on, rises_end}
 use Rattle.walk.proofs.lists.ascend.Statement.{statement}
 use Rattle.walk.proofs.lists.ascend.Tie as tie
 
-abbrev invariant_loop : tie.invariant_loop
+abbrev invariant_loop : tie.invariant-loop-i
 invariant_loop ids last₀ i₀ last i = (i ≤ length ids) × (rising ids ≡ ascending lt_z (to_z w64 last ∷ drop i ids))
 
-abbrev decreases_loop : tie.decreases_loop
+abbrev decreases_loop : tie.decreases-loop-i
 decreases_loop ids last₀ i₀ last i = length ids - i
 
-holds : tie.Need-loop-init invariant_loop decreases_loop
+holds : tie.Need-loop-i-init invariant_loop decreases_loop
 unfolding rising
 holds c = (search rules, refl)
 
 -- at an id
-module _ (c : tie.After-id invariant_loop decreases_loop) where
-  abbrev l : tie.At-loop invariant_loop decreases_loop
+module _ (c : tie.After-id-1 invariant_loop decreases_loop) where
+  abbrev l : tie.At-loop-i invariant_loop decreases_loop
   l = c.before.before
 
   abbrev ids : List ℤ
-  ids = l.before.args.ids.now
+  ids = l.args.ids.now
 
   abbrev i : ℕ
-  i = l.loop.i
+  i = l.loop-i.i
 
   abbrev last : ℤ
-  last = to_z w64 l.loop.last
+  last = to_z w64 l.loop-i.last-bits
 
   abbrev id : ℤ
   id = get_or ids i (pos 0)
 
   fits : SFits w64 id
-  fits = sfits_of c.id.given
+  fits = sfits_of c.id-1.given
 
   at_most : {t : Bool} → le_z (to_z w64 (of_z w64 id)) last ≡ t → not (lt_z last id) ≡ t
   at_most e = sym (le_z_turned id last) ∙ (rw (to_z-of_z fits) at e)
@@ -62,9 +62,9 @@ ascend_spec =
     (λ c. search rules)
     (λ c. search rules)
     (λ c. let k = c.before in
-    sym ((l k).loop.invariant.1 ∙ rises_not (ids k) (i k) (last k) (omega arith) (not-true _ (at_most k c.if1.true))))
+    sym ((l k).loop-i.invariant.1 ∙ rises_not (ids k) (i k) (last k) (omega arith) (not-true _ (at_most k c.if-id-last.true))))
     (λ c. search rules)
     (λ c. search rules)
     (λ c. let k = c.before in
-    (omega arith, rw (to_z-of_z (fits k)) ((l k).loop.invariant.1 ∙ rises_on (ids k) (i k) (last k) (omega arith) (not-false _ (at_most k c.if1.false)))))
-    (λ c. let l = c.before in sym (l.loop.invariant.1 ∙ rises_end l.before.args.ids.now l.loop.i (to_z w64 l.loop.last) c.loop-test.false)))
+    (omega arith, rw (to_z-of_z (fits k)) ((l k).loop-i.invariant.1 ∙ rises_on (ids k) (i k) (last k) (omega arith) (not-false _ (at_most k c.if-id-last.false)))))
+    (λ c. sym (c.loop-i.invariant.1 ∙ rises_end c.args.ids.now c.loop-i.i (to_z w64 c.loop-i.last-bits) c.loop-i-test.false)))

@@ -17,35 +17,35 @@ use Rattle.walk.proofs.Scans.{formed_under, formed_twice, formed_rest, formed_en
 use Rattle.walk.proofs.lists.ids_formed.Statement.{statement}
 use Rattle.walk.proofs.lists.ids_formed.Tie as tie
 
-abbrev invariant_loop : tie.invariant_loop
+abbrev invariant_loop : tie.invariant-loop-i
 invariant_loop ids i₀ i = (i ≤ length ids) × (ids_formed ids ≡ ids_formed (drop i ids))
 
-abbrev decreases_loop : tie.decreases_loop
+abbrev decreases_loop : tie.decreases-loop-i
 decreases_loop ids i₀ i = length ids - i
 
 -- at an id
-module _ (c : tie.After-id invariant_loop decreases_loop) where
-  abbrev l : tie.At-loop invariant_loop decreases_loop
+module _ (c : tie.After-id-1 invariant_loop decreases_loop) where
+  abbrev l : tie.At-loop-i invariant_loop decreases_loop
   l = c.before.before
 
   abbrev ids : List ℤ
-  ids = l.before.args.ids.now
+  ids = l.args.ids.now
 
   abbrev i : ℕ
-  i = l.loop.i
+  i = l.loop-i.i
 
   abbrev id : ℤ
   id = get_or ids i (pos 0)
 
   fits : SFits w64 id
-  fits = sfits_of c.id.given
+  fits = sfits_of c.id-1.given
 
   after : take (length ids - (i + 1)) (drop (i + 1) ids) ≡ drop (i + 1) ids
   after = take_all (length ids - (i + 1)) (drop (i + 1) ids) (simp length-drop (omega arith))
 
 -- the call looks for it among those after it
-found : (c : tie.After-is-in invariant_loop decreases_loop) → let k = c.before.before.before in c.is-in.result ≡ is_in (drop (i k + 1) (ids k)) (id k)
-found c = let k = c.before.before.before in c.is-in.ensures ∙ rw (to_z-of_z (fits k), after k)
+found : (c : tie.After-is_in invariant_loop decreases_loop) → let k = c.before.before.before in c.is_in.result ≡ is_in (drop (i k + 1) (ids k)) (id k)
+found c = let k = c.before.before.before in c.is_in.ensures ∙ rw (to_z-of_z (fits k), after k)
 
 pub ids_formed_spec : {M : Type 1} → statement M
 ids_formed_spec =
@@ -57,7 +57,7 @@ ids_formed_spec =
     (λ c. search rules)
     (λ c. search rules)
     (λ c. let k = c.before in
-    sym ((l k).loop.invariant.1 ∙ formed_under (ids k) (i k) (omega arith) (sign {z = id k} (fits k) c.if1.true)))
+    sym ((l k).loop-i.invariant.1 ∙ formed_under (ids k) (i k) (omega arith) (sign {z = id k} (fits k) c.if-id-lt0.true)))
     (λ c. search rules)
     (λ c. search rules)
     (λ c. search rules)
@@ -65,10 +65,9 @@ ids_formed_spec =
     (λ c. search rules)
     (λ c κs. search rules)
     (λ c. let k = c.before.before.before.before in
-    sym ((l k).loop.invariant.1 ∙ formed_twice (ids k) (i k) (omega arith) (sym (found c.before) ∙ c.if2.true)))
+    sym ((l k).loop-i.invariant.1 ∙ formed_twice (ids k) (i k) (omega arith) (sym (found c.before) ∙ c.if-is_in.true)))
     (λ c. search rules)
     (λ c. search rules)
     (λ c. let k = c.before.before.before.before in
-    (omega arith, (l k).loop.invariant.1 ∙ formed_rest (ids k) (i k) (omega arith) (sign {z = id k} (fits k) c.before.before.before.if1.false) (sym (found c.before) ∙ c.if2.false)))
-    (λ c. let l = c.before in
-    sym (l.loop.invariant.1 ∙ formed_end _ l.loop.i c.loop-test.false)))
+    (omega arith, (l k).loop-i.invariant.1 ∙ formed_rest (ids k) (i k) (omega arith) (sign {z = id k} (fits k) c.if-id-lt0.false) (sym (found c.before) ∙ c.if-is_in.false)))
+    (λ c. sym (c.loop-i.invariant.1 ∙ formed_end _ c.loop-i.i c.loop-i-test.false)))

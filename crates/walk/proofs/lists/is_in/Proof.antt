@@ -10,5 +10,4 @@ is_in_spec =
     tie.close
     (tie.spec
     (λ c κs. search rules)
-    (λ c. let s = c.before in
-    rw (c.position.ensures, to_z-of_z s.ranges.id) (id_found s.args.id s.args.ids.now)))
+    (λ c. rw (c.position.ensures, to_z-of_z c.ranges.id) (id_found c.args.id c.args.ids.now)))

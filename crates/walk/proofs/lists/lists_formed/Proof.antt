@@ -10,16 +10,15 @@ use Rattle.walk.proofs.lists.lists_formed.Statement.{statement}
 use Rattle.walk.proofs.lists.lists_formed.Tie as tie
 
 -- past the two tests of the lengths
-by_ids : (c : tie.Else2) → let a = c.before.before.args in lists_formed a.ids.now a.parents.now ≡ ids_formed a.ids.now
-by_ids c = let a = c.before.before.args in formed_ids a.ids.now a.parents.now c.before.if1.false c.if2.false
+by_ids : (c : tie.Else-ids-gt-SNAPSHOTS) → let a = c.args in lists_formed a.ids.now a.parents.now ≡ ids_formed a.ids.now
+by_ids c = let a = c.args in formed_ids a.ids.now a.parents.now c.if-ids-parents.false c.if-ids-gt-SNAPSHOTS.false
 
 pub lists_formed_spec : {M : Type 1} → statement M
 lists_formed_spec =
     tie.close
     (tie.spec
-    (λ c. rw (ne_eqb _ _ c.if1.true))
-    (λ c. rw (eq-eqb _ _ c.before.if1.false, lt-leb _ _ c.if2.true))
-    (λ c. let s = c.before.before.before in
-    sym (by_ids c.before ∙ rising_formed s.args.ids.now (sym s.requires ∙ c.if3.true)))
+    (λ c. rw (ne_eqb _ _ c.if-ids-parents.true))
+    (λ c. rw (eq-eqb _ _ c.if-ids-parents.false, lt-leb _ _ c.if-ids-gt-SNAPSHOTS.true))
+    (λ c. sym (by_ids c.before ∙ rising_formed c.args.ids.now (sym c.requires ∙ c.if-ascends.true)))
     (λ c κs. search rules)
-    (λ c. c.ids-formed.ensures ∙ sym (by_ids c.before.before)))
+    (λ c. c.ids_formed.ensures ∙ sym (by_ids c.before.before)))

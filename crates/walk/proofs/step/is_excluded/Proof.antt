@@ -8,5 +8,5 @@ pub is_excluded_spec : {M : Type 1} → statement M
 is_excluded_spec =
     tie.close
     (tie.spec
-    (λ c. rw c.if1.true (eq_bits c.before.args.id c.before.args.excluded c.before.ranges.id c.before.ranges.excluded))
+    (λ c. rw c.if-has_excluded.true (eq_bits c.args.id c.args.excluded c.ranges.id c.ranges.excluded))
     (λ c. search rules))

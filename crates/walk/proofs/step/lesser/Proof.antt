@@ -23,5 +23,5 @@ pub lesser_spec : {M : Type 1} → statement M
 lesser_spec =
     tie.close
     (tie.spec
-    (λ c. let s = c.before in rw (below s c.if1.true) (to_z-of_z s.ranges.b))
-    (λ c. let s = c.before in rw (below s c.if1.false) (to_z-of_z s.ranges.a)))
+    (λ c. let s = c.before in rw (below s c.if-b-a.true) (to_z-of_z s.ranges.b))
+    (λ c. let s = c.before in rw (below s c.if-b-a.false) (to_z-of_z s.ranges.a)))

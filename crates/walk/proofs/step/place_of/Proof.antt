@@ -20,10 +20,9 @@ place_of_spec =
     (λ c. search rules)
     (λ c. search rules)
     (λ c. search rules)
-    (λ c. let s = c.before.before.before in
-    let e : get_or s.args.ids.now (s.args.last - 1) (pos 0) ≡ s.args.id = same (sfits_of c.before.if22.given) c.if2.true ∙ to_z-of_z s.ranges.id in
-    sym (rw e at (place_at s.args.ids.now (s.args.last - 1) s.requires.0 (omega (arith, s.requires.1.1)))))
-    (λ c κs. let s = c.before.before in rising_ascends s.args.ids.now (sym s.requires.1.0 ∙ c.if3.true))
-    (λ c. let s = c.before.before.before in rw (to_z-of_z s.ranges.id) at c.position-ascending.ensures)
+    (λ c. let e : get_or c.args.ids.now (c.args.last - 1) (pos 0) ≡ c.args.id = same (sfits_of c.t9-1.given) c.if-ids-last.true ∙ to_z-of_z c.ranges.id in
+    sym (rw e at (place_at c.args.ids.now (c.args.last - 1) c.requires.0 (omega (arith, c.requires.1.1)))))
+    (λ c κs. rising_ascends c.args.ids.now (sym c.requires.1.0 ∙ c.if-ascends.true))
+    (λ c. rw (to_z-of_z c.ranges.id) at c.position_ascending.ensures)
     (λ c κs. search rules)
-    (λ c. let s = c.before.before.before in rw (to_z-of_z s.ranges.id) at c.position.ensures))
+    (λ c. rw (to_z-of_z c.ranges.id) at c.position.ensures))

@@ -16,9 +16,9 @@ use Rattle.builder.proofs.builder.TableMetadataBuilder.assign_uuid.Tie as tie
 returns : tie.Need-returns
 unfolding assign_uuid laid_builder laid_fields laid_update
 returns c st p =
-    let a = c.before.before.before.before.before.args in
-    let e : c.same_bytes.result ≡ same_bytes a.t2 st.metadata.fields.uuid = c.same_bytes.ensures ∙ ap (λ (x : TableMetadataBuilder). same_bytes a.t2 x.fields.table_uuid) p in
-    (refl, λ z. rw (e, p) (stepped_unless (same_bytes a.t2 st.metadata.fields.uuid) st (on_fields (with_uuid a.t2) st) (AssignUuid a.t2) _ _ refl refl refl))
+    let a = c.args in
+    let e : c.same_bytes-same.result ≡ same_bytes a.uuid st.metadata.fields.uuid = c.same_bytes-same.ensures ∙ ap (λ (x : TableMetadataBuilder). same_bytes a.uuid x.fields.table_uuid) p in
+    (refl, λ z. rw (e, p) (stepped_unless (same_bytes a.uuid st.metadata.fields.uuid) st (on_fields (with_uuid a.uuid) st) (AssignUuid a.uuid) _ _ refl refl refl))
 
 pub assign_uuid_spec : {M : Type 1} → statement M
 assign_uuid_spec = tie.close (tie.spec (λ c. search rules) (λ c. search rules) (λ c κs. search rules) returns)

@@ -19,18 +19,18 @@ use Rattle.builder.proofs.Texts.{trimmed_fits}
 use Rattle.builder.proofs.builder.TableMetadataBuilder.set_location.Statement.{statement}
 use Rattle.builder.proofs.builder.TableMetadataBuilder.set_location.Tie as tie
 
-same_text_requires : tie.Need-same-text-requires
-same_text_requires c κs = let s = c.before.before.before in (rw c.trimmed.ensures (trimmed_fits s.args.location s.requires.1), s.requires.0)
+same_text_requires : tie.Need-same_text-same-requires
+same_text_requires c κs = (rw c.trimmed-l.ensures (trimmed_fits c.args.location c.requires.1), c.requires.0)
 
 returns : tie.Need-returns
 unfolding set_location laid_builder laid_fields laid_update
 returns c st p =
-    let a = c.before.before.before.before.args in
+    let a = c.args in
     let t : List ℕ = trimmed (read_text a.location) in
-    let l : c.before.trimmed.result ≡ laid_text t = c.before.trimmed.ensures in
-    let new : read_text c.before.trimmed.result ≡ t = ap (λ (x : Text). read_text x) l ∙ reread_text t in
+    let l : c.trimmed-l.result ≡ laid_text t = c.trimmed-l.ensures in
+    let new : read_text c.trimmed-l.result ≡ t = ap (λ (x : Text). read_text x) l ∙ reread_text t in
     let old : read_text a.self.fields.location ≡ st.metadata.fields.location = ap (λ (x : TableMetadataBuilder). read_text x.fields.location) p ∙ reread_text st.metadata.fields.location in
-    let e : c.same_text.result ≡ same_bytes t st.metadata.fields.location = c.same_text.ensures ∙ ap₂ same_bytes new old in
+    let e : c.same_text-same.result ≡ same_bytes t st.metadata.fields.location = c.same_text-same.ensures ∙ ap₂ same_bytes new old in
     (refl, λ z. rw (e, l, p) (stepped_unless (same_bytes t st.metadata.fields.location) st (on_fields (with_location t) st) (SetLocation t) _ _ refl refl refl))
 
 pub set_location_spec : {M : Type 1} → statement M

@@ -17,9 +17,9 @@ use Rattle.builder.proofs.builder.TableMetadataBuilder.upgrade_format_version.Ti
 returns : tie.Need-returns
 unfolding upgrade_format_version_checks upgrade_format_version laid_builder laid_fields laid_update
 returns c st p =
-    let a = c.before.before.before.before.args in
+    let a = c.args in
     let row : RowId = cond (eqb a.version 3) (record { 0 = 0 }) st.metadata.fields.next_row in
-    rw (c.next-row-at.ensures, c.before.choose.ensures, p)
+    rw (c.next_row_at-row.ensures, c.choose-number.ensures, p)
     (refl, λ z. stepped_unless (eqb a.version st.metadata.fields.version) st (on_fields (with_version a.version row) st) (UpgradeFormatVersion a.version) _ _ refl refl refl)
 
 pub upgrade_format_version_spec : {M : Type 1} → statement M

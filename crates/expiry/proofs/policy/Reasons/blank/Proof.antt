@@ -6,7 +6,7 @@ use Rattle.expiry.proofs.policy.Reasons.blank.Tie as tie
 
 returns : tie.Need-returns
 unfolding no_reasons
-returns c = rw c.blank.ensures
+returns c = rw c.blank-none.ensures
 
 pub blank_spec : {M : Type 1} → statement M
 blank_spec = tie.close (tie.spec (λ c κs. search rules) returns)
