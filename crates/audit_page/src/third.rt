@@ -9,44 +9,35 @@ use tokens::output::Output;
 // The format version from which on row ids are given out.
 const ROWS_FROM: u8 = 3;
 
-// Below that version there are none.
-const NONE: i64 = 0;
-
-const NOT_APART: i64 = 1;
-
-const APART: i64 = 2;
-
-fn kind_of(version: u8, is_apart: bool) -> i64 {
+// Below that version there are no row ids.
+fn words_of(version: u8, is_apart: bool) -> &'static [u8] {
     if version != ROWS_FROM {
-        return NONE;
+        return b"   NO ROW IDS: this session's metadata has the version #0, and row ids are given out from version 3 on. Nothing is promised of them here.\n";
     }
-    if is_apart { APART } else { NOT_APART }
+    if !is_apart {
+        return b"   NOT APART: a row id is held twice, or is not below the next row id %0, or the metadata is not well formed. An id can repeat.\n";
+    }
+    b"   APART: no row id is held twice, and all are below the next row id %0. From here on NO ID REPEATS, whatever runs follow.\n"
 }
 
-// which answer, version; next row id
-fn card_of(fields: SingleFields, is_apart: bool) -> Card {
-    let kind = kind_of(fields.format_version, is_apart);
+// version; next row id
+fn card_of(fields: SingleFields) -> Card {
     Card::of_numbers(
-        [kind, fields.format_version as i64, 0, 0, 0, 0, 0, 0],
+        [fields.format_version as i64, 0, 0, 0, 0, 0, 0, 0],
         [fields.next_row_id.0, 0],
     )
 }
 
-pub fn say_third(output: &mut Output, end: &mut usize, metadata: TableMetadata) {
-    let card = card_of(metadata.fields, rows_apart(metadata));
-    let template =
-        b"   ?0{NO ROW IDS: this session's metadata has the version #1, and row ids are given out from version 3 on. Nothing is promised of them here.\
-        |NOT APART: a row id is held twice, or is not below the next row id %0, or the metadata is not well formed. An id can repeat.\
-        |APART: no row id is held twice, and all are below the next row id %0. From here on NO ID REPEATS, whatever runs follow.}\n";
+pub fn say_third(output: &mut Output, metadata: TableMetadata) {
+    let fields = metadata.fields;
+    let words = words_of(fields.format_version, rows_apart(metadata));
     say(
         output,
-        end,
         b"\n3. Are the row ranges that are held apart, and can an id repeat from here on?\n",
     );
-    say_part(output, end, template, 0, 0, card);
+    say_part(output, words, 0, 0, card_of(fields));
     say(
         output,
-        end,
         b"   Proved: rows-apart-unique. The test says exactly that. Over any runs from there, each from what the one before answered, ranges ascend and no\
         \n   row id lies in two of them (run-rows-disjoint), none is given out that was held before (run-rows-never-held), and the test stays true\
         \n   (run-rows-apart-stays).\

@@ -51,22 +51,14 @@ pub struct LocationSet {
 fn next_row_at(version: u8, next: RowId) -> RowId
     ensures { result ≡ cond (eqb version 3) (record { 0 = 0 }) next }
 {
-    if version == 3 {
-        return RowId(0);
-    }
-    next
+    if version == 3 { RowId(0) } else { next }
 }
 
 // The run's own last update, or the other time where it has none yet.
 pub fn own_or(b: TableMetadataBuilder, other: Time) -> Time
     ensures { result.0 ≡ or_else (given b.has_own b.own.0) other.0 }
 {
-    let h = b.has_own;
-    let o = b.own;
-    if h {
-        return o;
-    }
-    other
+    if b.has_own { b.own } else { other }
 }
 
 impl TableMetadataBuilder {
@@ -91,39 +83,28 @@ impl TableMetadataBuilder {
     pub fn assign_uuid(self, uuid: [u8; 16]) -> Changed
         ensures { (st : State) → self ≡ laid_builder st → Answers [] st (assign_uuid uuid st) result.number result.logs result.builder (with_fields_part (with_uuid uuid no_fields_part) (of_kind assign_uuid_kind)) }
     {
-        let f = self.fields;
-        let old = f.table_uuid;
-        let same = same_bytes(&uuid, &old);
-        let mut g = f;
-        g.table_uuid = uuid;
-        let mut b = self;
-        b.fields = g;
+        let same = same_bytes(&uuid, &self.fields.table_uuid);
+        let mut builder = self;
+        builder.fields.table_uuid = uuid;
         Changed {
             number: ACCEPTED,
             logs: !same,
-            builder: b,
+            builder,
         }
     }
 
     pub fn upgrade_format_version(self, version: u8) -> Changed
         ensures { (st : State) → self ≡ laid_builder st → Answers (upgrade_format_version_checks version st) st (upgrade_format_version version st) result.number result.logs result.builder (with_fields_part (with_format_version version no_fields_part) (of_kind upgrade_format_version_kind)) }
     {
-        let f = self.fields;
-        let old = f.format_version;
-        let next = f.next_row_id;
+        let old = self.fields.format_version;
         let lowered = version < old;
-        let same = version == old;
-        let number = choose(lowered, VERSION_LOWERED, ACCEPTED);
-        let row = next_row_at(version, next);
-        let mut g = f;
-        g.format_version = version;
-        g.next_row_id = row;
-        let mut b = self;
-        b.fields = g;
+        let mut builder = self;
+        builder.fields.format_version = version;
+        builder.fields.next_row_id = next_row_at(version, self.fields.next_row_id);
         Changed {
-            number,
-            logs: !same,
-            builder: b,
+            number: choose(lowered, VERSION_LOWERED, ACCEPTED),
+            logs: version != old,
+            builder,
         }
     }
 
@@ -132,18 +113,14 @@ impl TableMetadataBuilder {
         requires len_le_location_room_2 { location.len ≤ location_room }
         ensures { (st : State) → self ≡ laid_builder st → Answers [] st (set_location (read_text location) st) 0 result.logs result.builder (with_fields_part (with_location result.location no_fields_part) (of_kind set_location_kind)) }
     {
-        let f = self.fields;
-        let old = f.location;
-        let l = trimmed(location);
-        let same = same_text(l, old);
-        let mut g = f;
-        g.location = l;
-        let mut b = self;
-        b.fields = g;
+        let location = trimmed(location);
+        let same = same_text(location, self.fields.location);
+        let mut builder = self;
+        builder.fields.location = location;
         LocationSet {
             logs: !same,
-            location: l,
-            builder: b,
+            location,
+            builder,
         }
     }
 }

@@ -4,18 +4,12 @@ ghost use Rattle.std.specs.Prelude.{◌≡◌, cond, ◌&&◌, leb};
 pub fn choose(test: bool, number: u8, rest: u8) -> u8
     ensures { result ≡ cond test number rest }
 {
-    if test {
-        return number;
-    }
-    rest
+    if test { number } else { rest }
 }
 
 // One more is asked for, and there is no room.
 pub fn is_full(more: bool, count: usize, room: usize) -> bool
     ensures { result ≡ (more && leb room count) }
 {
-    if more {
-        return count >= room;
-    }
-    false
+    more && count >= room
 }

@@ -1,7 +1,7 @@
 // What the updates of schemas and of sort orders share, on the keys of their tables: choosing an id, where -1 stands for the last added, and the
 // id that an added one gets.
 // Document 01, "Rules for each update", as the crate `rules` writes it in SchemaUpdates.
-ghost use Rattle.std.specs.Prelude.{◌≡◌, cond};
+ghost use Rattle.std.specs.Prelude.{◌≡◌};
 ghost use Rattle.rules.specs.Words.{eq_z, is_in, some_with};
 ghost use Rattle.rules.specs.Layout.{given};
 ghost use Rattle.builder.specs.Added.{Chosen, FromIds};
@@ -9,33 +9,15 @@ ghost use Rattle.builder.specs.Added.{Chosen, FromIds};
 use crate::builder::TableMetadataBuilder;
 use crate::checks::choose;
 use records::replies::{ACCEPTED, NOTHING_ADDED, UNKNOWN_ID};
-use search::{Key, highest, is_below, is_in, next};
+use search::{Key, highest, is_in, next};
 
 const LAST_ADDED: i64 = TableMetadataBuilder::LAST_ADDED as i64;
-
-fn same(a: Key, b: Key) -> bool
-    ensures { result ≡ eq_z a.0 b.0 }
-{
-    let x = a.0;
-    let y = b.0;
-    x == y
-}
-
-fn pick(test: bool, a: Key, b: Key) -> Key
-    ensures { result.0 ≡ cond test a.0 b.0 }
-{
-    if test {
-        return a;
-    }
-    b
-}
 
 // The id is the last added, where there is one.
 fn is_last_added(id: Key, has_last: bool, last: Key) -> bool
     ensures { result ≡ some_with (eq_z id.0) (given has_last last.0) }
 {
-    let equal = same(id, last);
-    has_last & equal
+    has_last & (id == last)
 }
 
 // The number of the first check that fails; whether the chosen id is the current one; the id, and the one to log.
@@ -51,18 +33,18 @@ pub struct Choice {
 pub fn choose_id(id: Key, has_last: bool, last: Key, current: Key, ids: &[i64]) -> Choice
     ensures { Chosen id.0 (given has_last last.0) current.0 (is_in ids.now) result.number result.unchanged result.id.0 result.logged.0 }
 {
-    let asked = same(id, Key(LAST_ADDED));
-    let x = pick(asked & has_last, last, id);
-    let unchanged = same(x, current);
-    let held = is_in(ids, x);
+    let asked = id == Key(LAST_ADDED);
+    let chosen = if asked & has_last { last } else { id };
+    let unchanged = chosen == current;
+    let held = is_in(ids, chosen);
     let later = choose(!unchanged & !held, UNKNOWN_ID, ACCEPTED);
     let number = choose(asked & !has_last, NOTHING_ADDED, later);
-    let is_last = is_last_added(x, has_last, last);
-    let logged = pick(is_last, Key(LAST_ADDED), x);
+    let is_last = is_last_added(chosen, has_last, last);
+    let logged = if is_last { Key(LAST_ADDED) } else { chosen };
     Choice {
         number,
         unchanged,
-        id: x,
+        id: chosen,
         logged,
     }
 }
@@ -87,22 +69,19 @@ pub fn reuse_or_create_new_id(
     ensures { FromIds ids.now place largest.0 (given has_last last.0) result.found result.exhausted result.is_last result.id.0 }
 {
     if place < ids.len() {
-        let x = ids[place];
-        let is_last = is_last_added(Key(x), has_last, last);
+        let id = Key(ids[place]);
         return AddedId {
             found: true,
             exhausted: false,
-            is_last,
-            id: Key(x),
+            is_last: is_last_added(id, has_last, last),
+            id,
         };
     }
-    let h = highest(ids);
-    let below = is_below(h, largest);
-    let id = next(h, largest);
+    let highest = highest(ids);
     AddedId {
         found: false,
-        exhausted: !below,
+        exhausted: highest >= largest,
         is_last: false,
-        id,
+        id: next(highest, largest),
     }
 }

@@ -45,10 +45,8 @@ pub fn assign_uuid(b: TableMetadataBuilder, u: TableUpdate) -> Decision
     requires kind_value { u.kind ≡ assign_uuid_kind }
     ensures { (terms : Terms) (st : State) → b ≡ laid_builder st → Decides terms u st result }
 {
-    let uuid = u.fields.uuid;
-    let x = b.assign_uuid(uuid);
-    let c = x.builder;
-    decided(x.number, x.logs, c, u)
+    let assigned = b.assign_uuid(u.fields.uuid);
+    decided(assigned.number, assigned.logs, assigned.builder, u)
 }
 
 pub fn upgrade_format_version(b: TableMetadataBuilder, u: TableUpdate) -> Decision
@@ -56,9 +54,8 @@ pub fn upgrade_format_version(b: TableMetadataBuilder, u: TableUpdate) -> Decisi
     requires kind_value { u.kind ≡ upgrade_format_version_kind }
     ensures { (terms : Terms) (st : State) → b ≡ laid_builder st → Decides terms u st result }
 {
-    let x = b.upgrade_format_version(u.fields.format_version);
-    let c = x.builder;
-    decided(x.number, x.logs, c, u)
+    let upgraded = b.upgrade_format_version(u.fields.format_version);
+    decided(upgraded.number, upgraded.logs, upgraded.builder, u)
 }
 
 // The location is logged trimmed.
@@ -69,12 +66,8 @@ pub fn set_location(b: TableMetadataBuilder, u: TableUpdate) -> Decision
     requires kind_value { u.kind ≡ set_location_kind }
     ensures { (terms : Terms) (st : State) → b ≡ laid_builder st → Decides terms u st result }
 {
-    let mut fields = u.fields;
-    let x = b.set_location(fields.location);
-    let c = x.builder;
-    let trimmed = x.location;
-    fields.location = trimmed;
-    let mut e = u;
-    e.fields = fields;
-    decided(ACCEPTED, x.logs, c, e)
+    let set = b.set_location(u.fields.location);
+    let mut entry = u;
+    entry.fields.location = set.location;
+    decided(ACCEPTED, set.logs, set.builder, entry)
 }

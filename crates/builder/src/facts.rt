@@ -13,21 +13,18 @@ pub use tables::snapshots::ids_of;
 pub fn is_last(ids: &[i64], id: i64) -> bool
     ensures { result ≡ is_above ids.now id }
 {
-    let n = ids.len();
-    if n == 0 {
-        return true;
+    match ids.last() {
+        Some(last) => *last < id,
+        None => true,
     }
-    ids[n - 1] < id
 }
 
 // When the last entry was made; the other time where there is none.
 pub fn last_time(log: SnapshotLog, other: Time) -> Time
     ensures { LaidSnapshotLog log → given (ltb 0 log.count) result.0 ≡ last_time (read_snapshot_log log) }
 {
-    let n = log.count;
-    if (n == 0) | (n > SNAPSHOT_LOG) {
+    if (log.count == 0) | (log.count > SNAPSHOT_LOG) {
         return other;
     }
-    let e = log.items[n - 1];
-    e.timestamp_ms
+    log.items[log.count - 1].timestamp_ms
 }

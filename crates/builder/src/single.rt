@@ -18,12 +18,9 @@ pub fn decide(b: TableMetadataBuilder, u: TableUpdate) -> Decision
     requires assign_uuid_kind_le_kind { (assign_uuid_kind ≤ u.kind) × (u.kind ≤ set_location_kind) }
     ensures { (terms : Terms) (st : State) → b ≡ laid_builder st → Decides terms u st result }
 {
-    let kind = u.kind;
-    if kind == ASSIGN_UUID {
-        return assign_uuid(b, u);
+    match u.kind {
+        ASSIGN_UUID => assign_uuid(b, u),
+        UPGRADE_FORMAT_VERSION => upgrade_format_version(b, u),
+        _ => set_location(b, u),
     }
-    if kind == UPGRADE_FORMAT_VERSION {
-        return upgrade_format_version(b, u);
-    }
-    set_location(b, u)
 }

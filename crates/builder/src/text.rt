@@ -9,18 +9,17 @@ use primitives::location::trim;
 use primitives::names::same_bytes;
 use records::text::Text;
 
+// Kept: tried, `copy_from_slice` into the array's front, after which nothing is known of the array.
 fn text_of(bytes: &[u8]) -> Text
     requires { length bytes.now ≤ text_room }
     ensures { result ≡ laid_text bytes.now }
 {
-    let mut r = Text::blank();
-    let mut i = 0;
-    while i < bytes.len() {
-        r.bytes[i] = bytes[i];
-        i += 1;
+    let mut text = Text::blank();
+    for (i, byte) in bytes.iter().enumerate() {
+        text.bytes[i] = *byte;
     }
-    r.len = i;
-    r
+    text.len = bytes.len();
+    text
 }
 
 // A text as it is held: blank past its length.
@@ -28,9 +27,7 @@ pub fn clean(text: Text) -> Text
     requires { text.len ≤ text_room }
     ensures { result ≡ laid_text (read_text text) }
 {
-    let n = text.len;
-    let b = text.bytes;
-    text_of(&b[..n])
+    text_of(&text.bytes[..text.len])
 }
 
 // A location without its trailing slashes.
@@ -38,9 +35,7 @@ pub fn trimmed(text: Text) -> Text
     requires { text.len ≤ text_room }
     ensures { result ≡ laid_text (trimmedBytes (read_text text)) }
 {
-    let n = text.len;
-    let b = text.bytes;
-    text_of(trim(&b[..n]))
+    text_of(trim(&text.bytes[..text.len]))
 }
 
 pub fn same_text(a: Text, b: Text) -> bool
@@ -48,9 +43,5 @@ pub fn same_text(a: Text, b: Text) -> bool
     requires len_le_text_room_2 { b.len ≤ text_room }
     ensures { result ≡ same_bytes (read_text a) (read_text b) }
 {
-    let m = a.len;
-    let n = b.len;
-    let x = a.bytes;
-    let y = b.bytes;
-    same_bytes(&x[..m], &y[..n])
+    same_bytes(&a.bytes[..a.len], &b.bytes[..b.len])
 }

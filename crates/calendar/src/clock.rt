@@ -2,19 +2,11 @@
 ghost use Rattle.std.specs.Prelude.{◌≡◌, true, ◌<◌};
 ghost use Rattle.calendar.specs.Calendar.{clock, is_clock};
 
+#[tactic(auto, unfolding(crate::specs::Calendar::is_clock))]
 pub fn is_clock(hour: u64, minute: u64, second: u64, millisecond: u64) -> bool
     ensures { result ≡ is_clock hour minute second millisecond }
 {
-    if hour >= 24 {
-        return false;
-    }
-    if minute >= 60 {
-        return false;
-    }
-    if second >= 60 {
-        return false;
-    }
-    millisecond < 1000
+    hour < 24 && minute < 60 && second < 60 && millisecond < 1000
 }
 
 pub fn since_midnight(hour: u64, minute: u64, second: u64, millisecond: u64) -> u64

@@ -60,31 +60,24 @@ impl Date {
 fn is_from(least: u64, most: u64, number: u64) -> bool
     ensures { result ≡ is_from least most number }
 {
-    if number < least {
-        return false;
-    }
-    number <= most
+    least <= number && number <= most
 }
 
+#[tactic(auto, using(crate::proofs::Dates::from), unfolding(crate::specs::Calendar::is_day))]
 fn is_day(year: u64, month: u64, day: u64) -> bool
     ensures { result ≡ is_day year month day }
 {
-    if !is_from(1, 9999, year) {
-        return false;
-    }
-    if !is_from(1, 12, month) {
-        return false;
-    }
-    is_from(1, month_length(is_leap(year), month), day)
+    is_from(1, 9999, year)
+        && is_from(1, 12, month)
+        && is_from(1, month_length(is_leap(year), month), day)
 }
 
+#[tactic(auto, unfolding(crate::specs::Calendar::is_date))]
 fn is_date(date: Date) -> bool
     ensures { result ≡ is_date date }
 {
-    if !is_day(date.year, date.month, date.day) {
-        return false;
-    }
-    is_clock(date.hour, date.minute, date.second, date.millisecond)
+    is_day(date.year, date.month, date.day)
+        && is_clock(date.hour, date.minute, date.second, date.millisecond)
 }
 
 fn days_before(year: u64, month: u64, day: u64) -> u64

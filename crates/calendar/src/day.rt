@@ -3,16 +3,11 @@ ghost use Rattle.std.specs.Prelude.{◌≡◌, ◌+◌, ◌<◌, ◌≤◌};
 ghost use Rattle.calendar.specs.Calendar.{days_before_month, days_before_year, is_leap, month_length};
 ghost use Rattle.calendar.specs.Answers.{MonthAt, YearAt};
 
+#[tactic(auto, unfolding(crate::specs::Calendar::is_leap))]
 pub fn is_leap(year: u64) -> bool
     ensures { result ≡ is_leap year }
 {
-    if year % 4 != 0 {
-        return false;
-    }
-    if year % 100 != 0 {
-        return true;
-    }
-    year % 400 == 0
+    year % 4 == 0 && (year % 100 != 0 || year % 400 == 0)
 }
 
 pub fn days_before_year(year: u64) -> u64
@@ -38,15 +33,14 @@ pub fn month_length(is_leap: bool, month: u64) -> u64
     LENGTHS[month as usize]
 }
 
+#[tactic(auto, using(crate::proofs::Days::month_most, crate::proofs::Days::month_next), unfolding(crate::specs::Calendar::days_before_month))]
 pub fn days_before_month(is_leap: bool, month: u64) -> u64
     requires { month ≤ 13 }
     ensures { result ≡ days_before_month is_leap month }
 {
     let mut days: u64 = 0;
-    let mut m: u64 = 0;
-    while m < month {
+    for m in 0..month {
         days += month_length(is_leap, m);
-        m += 1;
     }
     days
 }

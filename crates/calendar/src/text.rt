@@ -1,5 +1,5 @@
 // Dates as text, as `2025-03-12 10:00:00.123`: written, and read from what someone asks for.
-ghost use Rattle.std.specs.Prelude.{◌≡◌, ◌<◌, ◌≤◌, length};
+ghost use Rattle.std.specs.Prelude.{◌≡◌, ◌<◌, ◌≤◌, IfSome, length};
 
 use crate::clock::is_clock;
 use crate::date::{Date, Day, Timed, day_of, time_of};
@@ -13,12 +13,7 @@ pub const DATE_TEXT: usize = 23;
 pub type Shape = [u8; DATE_TEXT];
 
 // A `0` stands for any digit.
-fn shape() -> Shape {
-    [
-        b'0', b'0', b'0', b'0', b'-', b'0', b'0', b'-', b'0', b'0', b' ', b'0', b'0', b':', b'0',
-        b'0', b':', b'0', b'0', b'.', b'0', b'0', b'0',
-    ]
-}
+const SHAPE: Shape = *b"0000-00-00 00:00:00.000";
 
 // A date to the second, and to the millisecond if that is not 0.
 #[derive(Clone, Copy)]
@@ -36,7 +31,7 @@ fn put_two(text: &mut Shape, at: usize, number: u64)
 }
 
 pub fn text_of(date: Date) -> DateText {
-    let mut bytes = shape();
+    let mut bytes = SHAPE;
     put_two(&mut bytes, 0, date.year / 100);
     put_two(&mut bytes, 2, date.year);
     put_two(&mut bytes, 5, date.month);
@@ -50,21 +45,13 @@ pub fn text_of(date: Date) -> DateText {
     DateText { bytes, len }
 }
 
-fn is_digit(byte: u8) -> bool {
-    b'0' <= byte && byte <= b'9'
-}
-
 // Between the day and the hour a `T` may stand too.
 fn may_stand(place: u8, byte: u8) -> bool {
-    if place == b'0' {
-        return is_digit(byte);
+    match place {
+        b'0' => byte.is_ascii_digit(),
+        b' ' => byte == b' ' || byte == b'T',
+        _ => byte == place,
     }
-    if place == b' ' {
-        if byte == b'T' {
-            return true;
-        }
-    }
-    byte == place
 }
 
 // After the day, the minute, the second or the millisecond.
@@ -73,40 +60,30 @@ fn may_end(len: usize) -> bool {
 }
 
 fn has_shape(text: &[u8]) -> bool {
-    let n = text.len();
-    if n > DATE_TEXT {
-        return false;
-    }
-    let shape = shape();
-    let mut i = 0;
-    while i < n {
-        if !may_stand(shape[i], text[i]) {
-            return false;
-        }
-        i += 1;
-    }
-    may_end(n)
+    may_end(text.len())
+        && text
+            .iter()
+            .zip(&SHAPE)
+            .all(|(byte, place)| may_stand(*place, *byte))
 }
 
 fn digit(byte: u8) -> u64
     ensures { result < 10 }
 {
-    if byte < b'0' {
-        return 0;
+    if byte.is_ascii_digit() {
+        u64::from(byte - b'0')
+    } else {
+        0
     }
-    if byte > b'9' {
-        return 0;
-    }
-    (byte - b'0') as u64
 }
 
 fn digit_at(text: &[u8], at: usize) -> u64
     ensures { result < 10 }
 {
-    if at >= text.len() {
-        return 0;
+    match text.get(at) {
+        Some(byte) => digit(*byte),
+        None => 0,
     }
-    digit(text[at])
 }
 
 // 0 where the text is shorter.
@@ -130,27 +107,19 @@ fn written(text: &[u8]) -> Date {
     }
 }
 
-fn no_time() -> Timed {
-    Timed {
-        is_timed: false,
-        time: Time(0),
-    }
-}
-
 // How far the clock of a date is from UTC's, and where the text of the date ends.
 #[derive(Clone, Copy)]
 struct Offset {
-    is_within: bool,
     is_ahead: bool,
     milliseconds: u64,
     at: usize,
+    ghost below_a_day: { milliseconds < 86400000 },
 }
 
 fn utc(at: usize) -> Offset
-    ensures { (result.at ≡ at) × (result.milliseconds ≡ 0) }
+    ensures { result.at ≡ at }
 {
     Offset {
-        is_within: true,
         is_ahead: false,
         milliseconds: 0,
         at,
@@ -159,138 +128,119 @@ fn utc(at: usize) -> Offset
 
 // As `+02:00`.
 fn has_offset_shape(zone: &[u8]) -> bool {
-    if zone.len() != 6 {
-        return false;
+    match zone {
+        [sign, a, b, b':', c, d] => {
+            (*sign == b'+' || *sign == b'-')
+                && a.is_ascii_digit()
+                && b.is_ascii_digit()
+                && c.is_ascii_digit()
+                && d.is_ascii_digit()
+        }
+        _ => false,
     }
-    let is_signed = (zone[0] == b'+') | (zone[0] == b'-');
-    is_signed
-        & is_digit(zone[1])
-        & is_digit(zone[2])
-        & (zone[3] == b':')
-        & is_digit(zone[4])
-        & is_digit(zone[5])
 }
 
-// At most 23:59, ahead of UTC or behind it.
-fn written_offset(zone: &[u8], is_ahead: bool, at: usize) -> Offset
-    ensures { (result.at ≡ at) × (result.milliseconds < 86400000) }
+// Ahead of UTC or behind it; none above 23:59.
+#[tactic(auto, using(crate::proofs::Dates::clock_parts))]
+fn written_offset(zone: &[u8], is_ahead: bool, at: usize) -> Option<Offset>
+    ensures { IfSome result (λ offset. offset.at ≡ at) }
 {
     let hours = two_at(zone, 1);
     let minutes = two_at(zone, 4);
     if !is_clock(hours, minutes, 0, 0) {
-        return Offset {
-            is_within: false,
-            is_ahead,
-            milliseconds: 0,
-            at,
-        };
+        return None;
     }
-    Offset {
-        is_within: true,
+    Some(Offset {
         is_ahead,
         milliseconds: (hours * 60 + minutes) * 60000,
         at,
-    }
+    })
 }
 
-// After a time of day a `Z` may stand, for UTC, or how far its clock is from UTC's.
-fn offset_of(text: &[u8]) -> Offset
-    ensures { (result.at ≤ length text.now) × (result.milliseconds < 86400000) }
+// After a time of day a `Z` may stand, for UTC, or how far its clock is from UTC's; none if that is above 23:59.
+fn offset_of(text: &[u8]) -> Option<Offset>
+    ensures { IfSome result (λ offset. offset.at ≤ length text.now) }
 {
     let n = text.len();
-    if n > 16 {
-        if text[n - 1] == b'Z' {
-            return utc(n - 1);
+    if n > 16 && text[n - 1] == b'Z' {
+        return Some(utc(n - 1));
+    }
+    if n >= 22 {
+        let at = n - 6;
+        let zone = &text[at..];
+        if has_offset_shape(zone) {
+            return written_offset(zone, text[at] == b'+', at);
         }
     }
-    if n < 22 {
-        return utc(n);
-    }
-    let at = n - 6;
-    let zone = &text[at..];
-    if has_offset_shape(zone) {
-        return written_offset(zone, text[at] == b'+', at);
-    }
-    utc(n)
+    Some(utc(n))
 }
 
 // The time in UTC of a clock at this offset; none outside the years 1 to 9999.
-fn in_utc(time: Time, offset: Offset) -> Timed
-    requires { offset.milliseconds < 86400000 }
-{
+fn in_utc(time: Time, offset: Offset) -> Option<Time> {
     let since = since_year_one(time);
     if !since.is_within {
-        return no_time();
+        return None;
     }
-    let mut clock = since.milliseconds;
-    if offset.is_ahead {
-        if clock < offset.milliseconds {
-            return no_time();
-        }
-        clock -= offset.milliseconds;
+    let clock = if offset.is_ahead {
+        since.milliseconds.checked_sub(offset.milliseconds)?
     } else {
-        clock += offset.milliseconds;
-    }
+        since.milliseconds.checked_add(offset.milliseconds)?
+    };
     if clock >= ALL {
-        return no_time();
+        return None;
     }
-    let time = since_epoch(clock);
-    Timed {
-        is_timed: true,
-        time,
-    }
+    Some(since_epoch(clock))
 }
 
 // The first moment of a day, a minute, a second or a millisecond, by a clock at this offset.
-fn time_of_date_text(text: &[u8], offset: Offset) -> Timed
-    requires { offset.milliseconds < 86400000 }
-{
-    if has_shape(text) {
-        let timed = time_of(written(text));
-        if timed.is_timed {
-            return in_utc(timed.time, offset);
-        }
+fn time_of_date_text(text: &[u8], offset: Offset) -> Option<Time> {
+    if !has_shape(text) {
+        return None;
     }
-    no_time()
-}
-
-fn time_of_number(text: &[u8]) -> Timed {
-    let signed = signed_of(token_of(text));
-    Timed {
-        is_timed: signed.is_number,
-        time: Time(signed.number),
+    let timed = time_of(written(text));
+    if !timed.is_timed {
+        return None;
     }
+    in_utc(timed.time, offset)
 }
 
 // No number has a `-` at the fifth place, and every date has one.
 fn may_be_date(text: &[u8]) -> bool {
-    if text.len() < 10 {
-        return false;
-    }
-    text[4] == b'-'
+    text.len() >= 10 && text[4] == b'-'
+}
+
+// The time of a date, alone or with a time of day.
+fn time_of_date(text: &[u8]) -> Option<Time> {
+    let offset = offset_of(text)?;
+    time_of_date_text(&text[..offset.at], offset)
 }
 
 // Milliseconds since 1970, or a date, alone or with a time of day.
 pub fn time_of_text(text: &[u8]) -> Timed {
-    if !may_be_date(text) {
-        return time_of_number(text);
+    let time = if may_be_date(text) {
+        time_of_date(text)
+    } else {
+        signed_of(token_of(text)).map(Time)
+    };
+    match time {
+        Some(time) => Timed {
+            is_timed: true,
+            time,
+        },
+        None => Timed {
+            is_timed: false,
+            time: Time(0),
+        },
     }
-    let offset = offset_of(text);
-    if offset.is_within {
-        let at = offset.at;
-        return time_of_date_text(&text[..at], offset);
-    }
-    no_time()
 }
 
 // A date alone stands for its whole day.
 pub fn day_of_text(text: &[u8]) -> Day {
-    let mut date = Date::blank();
-    if text.len() == 10 {
-        if has_shape(text) {
-            date = written(text);
-        }
-    }
+    let date = if text.len() == 10 && has_shape(text) {
+        written(text)
+    } else {
+        Date::blank()
+    };
     day_of(date.year, date.month, date.day)
 }
 
@@ -305,13 +255,12 @@ pub fn fault_of_text(text: &[u8]) -> usize {
     if !may_be_date(text) {
         return NO_FORM;
     }
-    let offset = offset_of(text);
-    if !offset.is_within {
-        return NO_OFFSET;
+    match offset_of(text) {
+        None => NO_OFFSET,
+        Some(offset) => if has_shape(&text[..offset.at]) {
+            NO_DATE
+        } else {
+            NO_FORM
+        },
     }
-    let at = offset.at;
-    if has_shape(&text[..at]) {
-        return NO_DATE;
-    }
-    NO_FORM
 }

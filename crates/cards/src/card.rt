@@ -147,11 +147,7 @@ pub fn wide(number: i32) -> i64 {
 pub fn text_of(slots: &[u8], len: usize) -> Text {
     let mut bytes = [0u8; TEXT];
     let n = with_slots(slots.len(), TEXT);
-    let mut i = 0;
-    while i < n {
-        bytes[i] = slots[i];
-        i += 1;
-    }
+    bytes[..n].copy_from_slice(&slots[..n]);
     Text {
         bytes,
         slots: n,

@@ -16,23 +16,13 @@ pub fn plain_name(id: i32) -> Name {
         bytes[0] = b'-';
         len = 1;
     }
-    let mut i = 0;
-    while i < n {
-        bytes[len] = digits[i];
-        len += 1;
-        i += 1;
+    for (byte, &digit) in bytes[len..].iter_mut().zip(&digits[..n]) {
+        *byte = digit;
     }
-    Name { bytes, len }
-}
-
-fn same_name(a: Name, b: Name) -> bool {
-    let mut same = a.len == b.len;
-    let mut i = 0;
-    while i < NAME {
-        same = same & (a.bytes[i] == b.bytes[i]);
-        i += 1;
+    Name {
+        bytes,
+        len: len + n,
     }
-    same
 }
 
 // What is told of a field: its id alone, of a long that is named by it; its name and its type too, of another one.
@@ -52,7 +42,7 @@ fn told(field: SchemaField) -> i64 {
     if field_type != LONG {
         return AS_OTHER;
     }
-    if same_name(field.name, plain_name(field.id.0)) {
+    if field.name == plain_name(field.id.0) {
         return ID_ALONE;
     }
     AS_LONG

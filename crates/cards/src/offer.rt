@@ -47,10 +47,8 @@ fn signed(number: u64) -> i32
 // The length of a name, the name.
 fn name_at(offers: &[u8], at: usize) -> Name {
     let mut bytes = [0u8; NAME];
-    let mut i = 0;
-    while i < NAME {
-        bytes[i] = byte_at(offers, at, 1 + i);
-        i += 1;
+    for (i, byte) in bytes.iter_mut().enumerate() {
+        *byte = byte_at(offers, at, 1 + i);
     }
     Name {
         bytes,
@@ -73,11 +71,9 @@ fn field_at(offers: &[u8], at: usize) -> SchemaField {
 fn fields(offer: SchemaOffer, offers: &[u8]) -> [SchemaField; SCHEMA_FIELDS] {
     let none = SchemaField::blank();
     let mut fields = [none; SCHEMA_FIELDS];
-    let mut i = 0;
-    while i < SCHEMA_FIELDS {
+    for (i, field) in fields.iter_mut().enumerate() {
         let at = wrapping_add_usize(offer.at, i * FIELD_BYTES);
-        fields[i] = field_at(offers, at);
-        i += 1;
+        *field = field_at(offers, at);
     }
     fields
 }
@@ -108,12 +104,9 @@ fn partition_at(offers: &[u8], at: usize, own: OfferedId) -> PartitionField {
 fn partitions(offer: SpecOffer, offers: &[u8]) -> [PartitionField; PARTITION_FIELDS] {
     let none = PartitionField::blank();
     let mut fields = [none; PARTITION_FIELDS];
-    let mut i = 0;
-    while i < PARTITION_FIELDS {
+    for (i, &own) in offer.ids.iter().enumerate() {
         let at = wrapping_add_usize(offer.at, i * PARTITION_BYTES);
-        let own = offer.ids[i];
         fields[i] = partition_at(offers, at, own);
-        i += 1;
     }
     fields
 }

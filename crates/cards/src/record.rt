@@ -109,12 +109,8 @@ pub fn snapshot_ids(ids: SnapshotIds) -> List {
     let mut numbers = [0i64; SCHEMA_FIELDS];
     let count = ids.count;
     let n = with_slots(count, REMOVALS);
-    let mut i = 0;
-    while i < n {
-        let id = ids.items[i];
-        let number = id.0;
-        numbers[i] = number;
-        i += 1;
+    for (number, id) in numbers.iter_mut().zip(&ids.items[..n]) {
+        *number = id.0;
     }
     List::of_numbers(IDS, numbers, REMOVALS, count)
 }
@@ -123,11 +119,8 @@ pub fn schema_ids(ids: SchemaIds) -> List {
     let mut numbers = [0i64; SCHEMA_FIELDS];
     let count = ids.count;
     let n = with_slots(count, REMOVALS);
-    let mut i = 0;
-    while i < n {
-        let id = ids.items[i];
-        numbers[i] = wide(id.0);
-        i += 1;
+    for (number, id) in numbers.iter_mut().zip(&ids.items[..n]) {
+        *number = wide(id.0);
     }
     List::of_numbers(IDS, numbers, REMOVALS, count)
 }
@@ -136,11 +129,8 @@ pub fn spec_ids(ids: SpecIds) -> List {
     let mut numbers = [0i64; SCHEMA_FIELDS];
     let count = ids.count;
     let n = with_slots(count, REMOVALS);
-    let mut i = 0;
-    while i < n {
-        let id = ids.items[i];
-        numbers[i] = wide(id.0);
-        i += 1;
+    for (number, id) in numbers.iter_mut().zip(&ids.items[..n]) {
+        *number = wide(id.0);
     }
     List::of_numbers(IDS, numbers, REMOVALS, count)
 }
@@ -156,14 +146,11 @@ fn sort_fields(order: SortOrder) -> List {
     let mut numbers = [0i64; SCHEMA_FIELDS];
     let count = order.count;
     let n = with_slots(count, SORT_FIELDS);
-    let mut i = 0;
-    while i < n {
-        let field = order.items[i];
+    for (i, &field) in order.items[..n].iter().enumerate() {
         let at = 3 * i;
         numbers[at] = wide(field.source_id.0);
         numbers[at + 1] = field.direction as i64;
         numbers[at + 2] = field.null_order as i64;
-        i += 1;
     }
     List::of_numbers(SORTED_FIELDS, numbers, SORT_FIELDS, count)
 }

@@ -1,29 +1,29 @@
 // What stands in front of a case, and what follows its answer.
-use tokens::field::is_unsigned;
-use tokens::input::{Input, Place, begin_piece, is_used_up, spoil};
-use tokens::output::{Output, flush};
-use tokens::token::read_token;
+use tokens::field::unsigned_of;
+use tokens::input::Input;
+use tokens::output::Output;
+use tokens::token::{Token, read_token};
+use tokens::wanted::Wanted;
 
 // The kind of the next case, from 1 to the highest that is wanted; 0 at the end of the input, between cases.
-pub fn read_case(input: &mut Input, place: &mut Place, wanted: usize, highest: u64) -> u64 {
-    begin_piece(place);
-    let token = read_token(input, place);
-    if !token.is_begun {
+pub fn read_case(input: &mut Input, wanted: Wanted, highest: u64) -> u64 {
+    input.begin_piece();
+    let token = read_token(input);
+    if token == Token::Blank {
         return 0;
     }
-    if is_unsigned(token, highest) {
-        if token.magnitude > 0 {
-            return token.magnitude;
+    match unsigned_of(token, highest) {
+        Some(kind) if kind > 0 => kind,
+        _ => {
+            input.spoil(wanted);
+            0
         }
     }
-    spoil(place, wanted, highest);
-    0
 }
 
 // An answer is written out as soon as what comes next may have to be waited for.
-pub fn end_answer(place: &Place, output: &Output, end: &mut usize) {
-    if is_used_up(place) {
-        flush(output, *end);
-        *end = 0;
+pub fn end_answer(input: &Input, output: &mut Output) {
+    if input.is_used_up() {
+        output.flush();
     }
 }

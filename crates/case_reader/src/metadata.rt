@@ -13,27 +13,27 @@ use records::counters::{
 use records::metadata::{MetadataLog, MetadataLogEntry, SingleFields, TableMetadata};
 use records::statistics::StatisticsFiles;
 use tokens::field::{read_count, read_flag, read_i32, read_i64, read_u8, read_u64};
-use tokens::input::{Input, Place, is_good};
+use tokens::input::Input;
 
-fn read_log_entry(input: &mut Input, place: &mut Place) -> MetadataLogEntry {
-    let metadata_file = read_text(input, place);
-    let timestamp_ms = read_i64(input, place);
+fn read_log_entry(input: &mut Input) -> MetadataLogEntry {
+    let metadata_file = read_text(input);
+    let timestamp_ms = read_i64(input);
     MetadataLogEntry {
         metadata_file,
         timestamp_ms: Time(timestamp_ms),
     }
 }
 
-fn read_metadata_log(input: &mut Input, place: &mut Place) -> MetadataLog {
+fn read_metadata_log(input: &mut Input) -> MetadataLog {
     let mut log = MetadataLog::blank();
-    let count = read_count(input, place);
-    let mut i = 0;
-    while i < count && is_good(place) {
-        let entry = read_log_entry(input, place);
-        let at = i;
-        i += 1;
-        if at < METADATA_LOG {
-            log.items[at] = entry;
+    let count = read_count(input);
+    for i in 0..count {
+        if !input.is_good() {
+            break;
+        }
+        let entry = read_log_entry(input);
+        if i < METADATA_LOG {
+            log.items[i] = entry;
         }
     }
     log.count = count;
@@ -42,15 +42,15 @@ fn read_metadata_log(input: &mut Input, place: &mut Place) -> MetadataLog {
 
 // The single fields between the version and the tables. The ids of the current schema and the default order come after their tables, and
 // are 0 here. What goes with the partition specs stands elsewhere, and is the usual here.
-fn read_fields(format_version: u8, input: &mut Input, place: &mut Place) -> SingleFields {
-    let table_uuid = read_uuid(input, place);
-    let location = read_text(input, place);
-    let last_updated_ms = read_i64(input, place);
-    let last_sequence_number = read_i64(input, place);
-    let next_row_id = read_u64(input, place);
-    let last_column_id = read_i32(input, place);
-    let has_current = read_flag(input, place);
-    let current_snapshot_id = read_i64(input, place);
+fn read_fields(format_version: u8, input: &mut Input) -> SingleFields {
+    let table_uuid = read_uuid(input);
+    let location = read_text(input);
+    let last_updated_ms = read_i64(input);
+    let last_sequence_number = read_i64(input);
+    let next_row_id = read_u64(input);
+    let last_column_id = read_i32(input);
+    let has_current = read_flag(input);
+    let current_snapshot_id = read_i64(input);
     SingleFields {
         format_version,
         table_uuid,
@@ -70,16 +70,16 @@ fn read_fields(format_version: u8, input: &mut Input, place: &mut Place) -> Sing
 
 // Metadata of this format version, which is read already. The tables of statistics files and of partition specs stand elsewhere: here the first
 // are empty, and the other is the usual one.
-pub fn read_metadata_of(version: u8, input: &mut Input, place: &mut Place) -> TableMetadata {
-    let mut fields = read_fields(version, input, place);
-    let snapshots = read_snapshots(input, place);
-    let refs = read_refs(input, place);
-    let snapshot_log = read_snapshot_log(input, place);
-    let metadata_log = read_metadata_log(input, place);
-    let schemas = read_schemas(false, input, place);
-    let current_schema_id = SchemaId(read_i32(input, place));
-    let sort_orders = read_sort_orders(input, place);
-    let default_sort_order_id = SortOrderId(read_i64(input, place));
+pub fn read_metadata_of(version: u8, input: &mut Input) -> TableMetadata {
+    let mut fields = read_fields(version, input);
+    let snapshots = read_snapshots(input);
+    let refs = read_refs(input);
+    let snapshot_log = read_snapshot_log(input);
+    let metadata_log = read_metadata_log(input);
+    let schemas = read_schemas(false, input);
+    let current_schema_id = SchemaId(read_i32(input));
+    let sort_orders = read_sort_orders(input);
+    let default_sort_order_id = SortOrderId(read_i64(input));
     let statistics = StatisticsFiles::blank();
     let partition_statistics = StatisticsFiles::blank();
     let partition_specs = unpartitioned();
@@ -99,7 +99,7 @@ pub fn read_metadata_of(version: u8, input: &mut Input, place: &mut Place) -> Ta
     }
 }
 
-pub fn read_metadata(input: &mut Input, place: &mut Place) -> TableMetadata {
-    let version = read_u8(input, place);
-    read_metadata_of(version, input, place)
+pub fn read_metadata(input: &mut Input) -> TableMetadata {
+    let version = read_u8(input);
+    read_metadata_of(version, input)
 }

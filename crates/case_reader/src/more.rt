@@ -3,8 +3,8 @@ use cards::table::{
     OF_NAMED_SCHEMAS, OF_OWNERS, OF_PARTITION_SPECS, OF_PARTITION_STATISTICS, OF_STATISTICS,
 };
 use tokens::field::read_u64;
-use tokens::input::{Input, Place, spoil};
-use tokens::wanted::TAG;
+use tokens::input::Input;
+use tokens::wanted::Wanted;
 
 pub const TOLERANCE: u64 = 1;
 
@@ -78,10 +78,10 @@ pub fn table_of(tag: u64) -> usize {
 }
 
 // A tag that is not above the last one, or unknown, spoils the input.
-pub fn read_tag(last: u64, input: &mut Input, place: &mut Place) -> u64 {
-    let tag = read_u64(input, place);
+pub fn read_tag(last: u64, input: &mut Input) -> u64 {
+    let tag = read_u64(input);
     if tag <= last || tag > OWNERS {
-        spoil(place, TAG, last);
+        input.spoil(Wanted::Tag(last));
     }
     tag
 }

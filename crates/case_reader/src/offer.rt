@@ -13,7 +13,7 @@ use records::text::Name;
 use slot_bounds::{store_byte, with_slots};
 use std::num::{wrapping_add_usize, wrapping_sub_u64};
 use tokens::field::{read_count, read_i32};
-use tokens::input::{Input, Place, is_good};
+use tokens::input::Input;
 use tokens::number::absolute;
 
 // Where the offer of the update at a place of the list starts.
@@ -54,10 +54,8 @@ fn put_number(offers: &mut [u8], at: usize, signed: i32) {
 // One byte of its length, the name. A length that has no byte of its own stays above that of any name.
 fn put_name(offers: &mut [u8], at: usize, name: Name) {
     store_byte(offers, at, with_slots(name.len, 255) as u8);
-    let mut i = 0;
-    while i < NAME {
+    for i in 0..NAME {
         store_byte(offers, wrapping_add_usize(at, 1 + i), name.bytes[i]);
-        i += 1;
     }
 }
 
@@ -85,17 +83,17 @@ fn put_partition_field(offers: &mut [u8], from: usize, i: usize, field: Partitio
 pub fn read_schema_offer(
     is_named: bool,
     input: &mut Input,
-    place: &mut Place,
     offers: &mut [u8],
     at: usize,
 ) -> SchemaOffer {
-    let id = SchemaId(read_i32(input, place));
-    let count = read_count(input, place);
-    let mut i = 0;
-    while i < count && is_good(place) {
-        let field = read_field(is_named, input, place);
+    let id = SchemaId(read_i32(input));
+    let count = read_count(input);
+    for i in 0..count {
+        if !input.is_good() {
+            break;
+        }
+        let field = read_field(is_named, input);
         put_field(offers, at, i, field);
-        i += 1;
     }
     SchemaOffer {
         schema_id: id,
@@ -111,23 +109,18 @@ fn id_of(field: PartitionField) -> OfferedId {
     OfferedId { given, id }
 }
 
-pub fn read_spec_offer(
-    input: &mut Input,
-    place: &mut Place,
-    offers: &mut [u8],
-    at: usize,
-) -> SpecOffer {
+pub fn read_spec_offer(input: &mut Input, offers: &mut [u8], at: usize) -> SpecOffer {
     let mut offer = SpecOffer::blank();
-    let id = SpecId(read_i32(input, place));
-    let count = read_count(input, place);
-    let mut i = 0;
-    while i < count && is_good(place) {
-        let field = read_partition_field(input, place);
+    let id = SpecId(read_i32(input));
+    let count = read_count(input);
+    for i in 0..count {
+        if !input.is_good() {
+            break;
+        }
+        let field = read_partition_field(input);
         put_partition_field(offers, at, i, field);
-        let slot = i;
-        i += 1;
-        if slot < PARTITION_FIELDS {
-            offer.ids[slot] = id_of(field);
+        if i < PARTITION_FIELDS {
+            offer.ids[i] = id_of(field);
         }
     }
     offer.spec_id = id;

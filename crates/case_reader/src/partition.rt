@@ -5,7 +5,7 @@ use records::counters::{Buckets, FieldId, SpecId};
 use records::metadata::SingleFields;
 use records::partition::{PartitionField, PartitionSpec, PartitionSpecs, SpecIds};
 use tokens::field::{read_count, read_flag, read_i32, read_u8};
-use tokens::input::{Input, Place, is_good};
+use tokens::input::Input;
 
 // The table where none is given: spec 0 alone, without fields.
 pub fn unpartitioned() -> PartitionSpecs {
@@ -14,13 +14,13 @@ pub fn unpartitioned() -> PartitionSpecs {
     table
 }
 
-pub fn read_partition_field(input: &mut Input, place: &mut Place) -> PartitionField {
-    let source_id = read_i32(input, place);
-    let has_id = read_flag(input, place);
-    let field_id = read_i32(input, place);
-    let name = read_name(input, place);
-    let transform = read_u8(input, place);
-    let buckets = read_i32(input, place);
+pub fn read_partition_field(input: &mut Input) -> PartitionField {
+    let source_id = read_i32(input);
+    let has_id = read_flag(input);
+    let field_id = read_i32(input);
+    let name = read_name(input);
+    let transform = read_u8(input);
+    let buckets = read_i32(input);
     PartitionField {
         source_id: FieldId(source_id),
         field_id: FieldId(field_id),
@@ -31,17 +31,17 @@ pub fn read_partition_field(input: &mut Input, place: &mut Place) -> PartitionFi
     }
 }
 
-fn read_spec(input: &mut Input, place: &mut Place) -> PartitionSpec {
+fn read_spec(input: &mut Input) -> PartitionSpec {
     let mut spec = PartitionSpec::blank();
-    let id = SpecId(read_i32(input, place));
-    let count = read_count(input, place);
-    let mut i = 0;
-    while i < count && is_good(place) {
-        let field = read_partition_field(input, place);
-        let at = i;
-        i += 1;
-        if at < PARTITION_FIELDS {
-            spec.items[at] = field;
+    let id = SpecId(read_i32(input));
+    let count = read_count(input);
+    for i in 0..count {
+        if !input.is_good() {
+            break;
+        }
+        let field = read_partition_field(input);
+        if i < PARTITION_FIELDS {
+            spec.items[i] = field;
         }
     }
     spec.spec_id = id;
@@ -49,16 +49,16 @@ fn read_spec(input: &mut Input, place: &mut Place) -> PartitionSpec {
     spec
 }
 
-pub fn read_specs(input: &mut Input, place: &mut Place) -> PartitionSpecs {
+pub fn read_specs(input: &mut Input) -> PartitionSpecs {
     let mut table = PartitionSpecs::blank();
-    let count = read_count(input, place);
-    let mut i = 0;
-    while i < count && is_good(place) {
-        let spec = read_spec(input, place);
-        let at = i;
-        i += 1;
-        if at < PARTITION_SPECS {
-            table.items[at] = spec;
+    let count = read_count(input);
+    for i in 0..count {
+        if !input.is_good() {
+            break;
+        }
+        let spec = read_spec(input);
+        if i < PARTITION_SPECS {
+            table.items[i] = spec;
         }
     }
     table.count = count;
@@ -66,28 +66,24 @@ pub fn read_specs(input: &mut Input, place: &mut Place) -> PartitionSpecs {
 }
 
 // The single fields with those that stand behind the table.
-pub fn read_spec_fields(
-    mut fields: SingleFields,
-    input: &mut Input,
-    place: &mut Place,
-) -> SingleFields {
-    let default_spec_id = SpecId(read_i32(input, place));
-    let last_partition_id = FieldId(read_i32(input, place));
+pub fn read_spec_fields(mut fields: SingleFields, input: &mut Input) -> SingleFields {
+    let default_spec_id = SpecId(read_i32(input));
+    let last_partition_id = FieldId(read_i32(input));
     fields.default_spec_id = default_spec_id;
     fields.last_partition_id = last_partition_id;
     fields
 }
 
-pub fn read_spec_ids(input: &mut Input, place: &mut Place) -> SpecIds {
+pub fn read_spec_ids(input: &mut Input) -> SpecIds {
     let mut ids = SpecIds::blank();
-    let count = read_count(input, place);
-    let mut i = 0;
-    while i < count && is_good(place) {
-        let id = SpecId(read_i32(input, place));
-        let at = i;
-        i += 1;
-        if at < REMOVALS {
-            ids.items[at] = id;
+    let count = read_count(input);
+    for i in 0..count {
+        if !input.is_good() {
+            break;
+        }
+        let id = SpecId(read_i32(input));
+        if i < REMOVALS {
+            ids.items[i] = id;
         }
     }
     ids.count = count;

@@ -4,12 +4,12 @@ use records::capacities::STATISTICS;
 use records::counters::{FileSize, SnapshotId};
 use records::statistics::{StatisticsFile, StatisticsFiles};
 use tokens::field::{read_count, read_i64};
-use tokens::input::{Input, Place, is_good};
+use tokens::input::Input;
 
-pub fn read_statistics_file(input: &mut Input, place: &mut Place) -> StatisticsFile {
-    let snapshot_id = read_i64(input, place);
-    let statistics_path = read_text(input, place);
-    let file_size_in_bytes = read_i64(input, place);
+pub fn read_statistics_file(input: &mut Input) -> StatisticsFile {
+    let snapshot_id = read_i64(input);
+    let statistics_path = read_text(input);
+    let file_size_in_bytes = read_i64(input);
     StatisticsFile {
         snapshot_id: SnapshotId(snapshot_id),
         statistics_path,
@@ -17,16 +17,16 @@ pub fn read_statistics_file(input: &mut Input, place: &mut Place) -> StatisticsF
     }
 }
 
-pub fn read_statistics(input: &mut Input, place: &mut Place) -> StatisticsFiles {
+pub fn read_statistics(input: &mut Input) -> StatisticsFiles {
     let mut table = StatisticsFiles::blank();
-    let count = read_count(input, place);
-    let mut i = 0;
-    while i < count && is_good(place) {
-        let file = read_statistics_file(input, place);
-        let at = i;
-        i += 1;
-        if at < STATISTICS {
-            table.items[at] = file;
+    let count = read_count(input);
+    for i in 0..count {
+        if !input.is_good() {
+            break;
+        }
+        let file = read_statistics_file(input);
+        if i < STATISTICS {
+            table.items[i] = file;
         }
     }
     table.count = count;

@@ -22,73 +22,67 @@ use records::update::{
     SET_REF, SET_STATISTICS, TableUpdate, UPGRADE_FORMAT_VERSION, UpdateList,
 };
 use tokens::field::{read_count, read_i32, read_i64, read_u8};
-use tokens::input::{Input, Place, is_good};
+use tokens::input::Input;
 
-fn read_fields_part(kind: u8, input: &mut Input, place: &mut Place) -> FieldsPart {
+fn read_fields_part(kind: u8, input: &mut Input) -> FieldsPart {
     let mut part = FieldsPart::blank();
     match kind {
         ASSIGN_UUID => {
-            let uuid = read_uuid(input, place);
+            let uuid = read_uuid(input);
             part.uuid = uuid;
         }
-        UPGRADE_FORMAT_VERSION => part.format_version = read_u8(input, place),
-        SET_LOCATION => part.location = read_text(input, place),
+        UPGRADE_FORMAT_VERSION => part.format_version = read_u8(input),
+        SET_LOCATION => part.location = read_text(input),
         _ => {}
     }
     part
 }
 
-fn read_refs_part(kind: u8, input: &mut Input, place: &mut Place) -> RefsPart {
+fn read_refs_part(kind: u8, input: &mut Input) -> RefsPart {
     let mut part = RefsPart::blank();
     match kind {
-        SET_BRANCH_SNAPSHOT | REMOVE_REF => part.name = read_name(input, place),
+        SET_BRANCH_SNAPSHOT | REMOVE_REF => part.name = read_name(input),
         SET_REF => {
-            part.name = read_name(input, place);
-            part.reference = read_reference(input, place);
+            part.name = read_name(input);
+            part.reference = read_reference(input);
         }
         _ => {}
     }
     part
 }
 
-fn read_snapshots_part(kind: u8, input: &mut Input, place: &mut Place) -> SnapshotsPart {
+fn read_snapshots_part(kind: u8, input: &mut Input) -> SnapshotsPart {
     let mut part = SnapshotsPart::blank();
     match kind {
-        ADD_SNAPSHOT | SET_BRANCH_SNAPSHOT => part.added = read_snapshot(input, place),
-        REMOVE_SNAPSHOTS => part.removed = read_snapshot_ids(input, place),
+        ADD_SNAPSHOT | SET_BRANCH_SNAPSHOT => part.added = read_snapshot(input),
+        REMOVE_SNAPSHOTS => part.removed = read_snapshot_ids(input),
         _ => {}
     }
     part
 }
 
 // What an update offers is put among the offers, from a place of its own on.
-fn read_schemas_part(
-    kind: u8,
-    input: &mut Input,
-    place: &mut Place,
-    offers: &mut [u8],
-    at: usize,
-) -> SchemasPart {
+fn read_schemas_part(kind: u8, input: &mut Input, offers: &mut [u8], at: usize) -> SchemasPart {
     let mut part = SchemasPart::blank();
     match kind {
-        ADD_SCHEMA => part.added = read_schema_offer(false, input, place, offers, at),
-        ADD_NAMED_SCHEMA => part.added = read_schema_offer(true, input, place, offers, at),
+        ADD_SCHEMA => part.added = read_schema_offer(false, input, offers, at),
+        ADD_NAMED_SCHEMA => part.added = read_schema_offer(true, input, offers, at),
         SET_CURRENT_SCHEMA => {
-            let id = SchemaId(read_i32(input, place));
+            let id = SchemaId(read_i32(input));
             part.chosen = id;
         }
-        REMOVE_SCHEMAS => part.removed = read_schema_ids(input, place),
+        REMOVE_SCHEMAS => part.removed = read_schema_ids(input),
         _ => {}
     }
     part
 }
 
-fn read_sort_orders_part(kind: u8, input: &mut Input, place: &mut Place) -> SortOrdersPart {
+fn read_sort_orders_part(kind: u8, input: &mut Input) -> SortOrdersPart {
     let mut part = SortOrdersPart::blank();
     match kind {
-        ADD_SORT_ORDER => part.added = read_sort_order(input, place),
+        ADD_SORT_ORDER => part.added = read_sort_order(input),
         SET_DEFAULT_SORT_ORDER => {
-            let id = SortOrderId(read_i64(input, place));
+            let id = SortOrderId(read_i64(input));
             part.chosen = id;
         }
         _ => {}
@@ -96,14 +90,14 @@ fn read_sort_orders_part(kind: u8, input: &mut Input, place: &mut Place) -> Sort
     part
 }
 
-fn read_statistics_part(kind: u8, input: &mut Input, place: &mut Place) -> StatisticsPart {
+fn read_statistics_part(kind: u8, input: &mut Input) -> StatisticsPart {
     let mut part = StatisticsPart::blank();
     match kind {
         SET_STATISTICS | SET_PARTITION_STATISTICS => {
-            part.file = read_statistics_file(input, place);
+            part.file = read_statistics_file(input);
         }
         REMOVE_STATISTICS | REMOVE_PARTITION_STATISTICS => {
-            let id = SnapshotId(read_i64(input, place));
+            let id = SnapshotId(read_i64(input));
             part.removed = id;
         }
         _ => {}
@@ -114,18 +108,17 @@ fn read_statistics_part(kind: u8, input: &mut Input, place: &mut Place) -> Stati
 fn read_specs_part(
     kind: u8,
     input: &mut Input,
-    place: &mut Place,
     offers: &mut [u8],
     at: usize,
 ) -> PartitionSpecsPart {
     let mut part = PartitionSpecsPart::blank();
     match kind {
-        ADD_PARTITION_SPEC => part.added = read_spec_offer(input, place, offers, at),
+        ADD_PARTITION_SPEC => part.added = read_spec_offer(input, offers, at),
         SET_DEFAULT_PARTITION_SPEC => {
-            let id = SpecId(read_i32(input, place));
+            let id = SpecId(read_i32(input));
             part.chosen = id;
         }
-        REMOVE_PARTITION_SPECS => part.removed = read_spec_ids(input, place),
+        REMOVE_PARTITION_SPECS => part.removed = read_spec_ids(input),
         _ => {}
     }
     part
@@ -140,30 +133,30 @@ fn kind_of(kind: u8) -> u8 {
 }
 
 // Each part reads what its kinds have. The one kind that has two, a branch commit, has the name before the snapshot.
-fn read_update(input: &mut Input, place: &mut Place, offers: &mut [u8], at: usize) -> TableUpdate {
-    let kind = read_u8(input, place);
+fn read_update(input: &mut Input, offers: &mut [u8], at: usize) -> TableUpdate {
+    let kind = read_u8(input);
     let mut u = TableUpdate::blank();
     u.kind = kind_of(kind);
-    u.fields = read_fields_part(kind, input, place);
-    u.refs = read_refs_part(kind, input, place);
-    u.snapshots = read_snapshots_part(kind, input, place);
-    u.schemas = read_schemas_part(kind, input, place, offers, at);
-    u.sort_orders = read_sort_orders_part(kind, input, place);
-    u.statistics = read_statistics_part(kind, input, place);
-    u.partition_specs = read_specs_part(kind, input, place, offers, at);
+    u.fields = read_fields_part(kind, input);
+    u.refs = read_refs_part(kind, input);
+    u.snapshots = read_snapshots_part(kind, input);
+    u.schemas = read_schemas_part(kind, input, offers, at);
+    u.sort_orders = read_sort_orders_part(kind, input);
+    u.statistics = read_statistics_part(kind, input);
+    u.partition_specs = read_specs_part(kind, input, offers, at);
     u
 }
 
-pub fn read_updates(input: &mut Input, place: &mut Place, offers: &mut [u8]) -> UpdateList {
+pub fn read_updates(input: &mut Input, offers: &mut [u8]) -> UpdateList {
     let mut list = UpdateList::blank();
-    let count = read_count(input, place);
-    let mut i = 0;
-    while i < count && is_good(place) {
-        let update = read_update(input, place, offers, place_of(i));
-        let at = i;
-        i += 1;
-        if at < UPDATES {
-            list.items[at] = update;
+    let count = read_count(input);
+    for i in 0..count {
+        if !input.is_good() {
+            break;
+        }
+        let update = read_update(input, offers, place_of(i));
+        if i < UPDATES {
+            list.items[i] = update;
         }
     }
     list.count = count;

@@ -3,7 +3,7 @@ ghost use Rattle.std.specs.Prelude.{◌≤◌};
 
 use crate::ids::read_buffer_length;
 use tokens::field::{read_flag, read_i64};
-use tokens::input::{Input, Place};
+use tokens::input::Input;
 
 #[derive(Clone, Copy)]
 pub struct WalkTerms {
@@ -13,13 +13,13 @@ pub struct WalkTerms {
     pub buffer_length: usize,
 }
 
-pub fn read_walk_terms(input: &mut Input, place: &mut Place) -> WalkTerms
+pub fn read_walk_terms(input: &mut Input) -> WalkTerms
     ensures { result.buffer_length ≤ 80 }
 {
-    let start = read_i64(input, place);
-    let has_excluded = read_flag(input, place);
-    let excluded = read_i64(input, place);
-    let buffer_length = read_buffer_length(input, place);
+    let start = read_i64(input);
+    let has_excluded = read_flag(input);
+    let excluded = read_i64(input);
+    let buffer_length = read_buffer_length(input);
     WalkTerms {
         start,
         has_excluded,

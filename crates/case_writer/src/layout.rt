@@ -8,11 +8,11 @@ use slot_bounds::{lent, with_slots};
 use tokens::number::{put_i64, put_u64};
 use tokens::output::Output;
 
-fn put_text(output: &mut Output, end: &mut usize, text: Text) {
+fn put_text(output: &mut Output, text: Text) {
     let bytes = text.bytes;
     let slots: &[u8] = &bytes;
     let n = lent(slots, text.slots);
-    put_slots(output, end, &slots[..n], text.len);
+    put_slots(output, &slots[..n], text.len);
 }
 
 fn signed(card: Card, letter: u8) -> i64 {
@@ -31,25 +31,19 @@ fn unsigned(card: Card, letter: u8) -> u64 {
     }
 }
 
-fn put_token(output: &mut Output, end: &mut usize, letter: u8, card: Card) {
+fn put_token(output: &mut Output, letter: u8, card: Card) {
     match letter {
-        b'$' => put_text(output, end, card.text),
-        b'A'..=b'Z' => put_u64(output, end, unsigned(card, letter)),
-        _ => put_i64(output, end, signed(card, letter)),
+        b'$' => put_text(output, card.text),
+        b'A'..=b'Z' => put_u64(output, unsigned(card, letter)),
+        _ => put_i64(output, signed(card, letter)),
     }
 }
 
 // By one of many layouts, a line each, counted from 0.
-pub fn put_card(output: &mut Output, end: &mut usize, layouts: &[u8], line: usize, card: Card) {
-    let mut at: usize = 0;
-    let mut i = 0;
-    while i < layouts.len() {
-        let letter = layouts[i];
-        i += 1;
-        if letter == b'\n' {
-            at += 1;
-        } else if at == line {
-            put_token(output, end, letter, card);
+pub fn put_card(output: &mut Output, layouts: &[u8], line: usize, card: Card) {
+    if let Some(letters) = layouts.split(|byte| *byte == b'\n').nth(line) {
+        for &letter in letters {
+            put_token(output, letter, card);
         }
     }
 }
@@ -65,7 +59,7 @@ fn line_of(kind: u8, is_named: bool) -> usize {
 }
 
 // A line for each kind of list, in the order of their numbers, and one for fields with names.
-fn put_list(output: &mut Output, end: &mut usize, is_named: bool, list: List) {
+fn put_list(output: &mut Output, is_named: bool, list: List) {
     let layouts = b"\n\
         a\n\
         a\n\
@@ -74,22 +68,13 @@ fn put_list(output: &mut Output, end: &mut usize, is_named: bool, list: List) {
         aL$b\n";
     let line = line_of(list.kind, is_named);
     let n = with_slots(list.count, list.slots);
-    let mut i = 0;
-    while i < n {
-        put_card(output, end, layouts, line, element(list, i));
-        i += 1;
+    for i in 0..n {
+        put_card(output, layouts, line, element(list, i));
     }
 }
 
 // A card and its list.
-pub fn put_record(
-    output: &mut Output,
-    end: &mut usize,
-    layouts: &[u8],
-    line: usize,
-    is_named: bool,
-    card: Card,
-) {
-    put_card(output, end, layouts, line, card);
-    put_list(output, end, is_named, card.list);
+pub fn put_record(output: &mut Output, layouts: &[u8], line: usize, is_named: bool, card: Card) {
+    put_card(output, layouts, line, card);
+    put_list(output, is_named, card.list);
 }

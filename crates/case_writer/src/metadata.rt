@@ -5,8 +5,8 @@ use cards::record::{identity, single_fields};
 use records::metadata::TableMetadata;
 use tokens::output::Output;
 
-pub fn put_metadata(output: &mut Output, end: &mut usize, metadata: TableMetadata) {
-    put_card(output, end, b"a$", 0, identity(metadata.fields));
-    put_card(output, end, b"L$abAcde", 0, single_fields(metadata.fields));
-    put_tables(output, end, metadata);
+pub fn put_metadata(output: &mut Output, metadata: TableMetadata) {
+    put_card(output, b"a$", 0, identity(metadata.fields));
+    put_card(output, b"L$abAcde", 0, single_fields(metadata.fields));
+    put_tables(output, metadata);
 }

@@ -4,6 +4,6 @@ use cards::record::log_entry;
 use records::snapshot::SnapshotLogEntry;
 use tokens::output::Output;
 
-pub fn put_log_entry(output: &mut Output, end: &mut usize, entry: SnapshotLogEntry) {
-    put_card(output, end, b"ab", 0, log_entry(entry));
+pub fn put_log_entry(output: &mut Output, entry: SnapshotLogEntry) {
+    put_card(output, b"ab", 0, log_entry(entry));
 }

@@ -6,7 +6,7 @@ use slot_bounds::with_slots;
 use tokens::number::put_count;
 use tokens::output::Output;
 
-pub fn put_table(output: &mut Output, end: &mut usize, metadata: TableMetadata, table: usize) {
+pub fn put_table(output: &mut Output, metadata: TableMetadata, table: usize) {
     // A line for each table, in the order of their numbers.
     let layouts = b"abcdefAB\n\
         L$abcdefgh\n\
@@ -23,28 +23,18 @@ pub fn put_table(output: &mut Output, end: &mut usize, metadata: TableMetadata, 
     let chosen = b"\n\n\n\na\na\n\n\nab\n\n\n";
     let is_named = table == OF_NAMED_SCHEMAS;
     let count = count_of(metadata, table);
-    put_count(output, end, count);
+    put_count(output, count);
     let n = with_slots(count, slots_of(table));
-    let mut i = 0;
-    while i < n {
+    for i in 0..n {
         let card = card_at(metadata, table, i);
-        put_record(output, end, layouts, table, is_named, card);
-        i += 1;
+        put_record(output, layouts, table, is_named, card);
     }
-    put_card(
-        output,
-        end,
-        chosen,
-        table,
-        chosen_of(metadata.fields, table),
-    );
+    put_card(output, chosen, table, chosen_of(metadata.fields, table));
 }
 
 // The tables that the case format has among metadata, in the order of their numbers.
-pub fn put_tables(output: &mut Output, end: &mut usize, metadata: TableMetadata) {
-    let mut table = 0;
-    while table <= OF_SORT_ORDERS {
-        put_table(output, end, metadata, table);
-        table += 1;
+pub fn put_tables(output: &mut Output, metadata: TableMetadata) {
+    for table in 0..=OF_SORT_ORDERS {
+        put_table(output, metadata, table);
     }
 }

@@ -3,16 +3,14 @@ use slot_bounds::with_slots;
 use tokens::number::{put_count, put_u8};
 use tokens::output::Output;
 
-pub fn put_slots(output: &mut Output, end: &mut usize, slots: &[u8], len: usize) {
+pub fn put_slots(output: &mut Output, slots: &[u8], len: usize) {
     let n = with_slots(len, slots.len());
-    let mut i = 0;
-    while i < n {
-        put_u8(output, end, slots[i]);
-        i += 1;
+    for &byte in &slots[..n] {
+        put_u8(output, byte);
     }
 }
 
-pub fn put_bytes(output: &mut Output, end: &mut usize, slots: &[u8], len: usize) {
-    put_count(output, end, len);
-    put_slots(output, end, slots, len);
+pub fn put_bytes(output: &mut Output, slots: &[u8], len: usize) {
+    put_count(output, len);
+    put_slots(output, slots, len);
 }

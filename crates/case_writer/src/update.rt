@@ -17,7 +17,7 @@ fn written_kind(kind: u8, is_named: bool) -> u8 {
 }
 
 // A line for each kind, in the order of their numbers; that of 0 and those past the last are empty.
-pub fn put_update(output: &mut Output, end: &mut usize, is_named: bool, card: Card) {
+pub fn put_update(output: &mut Output, is_named: bool, card: Card) {
     let layouts = b"\n\
         $\n\
         a\n\
@@ -41,24 +41,15 @@ pub fn put_update(output: &mut Output, end: &mut usize, is_named: bool, card: Ca
         N\n\
         aN\n";
     let kind = written_kind(card.kind, is_named);
-    put_u8(output, end, kind);
-    put_record(output, end, layouts, kind as usize, is_named, card);
+    put_u8(output, kind);
+    put_record(output, layouts, kind as usize, is_named, card);
 }
 
-pub fn put_updates(
-    output: &mut Output,
-    end: &mut usize,
-    list: UpdateList,
-    offers: &[u8],
-    is_named: bool,
-) {
+pub fn put_updates(output: &mut Output, list: UpdateList, offers: &[u8], is_named: bool) {
     let count = list.count;
-    put_count(output, end, count);
+    put_count(output, count);
     let n = with_slots(count, UPDATES);
-    let mut i = 0;
-    while i < n {
-        let u = list.items[i];
-        put_update(output, end, is_named, update(u, offers));
-        i += 1;
+    for &u in &list.items[..n] {
+        put_update(output, is_named, update(u, offers));
     }
 }

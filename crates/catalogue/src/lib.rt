@@ -42,9 +42,13 @@ fn counted_ancestors(
     ensures answer { result ≡ walked (length out.old) (record_ancestors (read_snapshots snapshots) start (given has_excluded excluded)) }
     ensures buffer { out.new ≡ walk_buffer out.old (record_ancestors (read_snapshots snapshots) start (given has_excluded excluded)) }
 {
-    let items = snapshots.items;
-    let n = snapshots.count;
-    record_ancestors(&items[..n], start, has_excluded, excluded, out)
+    record_ancestors(
+        &snapshots.items[..snapshots.count],
+        start,
+        has_excluded,
+        excluded,
+        out,
+    )
 }
 
 // The records of a table, for a caller that holds no slice of them. A count above 64 gives 1.

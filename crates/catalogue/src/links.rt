@@ -36,40 +36,32 @@ fn parent_number(snapshot: Snapshot) -> i64
     ensures { result ≡ parent_number (read_snapshot snapshot) }
 {
     if snapshot.has_parent {
-        let parent = snapshot.parent_snapshot_id;
-        parent.0
+        snapshot.parent_snapshot_id.0
     } else {
         NO_PARENT
     }
 }
 
 // One record more.
-pub fn add(links: Links, snapshot: Snapshot) -> Links
+pub fn add(mut links: Links, snapshot: Snapshot) -> Links
     ensures { result ≡ link links (read_snapshot snapshot) }
 {
-    let mut more = links;
-    let n = links.count;
-    if n < SNAPSHOTS {
-        let id = snapshot.snapshot_id;
-        let number = id.0;
-        let parent = parent_number(snapshot);
-        more.ids[n] = number;
-        more.parents[n] = parent;
-        more.count = n + 1;
+    if links.count < SNAPSHOTS {
+        links.ids[links.count] = snapshot.snapshot_id.0;
+        links.parents[links.count] = parent_number(snapshot);
+        links.count += 1;
     } else {
-        more.count = SNAPSHOTS + 1;
+        links.count = SNAPSHOTS + 1;
     }
-    more
+    links
 }
 
 pub fn gather(snapshots: &[Snapshot]) -> Links
     ensures { result ≡ gathered (map read_snapshot snapshots.now) }
 {
     let mut links = none();
-    let mut i = 0;
-    while i < snapshots.len() {
-        links = add(links, snapshots[i]);
-        i += 1;
+    for snapshot in snapshots {
+        links = add(links, *snapshot);
     }
     links
 }
@@ -85,14 +77,19 @@ pub fn link_ancestors(
     ensures answer { result ≡ walked (length out.old) (link_ancestors links start (given has_excluded excluded)) }
     ensures buffer { out.new ≡ walk_buffer out.old (link_ancestors links start (given has_excluded excluded)) }
 {
-    let n = links.count;
-    if n > SNAPSHOTS {
+    let count = links.count;
+    if count > SNAPSHOTS {
         return Walked {
             number: LISTS_NOT_FORMED,
             count: 0,
         };
     }
-    let ids = links.ids;
-    let parents = links.parents;
-    walk::ancestors(&ids[..n], &parents[..n], start, has_excluded, excluded, out)
+    walk::ancestors(
+        &links.ids[..count],
+        &links.parents[..count],
+        start,
+        has_excluded,
+        excluded,
+        out,
+    )
 }

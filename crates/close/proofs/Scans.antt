@@ -1,13 +1,11 @@
 -- Lists read from the front or from the end: what stands at `i` decides, or the rest does.
-use Prim.Native.Nat.{ℕ, ◌+◌, ◌≤◌, ◌<◌}
-use native.Mathlib.Omega.{arith}
-use native.Mathlib.Numerals.{add-one}
+use Prim.Native.Nat.{ℕ, ◌≤◌, ◌<◌}
 use mathlib.Core.Path.{◌≡◌, refl, ◌∙◌}
 use mathlib.Core.Bool.{Bool, true, false, not, ◌&&◌}
 use mathlib.Core.List.{List, [], ◌∷◌, ◌++◌}
 use mathlib.Core.Option.{some}
 use borrow.Table.Steps.{cases}
-use lib.ListN.{length, get_or, take, drop, drop_of_length-le, length-take, length-drop}
+use lib.ListN.{length, get_or, drop, drop_of_length-le}
 use lib.Seq.{drop-cons}
 use Rattle.rules.specs.Words.{any, keep, last_of, after_last, is_empty}
 use Rattle.rules.proofs.Checks.{by_test, or_right, neither}
@@ -17,9 +15,6 @@ module _ {A : Type 0} (p : A → Bool) where
   module _ (l : List A) (i : ℕ) (d : A) where
     pub any_here : i < length l → p (get_or l i d) ≡ true → any p (drop i l) ≡ true
     any_here h e = rw (drop-cons l i d h, e)
-
-    pub any_rest : i < length l → p (get_or l i d) ≡ false → any p (drop i l) ≡ any p (drop (i + 1) l)
-    any_rest h e = rw (drop-cons l i d h, e, add-one)
 
   pub any_end : (l : List A) (i : ℕ) → length l ≤ i → any p (drop i l) ≡ false
   any_end l i h = rw (drop_of_length-le l h)
@@ -56,12 +51,3 @@ module _ {A : Type 0} where
   pub last_added_lem : (l : List A) (x : A) → last_of (l ++ (x ∷ [])) ≡ some x
   last_added_lem [] x = refl
   last_added_lem (y ∷ l) x = rw (last_added_lem l x)
-
-  -- ---- from a place on, up to another
-
-  module _ (l : List A) (from : ℕ) where
-    pub part_none : drop from (take from l) ≡ []
-    part_none = let h : length (take from l) ≤ from = simp length-take (omega arith) in drop_of_length-le (take from l) h
-
-    pub part_fits : (i : ℕ) → length (drop from (take i l)) ≤ i
-    part_fits i = simp (length-drop, length-take) (omega arith)

@@ -16,10 +16,7 @@ pub fn surplus(n: usize, joins: bool, limit: u64) -> usize
     requires { n ≤ 128 }
     ensures { result ≡ cond joins (n + 1) n - limit }
 {
-    let mut all = n;
-    if joins {
-        all = n + 1;
-    }
+    let all = if joins { n + 1 } else { n };
     if limit >= all as u64 {
         return 0;
     }
@@ -41,16 +38,12 @@ pub fn part(log: MetadataLog, from: usize, until: usize) -> MetadataLog
     requires from_le_until { (from ≤ until) × (until ≤ log.count) }
     ensures { result ≡ laid_metadata_log (drop from (take until (read_metadata_log log))) }
 {
-    let mut r = MetadataLog::blank();
-    let mut i = from;
-    while i < until {
-        let e = log.items[i];
-        let k = r.count;
-        i += 1;
-        r.items[k] = e;
-        r.count = k + 1;
+    let mut part = MetadataLog::blank();
+    for (i, entry) in log.items[from..until].iter().enumerate() {
+        part.items[i] = *entry;
     }
-    r
+    part.count = until - from;
+    part
 }
 
 // The entries from a place on, moved to the front of the same log: a second log would be blanked first, and copied.
@@ -59,16 +52,14 @@ fn moved(mut log: MetadataLog, gone: usize) -> MetadataLog
     requires gone_le_count { gone ≤ log.count }
     ensures { result ≡ laid_metadata_log (drop gone (read_metadata_log log)) }
 {
-    let n = log.count;
-    let left = n - gone;
-    let mut i = 0;
-    while i < n {
-        let mut e = MetadataLogEntry::blank();
-        if i < left {
-            e = log.items[i + gone];
-        }
-        log.items[i] = e;
-        i += 1;
+    let left = log.count - gone;
+    for i in 0..log.count {
+        let entry = if i < left {
+            log.items[i + gone]
+        } else {
+            MetadataLogEntry::blank()
+        };
+        log.items[i] = entry;
     }
     log.count = left;
     log

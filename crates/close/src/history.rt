@@ -9,12 +9,11 @@ ghost use Rattle.tables.specs.Laid.{LaidSnapshotLog};
 ghost use Rattle.close.specs.Facts.{is_superseded, intermediates_of, is_gone, is_staying, Told};
 ghost use Rattle.close.specs.Answers.{HistoryOf};
 
-use equality::ids::same_snapshot;
 use records::counters::SnapshotId;
 use records::metadata::SingleFields;
 use records::snapshot::{SnapshotLog, SnapshotLogEntry};
-use search::position;
 use tables::ids::is_held;
+use tables::runs::keep_into;
 
 // The history, and whether it was rebuilt.
 #[derive(Clone, Copy)]
@@ -26,16 +25,13 @@ pub struct History {
 fn is_among(ids: &[i64], id: SnapshotId) -> bool
     ensures { result ≡ is_in ids.now id.0 }
 {
-    let x = id.0;
-    position(ids, x) < ids.len()
+    ids.contains(&id.0)
 }
 
 fn is_current(f: SingleFields, id: SnapshotId) -> bool
     ensures { result ≡ some_with (eq_z id.0) (read_fields f).current }
 {
-    let h = f.has_current;
-    let c = f.current_snapshot_id;
-    h && same_snapshot(id, c)
+    f.has_current && id == f.current_snapshot_id
 }
 
 // Added in this run, and not current.
@@ -48,13 +44,10 @@ fn is_superseded(f: SingleFields, added: &[i64], id: SnapshotId) -> bool
 fn has_intermediates(f: SingleFields, added: &[i64], mains: &[i64]) -> bool
     ensures { result ≡ not (is_empty (intermediates_of added.now mains.now (read_fields f).current)) }
 {
-    let mut i = 0;
-    while i < mains.len() {
-        let x = mains[i];
-        if is_superseded(f, added, SnapshotId(x)) {
+    for id in mains {
+        if is_superseded(f, added, SnapshotId(*id)) {
             return true;
         }
-        i += 1;
     }
     false
 }
@@ -66,15 +59,10 @@ fn after_last_missing(log: SnapshotLog, ids: &[i64]) -> usize
     ensures within { result ≤ log.count }
     ensures after { drop result (read_snapshot_log log) ≡ after_last (is_gone ids.now) (read_snapshot_log log) }
 {
-    let n = log.count;
-    let mut i = n;
-    while i > 0 {
-        let e = log.items[i - 1];
-        let id = e.snapshot_id;
-        if !is_held(ids, id) {
-            return i;
+    for i in (0..log.count).rev() {
+        if !is_held(ids, log.items[i].snapshot_id) {
+            return i + 1;
         }
-        i -= 1;
     }
     0
 }
@@ -96,8 +84,7 @@ fn is_staying(
     requires { ascending lt_z ids.now ≡ true }
     ensures { result ≡ is_staying ids.now added.now mains.now (read_fields f).current (read_log_entry e) }
 {
-    let id = e.snapshot_id;
-    is_held(ids, id) && !is_intermediate(f, added, mains, id)
+    is_held(ids, e.snapshot_id) && !is_intermediate(f, added, mains, e.snapshot_id)
 }
 
 // The entries from a place on that stay.
@@ -114,19 +101,11 @@ fn kept_from(
     requires ids_value { ascending lt_z ids.now ≡ true }
     ensures { result ≡ laid_snapshot_log (keep (is_staying ids.now added.now mains.now (read_fields f).current) (drop from (read_snapshot_log log))) }
 {
-    let n = log.count;
-    let mut r = SnapshotLog::blank();
-    let mut i = from;
-    while i < n {
-        let e = log.items[i];
-        i += 1;
-        if is_staying(ids, f, added, mains, e) {
-            let k = r.count;
-            r.items[k] = e;
-            r.count = k + 1;
-        }
-    }
-    r
+    let mut kept = SnapshotLog::blank();
+    kept.count = keep_into(&log.items[from..log.count], &mut kept.items, |entry| {
+        is_staying(ids, f, added, mains, *entry)
+    });
+    kept
 }
 
 // The place of the first entry that may stay when the log is rebuilt: with a removal the one after the last missing snapshot's, else 0.

@@ -4,7 +4,7 @@
 
 ghost use Rattle.std.specs.Prelude.{◌≡◌, true, List, ltb, length};
 ghost use Rattle.rules.specs.Capacities.{metadata_log_room};
-ghost use Rattle.rules.specs.Words.{any, first_of};
+ghost use Rattle.rules.specs.Words.{any, eq_z, first_of};
 ghost use Rattle.rules.specs.Register.{Metadata, Update, Terms};
 ghost use Rattle.rules.specs.WellFormed.{has_order, has_spec};
 ghost use Rattle.rules.specs.Layout.{read_fields, read_snapshot_log, read_sort_orders, read_partition_specs};
@@ -13,9 +13,9 @@ ghost use Rattle.tables.specs.Laid.{LaidSnapshotLog, LaidRefs, LaidSchema, LaidO
 ghost use Rattle.builder.specs.Pieces.{IsCurrent};
 ghost use Rattle.close.specs.Answers.{HistoryOf, Handed, ends_off};
 
-use equality::ids::same_snapshot;
 use history::History;
 use partitions::columns::{is_clashing, is_misfit};
+use records::counters::SnapshotId;
 use records::metadata::SingleFields;
 use records::partition::PartitionSpecs;
 use records::reference::Refs;
@@ -40,6 +40,12 @@ fn is_default_unfit(f: SingleFields, s: Schema, orders: SortOrders) -> bool
     tables::sort_orders::is_unfit(o, s)
 }
 
+fn is_same(id: SnapshotId, other: SnapshotId) -> bool
+    ensures { result ≡ eq_z id.0 other.0 }
+{
+    id == other
+}
+
 // The log was rebuilt and does not end at the current snapshot.
 fn ends_elsewhere(h: History, f: SingleFields) -> bool
     requires { LaidSnapshotLog h.log }
@@ -61,7 +67,7 @@ fn ends_elsewhere(h: History, f: SingleFields) -> bool
     }
     let e = log.items[n - 1];
     let id = e.snapshot_id;
-    !same_snapshot(id, current)
+    !is_same(id, current)
 }
 
 // 31, 32, 20, 21, 22 or 23, the first that fails; 0 where none does. The schema is the current one, and 31 and 32 are of the default spec. 23 is that more

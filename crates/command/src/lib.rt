@@ -25,16 +25,13 @@ pub fn read_part(text: &[u8], mark: u8, quote: u8, part: usize, slots: &mut [u8]
     let mut passed: usize = 0;
     let mut len: usize = 0;
     let mut is_quoted = false;
-    let mut i = 0;
-    while i < text.len() {
-        let byte = text[i];
-        i += 1;
-        if byte == quote {
+    for byte in text {
+        if *byte == quote {
             is_quoted = !is_quoted;
-        } else if byte == mark && !is_quoted {
+        } else if *byte == mark && !is_quoted {
             passed += 1;
         } else if passed == part {
-            store_byte(slots, len, byte);
+            store_byte(slots, len, *byte);
             len += 1;
         }
     }
@@ -44,13 +41,10 @@ pub fn read_part(text: &[u8], mark: u8, quote: u8, part: usize, slots: &mut [u8]
 fn count_words(line: &[u8]) -> usize {
     let mut count: usize = 1;
     let mut is_quoted = false;
-    let mut i = 0;
-    while i < line.len() {
-        let byte = line[i];
-        i += 1;
-        if byte == QUOTE {
+    for byte in line {
+        if *byte == QUOTE {
             is_quoted = !is_quoted;
-        } else if byte == SPACE && !is_quoted {
+        } else if *byte == SPACE && !is_quoted {
             count += 1;
         }
     }
@@ -65,18 +59,16 @@ fn has_arg(rt: HostRuntime, at: usize) -> bool {
 
 // How many words stand behind the program's own name.
 fn count_args(rt: HostRuntime) -> usize {
-    let mut count: usize = 0;
-    while count < MOST_ARGS {
+    for count in 0..MOST_ARGS {
         if !has_arg(rt, count + 1) {
             return count;
         }
-        count += 1;
     }
-    count
+    MOST_ARGS
 }
 
 pub fn word_count(rt: HostRuntime, line: &[u8]) -> usize {
-    if line.len() > 0 {
+    if !line.is_empty() {
         return count_words(line);
     }
     count_args(rt)
@@ -85,7 +77,7 @@ pub fn word_count(rt: HostRuntime, line: &[u8]) -> usize {
 pub fn read_word(rt: HostRuntime, line: &[u8], at: usize, word: &mut [u8]) -> usize
     ensures { Counted result word.new }
 {
-    if line.len() > 0 {
+    if !line.is_empty() {
         return read_part(line, SPACE, QUOTE, at, word);
     }
     match rt.arg(wrapping_add_usize(at, 1), word) {
@@ -94,35 +86,13 @@ pub fn read_word(rt: HostRuntime, line: &[u8], at: usize, word: &mut [u8]) -> us
     }
 }
 
-// Whether this byte stands at a place of a word.
-fn has_byte(word: &[u8], at: usize, byte: u8) -> bool {
-    if at < word.len() {
-        return word[at] == byte;
-    }
-    false
-}
-
 // Which of some lines a word is, counted from 0; as many as there are where it is none.
 pub fn line_of(lines: &[u8], word: &[u8]) -> usize {
-    let mut line: usize = 0;
-    let mut at: usize = 0;
-    let mut is_same = true;
-    let mut i = 0;
-    while i < lines.len() {
-        let byte = lines[i];
-        i += 1;
-        if byte != b'\n' {
-            is_same = is_same & has_byte(word, at, byte);
-            at += 1;
-        } else if is_same & (at == word.len()) {
-            return line;
-        } else {
-            line += 1;
-            at = 0;
-            is_same = true;
-        }
-    }
-    line
+    let count = lines.iter().filter(|byte| **byte == b'\n').count();
+    lines
+        .split(|byte| *byte == b'\n')
+        .position(|line| line == word)
+        .unwrap_or(count)
 }
 
 // The same of the word at a place of a command line.

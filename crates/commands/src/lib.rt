@@ -3,9 +3,9 @@
 // Nothing is refused: what is no command, no file or no number gets a line that says so.
 #![tactic(auto)]
 
-use crate::turn::{FILES, GO_ON, HELPED, LEFT, LINES, NAMES, OPENED, PIECES, READ, Turn, UNKNOWN};
+use crate::turn::{Stage, Turn, Wanted};
 use std::rt::HostRuntime;
-use tokens::input::{Input, Place};
+use tokens::input::Input;
 use tokens::output::Output;
 
 mod example;
@@ -18,62 +18,25 @@ pub mod tell;
 pub mod turn;
 mod words;
 
+pub use file_words::Command;
 pub use line::begin;
 pub use words::read_tour;
 
-// What needs no input.
-fn say_next(
-    rt: HostRuntime,
-    stage: usize,
-    turn: Turn,
-    output: &mut Output,
-    end: &mut usize,
-) -> Turn {
-    match stage {
-        LINES => line::next_line(rt, turn, output, end),
-        HELPED => help::next_help(turn, output, end),
-        UNKNOWN => help::say_unknown(rt, turn, output, end),
-        NAMES => example::next_example(rt, turn, output, end),
-        _ => example::next_step(turn, output, end),
-    }
-}
-
-// From file to file, and from piece to piece.
-fn go_on(
-    rt: HostRuntime,
-    stage: usize,
-    turn: Turn,
-    place: &mut Place,
-    output: &mut Output,
-    end: &mut usize,
-) -> Turn {
-    match stage {
-        FILES => file::next_file(rt, turn, place, output, end),
-        OPENED => file::begin_file(rt, turn, place),
-        PIECES => piece::end_piece(turn, place, output, end),
-        LEFT => file::leave(turn, place),
-        _ => file::say_bad(rt, turn, place, output, end),
-    }
-}
-
 // One step, and what is wanted then.
-pub fn advance(
-    rt: HostRuntime,
-    mut turn: Turn,
-    input: &mut Input,
-    place: &mut Place,
-    output: &mut Output,
-    end: &mut usize,
-) -> Turn {
-    let stage = turn.stage;
-    turn.wanted = GO_ON;
-    if stage < FILES {
-        say_next(rt, stage, turn, output, end)
-    } else if stage < READ {
-        go_on(rt, stage, turn, place, output, end)
-    } else if stage == READ {
-        piece::read_piece(turn, input, place)
-    } else {
-        piece::answer_piece(rt, turn, input, place, output, end)
+pub fn advance(rt: HostRuntime, mut turn: Turn, input: &mut Input, output: &mut Output) -> Turn {
+    turn.wanted = Wanted::GoOn;
+    match turn.stage {
+        Stage::Lines => line::next_line(rt, turn, output),
+        Stage::Helped(command) => help::give_help(turn, command, output),
+        Stage::Unknown => help::say_unknown(rt, turn, output),
+        Stage::Names => example::next_example(rt, turn, output),
+        Stage::Steps => example::next_step(turn, output),
+        Stage::Files => file::next_file(rt, turn, input, output),
+        Stage::Opened => file::begin_file(rt, turn, input),
+        Stage::Pieces => piece::end_piece(turn, input, output),
+        Stage::Left => file::leave(turn, input),
+        Stage::Spoilt => file::say_bad(rt, turn, input, output),
+        Stage::Read => piece::read_piece(turn, input),
+        Stage::Answered => piece::answer_piece(rt, turn, input, output),
     }
 }

@@ -2,30 +2,23 @@
 ghost use Rattle.slot_bounds.specs.Counted.{Counted};
 
 use crate::turn::Turn;
-use crate::words::{is_dash, read_name};
 use command::read_part;
 use json_list::Answer;
 use records::capacities::OFFERS;
 use slot_bounds::lent;
 use std::rt::HostRuntime;
 use tokens::output::Output;
-use tokens::source::{Source, is_standard, open as open_file, standard};
+use tokens::source::Source;
 
 // No byte of a name.
 const NO_MARK: u8 = 0;
 
-// The word that names the list in the place of the one that names the input.
-fn of_list(mut turn: Turn) -> Turn {
-    turn.name = turn.list;
-    turn
-}
-
 // Standard input, or a file; nothing where there is none.
 fn open(rt: HostRuntime, name: &[u8]) -> Source {
-    if is_dash(name) {
-        return standard(rt);
+    match name {
+        b"-" => Source::standard(rt),
+        _ => Source::open(rt, name),
     }
-    open_file(rt, name)
 }
 
 // The name by which the list is told: that of the file, of so many bytes, or what stands for no file.
@@ -44,11 +37,10 @@ pub fn read_list(
     turn: Turn,
     offers: &mut [u8; OFFERS],
     output: &mut Output,
-    end: &mut usize,
 ) -> Answer {
     let mut name = io::buffer();
-    let len = read_name(rt, of_list(turn), &mut name);
+    let len = turn.read_word(rt, turn.list, &mut name);
     let mut source = open(rt, &name[..len]);
-    let said = told_as(is_standard(&source), &mut name, len);
-    update_lists::file::read(&mut source, &name[..said], offers, output, end)
+    let said = told_as(source.is_standard(), &mut name, len);
+    update_lists::file::read(&mut source, &name[..said], offers, output)
 }

@@ -1,30 +1,37 @@
 // The words of the line that is gone through. The program's own line is the empty one.
 ghost use Rattle.slot_bounds.specs.Counted.{Counted};
 
-use crate::turn::{AUDIT, CURRENT, EXPIRE, EXPORT, IMPORT, REPLAY, RUN, Turn};
-use command::{line_of, read_part, read_word, which_word};
+use command::{read_part, read_word};
+use file_words::Command;
 use file_words::file::{is_json, is_json_at};
-use file_words::option::{CLOCK, has};
+use file_words::option::{Switch, has};
 use std::rt::HostRuntime;
 
 // No byte: lines have no quotes.
 const NO_QUOTE: u8 = 0;
 
 // The command that the word at a place of a line names.
-pub fn command_at(rt: HostRuntime, line: &[u8], at: usize) -> usize {
-    let names =
-        b"help\nrun\nreplay\ncurrent\nexpire\nexamples\ntour\ncases\nrepeat\ndates\nimport\nexport\naudit\n";
-    which_word(rt, line, at, names)
+pub fn command_at(rt: HostRuntime, line: &[u8], at: usize) -> Option<Command> {
+    let mut word = io::buffer();
+    let len = read_word(rt, line, at, &mut word);
+    Command::of_word(&word[..len])
+}
+
+// Whether a word stands at a place of a line.
+pub fn is_word(rt: HostRuntime, line: &[u8], at: usize, wanted: &[u8]) -> bool {
+    let mut word = io::buffer();
+    let len = read_word(rt, line, at, &mut word);
+    &word[..len] == wanted
 }
 
 // Whether the word after the command is `--help`.
 pub fn asks_for_help(rt: HostRuntime, line: &[u8]) -> bool {
-    which_word(rt, line, 1, b"--help\n") == 0
+    is_word(rt, line, 1, b"--help")
 }
 
 // The words of `current` are moments, after `--in` and the name of a file where there is one.
 pub fn first_moment(rt: HostRuntime, line: &[u8]) -> usize {
-    if which_word(rt, line, 1, b"--in\n") == 0 {
+    if is_word(rt, line, 1, b"--in") {
         return 3;
     }
     1
@@ -32,12 +39,12 @@ pub fn first_moment(rt: HostRuntime, line: &[u8]) -> usize {
 
 // The words of `expire` are files, after `--run` where the run of the list is to be written and not asked.
 pub fn asks_for_run(rt: HostRuntime, line: &[u8]) -> bool {
-    which_word(rt, line, 1, b"--run\n") == 0
+    is_word(rt, line, 1, b"--run")
 }
 
 // The words of `run` are files, after `--updates` and the name of a list where there is one.
 pub fn asks_for_list(rt: HostRuntime, line: &[u8]) -> bool {
-    which_word(rt, line, 1, b"--updates\n") == 0
+    is_word(rt, line, 1, b"--updates")
 }
 
 // Whether the metadata of `current` stands in a file that is JSON.
@@ -48,18 +55,15 @@ fn is_current_in_json(rt: HostRuntime, line: &[u8]) -> bool {
 }
 
 // Whether a command goes by files: one that always does; one whose words have a clock, or whose first file is JSON; and `current` of a file that is JSON.
-pub fn goes_by_files(rt: HostRuntime, command: usize, line: &[u8]) -> bool {
+pub fn goes_by_files(rt: HostRuntime, command: Command, line: &[u8]) -> bool {
     match command {
-        IMPORT | EXPORT | AUDIT => true,
-        RUN | REPLAY | EXPIRE => has(rt, line, CLOCK) || is_json_at(rt, line, 0),
-        CURRENT => is_current_in_json(rt, line),
+        Command::Import | Command::Export | Command::Audit => true,
+        Command::Run | Command::Replay | Command::Expire => {
+            has(rt, line, Switch::Clock) || is_json_at(rt, line, 0)
+        }
+        Command::Current => is_current_in_json(rt, line),
         _ => false,
     }
-}
-
-// Whether a word stands for standard input.
-pub fn is_dash(word: &[u8]) -> bool {
-    line_of(b"-\n", word) == 0
 }
 
 // A line of the tour, between marks. Behind the first, which is empty, each step has two: what is asked, and the command line.
@@ -162,13 +166,4 @@ pub fn read_tour(at: usize, line: &mut [u8]) -> usize
         \nCases of every kind but the expiry and the list, the last of them cut short|\
         cases picked.cases|";
     read_part(lines, b'|', NO_QUOTE, at, line)
-}
-
-// The name of the input or the example.
-pub fn read_name(rt: HostRuntime, turn: Turn, name: &mut [u8]) -> usize
-    ensures { Counted result name.new }
-{
-    let mut line = io::buffer();
-    let len = read_tour(turn.line, &mut line);
-    read_word(rt, &line[..len], turn.name, name)
 }

@@ -13,7 +13,7 @@ use Rattle.rules.proofs.Checks.{parts as tests, both}
 use Rattle.equality.proofs.Told.{counts_told, flags_told, texts_told, snapshots_told, refs_told, log_entries_told, file_entries_told, schemas_told, sort_orders_told, statistics_files_told, partition_specs_told}
 use Rattle.records.specs.declared.metadata.TableMetadata.{TableMetadata}
 use Rattle.compare.specs.declared.difference.Difference.{Difference}
-use Rattle.compare.specs.First.{Part, place, in_part, first}
+use Rattle.compare.specs.First.{Part, in_part, first}
 use Rattle.compare.specs.Parts.{same_flagged, parts, no_difference, first_difference}
 use Rattle.compare.proofs.Places.{FirstPlace, Compared, compared}
 

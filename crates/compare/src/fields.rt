@@ -5,27 +5,20 @@ ghost use Rattle.compare.specs.Parts.{field_parts};
 
 use crate::difference::{Difference, unless};
 use crate::part;
-use equality::ids::{same_field, same_snapshot};
-use equality::number::{same_sequence, same_time};
-use equality::text::{same_text, same_uuid};
 use records::metadata::SingleFields;
 
 pub fn compare_fields(a: SingleFields, b: SingleFields, later: Difference) -> Difference
     ensures { result ≡ first 1 (field_parts a b) later }
 {
-    let x = a.table_uuid;
-    let y = b.table_uuid;
-    let p = a.next_row_id;
-    let q = b.next_row_id;
     let version = a.format_version == b.format_version;
-    let uuid = same_uuid(x, y);
-    let location = same_text(a.location, b.location);
-    let updated = same_time(a.last_updated_ms, b.last_updated_ms);
-    let sequence = same_sequence(a.last_sequence_number, b.last_sequence_number);
-    let next_row = p.0 == q.0;
-    let column = same_field(a.last_column_id, b.last_column_id);
+    let uuid = a.table_uuid == b.table_uuid;
+    let location = a.location == b.location;
+    let updated = a.last_updated_ms == b.last_updated_ms;
+    let sequence = a.last_sequence_number == b.last_sequence_number;
+    let next_row = a.next_row_id == b.next_row_id;
+    let column = a.last_column_id == b.last_column_id;
     let current = (a.has_current == b.has_current)
-        & same_snapshot(a.current_snapshot_id, b.current_snapshot_id);
+        & (a.current_snapshot_id == b.current_snapshot_id);
     let from_current = unless(current, part::CURRENT_SNAPSHOT, 0, later);
     let from_column = unless(column, part::LAST_COLUMN_ID, 0, from_current);
     let from_next_row = unless(next_row, part::NEXT_ROW_ID, 0, from_column);

@@ -1,4 +1,5 @@
 // The parts of metadata that are compared, numbered in the order of the case format.
+// Kept: `Difference.part` is a number in the contract of `first_difference` and in the theorems `same_exactly` and `first_reported`.
 pub const FORMAT_VERSION: u8 = 1;
 
 pub const TABLE_UUID: u8 = 2;

@@ -2,27 +2,20 @@
 use calendar::date::{Date, day_of};
 use calendar::text::text_of;
 use plaintext::name::say_escaped;
-use plaintext::text::{say, say_line};
+use plaintext::text::say;
 use tokens::output::Output;
-use tokens::token::token_of;
-
-const NONE: usize = 0;
-
-const YEAR: usize = 1;
-
-const DAY: usize = 2;
-
-const SECONDS: usize = 3;
+use tokens::token::{Token, token_of};
 
 #[derive(Clone, Copy)]
-pub struct Doubt {
-    pub kind: usize,
-    pub date: Date,
+enum Doubt {
+    Year,
+    Day(Date),
+    Seconds,
 }
 
-// 20250312 as a date.
-fn date_of_digits(number: u64) -> Date {
-    Date {
+// 20250312 as a date, if it is one.
+fn date_of_digits(number: u64) -> Option<Date> {
+    let date = Date {
         year: number / 10000,
         month: number / 100 % 100,
         day: number % 100,
@@ -30,61 +23,63 @@ fn date_of_digits(number: u64) -> Date {
         minute: 0,
         second: 0,
         millisecond: 0,
+    };
+    if !day_of(date.year, date.month, date.day).is_day {
+        return None;
     }
-}
-
-fn kind_of(digits: usize, date: Date) -> usize {
-    match digits {
-        4 => YEAR,
-        8 => {
-            if day_of(date.year, date.month, date.day).is_day {
-                DAY
-            } else {
-                NONE
-            }
-        }
-        9 | 10 => SECONDS,
-        _ => NONE,
-    }
+    Some(date)
 }
 
 // A number without a sign has as many digits as bytes.
-pub fn doubt_of(text: &[u8]) -> Doubt {
-    let token = token_of(text);
-    let date = date_of_digits(token.magnitude);
-    let kind = if token.is_negative || !token.is_number {
-        NONE
-    } else {
-        kind_of(text.len(), date)
+fn doubt_of(text: &[u8]) -> Option<Doubt> {
+    let Token::Number {
+        is_negative: false,
+        magnitude,
+    } = token_of(text)
+    else {
+        return None;
     };
-    Doubt { kind, date }
+    match text.len() {
+        4 => Some(Doubt::Year),
+        8 => date_of_digits(magnitude).map(|date| Doubt::Day(date)),
+        9 | 10 => Some(Doubt::Seconds),
+        _ => None,
+    }
 }
 
 // As `2025-03-12`.
-fn say_day(output: &mut Output, end: &mut usize, date: Date) {
+fn say_day(output: &mut Output, date: Date) {
     let day = text_of(date);
     let bytes = day.bytes;
-    say_escaped(output, end, &bytes, 10);
+    say_escaped(output, &bytes, 10);
 }
 
-pub fn say_doubt(output: &mut Output, end: &mut usize, text: &[u8], doubt: Doubt) {
-    let hints = b"\n\
-        a year is no moment, write a day of it, as 2025-03-12\n\
-        if a day is meant, write \n\
-        if seconds are meant, write \n";
-    if doubt.kind == NONE {
+// What is written where that is meant.
+fn say_meant(output: &mut Output, text: &[u8], doubt: Doubt) {
+    match doubt {
+        Doubt::Year => say(
+            output,
+            b"a year is no moment, write a day of it, as 2025-03-12",
+        ),
+        Doubt::Day(date) => {
+            say(output, b"if a day is meant, write ");
+            say_day(output, date);
+        }
+        Doubt::Seconds => {
+            say(output, b"if seconds are meant, write ");
+            say_escaped(output, text, text.len());
+            say(output, b"000");
+        }
+    }
+}
+
+pub fn say_doubt(output: &mut Output, text: &[u8]) {
+    let Some(doubt) = doubt_of(text) else {
         return;
-    }
-    say(output, end, b"  ");
-    say_escaped(output, end, text, text.len());
-    say(output, end, b" was read as milliseconds since 1970; ");
-    say_line(output, end, hints, doubt.kind);
-    if doubt.kind == DAY {
-        say_day(output, end, doubt.date);
-    }
-    if doubt.kind == SECONDS {
-        say_escaped(output, end, text, text.len());
-        say(output, end, b"000");
-    }
-    say(output, end, b"\n");
+    };
+    say(output, b"  ");
+    say_escaped(output, text, text.len());
+    say(output, b" was read as milliseconds since 1970; ");
+    say_meant(output, text, doubt);
+    say(output, b"\n");
 }

@@ -17,7 +17,7 @@ use records::counters::Time;
 use records::snapshot::{SnapshotLog, Snapshots};
 use slot_bounds::with_slots;
 use std::rt::HostRuntime;
-use tokens::input::{Input, Place, is_good};
+use tokens::input::Input;
 use tokens::output::Output;
 
 mod answer;
@@ -26,75 +26,56 @@ mod log_and_snapshots;
 mod words;
 
 // The snapshots that were current after the first one of a day.
-fn say_later(output: &mut Output, end: &mut usize, snapshots: Snapshots, later: SnapshotLog) {
+fn say_later(output: &mut Output, snapshots: Snapshots, later: SnapshotLog) {
     let n = with_slots(later.count, SNAPSHOT_LOG);
-    let mut i = 0;
-    while i < n {
-        let entry = later.items[i];
-        i += 1;
-        words::say_then(output, end, answer::of_entry(snapshots, entry));
+    for &entry in &later.items[..n] {
+        words::say_then(output, answer::of_entry(snapshots, entry));
     }
 }
 
-fn say_day(output: &mut Output, end: &mut usize, kept: LogAndSnapshots, text: &[u8], day: Day) {
+fn say_day(output: &mut Output, kept: LogAndSnapshots, text: &[u8], day: Day) {
     let during = current_during(kept.log, day.first, day.last);
-    say_escaped(output, end, text, text.len());
-    say(output, end, b" (UTC day)");
-    words::say_answer(output, end, answer::of_moment(kept, during.beginning));
-    say_later(output, end, kept.snapshots, during.later);
+    say_escaped(output, text, text.len());
+    say(output, b" (UTC day)");
+    words::say_answer(output, answer::of_moment(kept, during.beginning));
+    say_later(output, kept.snapshots, during.later);
 }
 
-fn say_moment(
-    output: &mut Output,
-    end: &mut usize,
-    kept: LogAndSnapshots,
-    text: &[u8],
-    time: Time,
-) {
+fn say_moment(output: &mut Output, kept: LogAndSnapshots, text: &[u8], time: Time) {
     let found = current_at(kept.log, time);
-    words::say_moment(output, end, time);
-    words::say_answer(output, end, answer::of_moment(kept, found));
-    doubt::say_doubt(output, end, text, doubt::doubt_of(text));
+    words::say_moment(output, time);
+    words::say_answer(output, answer::of_moment(kept, found));
+    doubt::say_doubt(output, text);
 }
 
-fn say_text(output: &mut Output, end: &mut usize, kept: LogAndSnapshots, text: &[u8]) {
+fn say_text(output: &mut Output, kept: LogAndSnapshots, text: &[u8]) {
     let day = day_of_text(text);
     let timed = time_of_text(text);
     if day.is_day {
-        say_day(output, end, kept, text, day);
+        say_day(output, kept, text, day);
     } else if timed.is_timed {
-        say_moment(output, end, kept, text, timed.time);
+        say_moment(output, kept, text, timed.time);
     } else {
-        words::say_unread(output, end, text, fault_of_text(text));
+        words::say_unread(output, text, fault_of_text(text));
     }
 }
 
-fn say_word(
-    rt: HostRuntime,
-    output: &mut Output,
-    end: &mut usize,
-    kept: LogAndSnapshots,
-    line: &[u8],
-    at: usize,
-) {
+fn say_word(rt: HostRuntime, output: &mut Output, kept: LogAndSnapshots, line: &[u8], at: usize) {
     let mut text = io::buffer();
     let len = read_word(rt, line, at, &mut text);
-    say_text(output, end, kept, &text[..len]);
+    say_text(output, kept, &text[..len]);
 }
 
 fn say_words(
     rt: HostRuntime,
     output: &mut Output,
-    end: &mut usize,
     kept: LogAndSnapshots,
     line: &[u8],
     from: usize,
 ) {
     let n = word_count(rt, line);
-    let mut at = from;
-    while at < n {
-        say_word(rt, output, end, kept, line, at);
-        at += 1;
+    for at in from..n {
+        say_word(rt, output, kept, line, at);
     }
 }
 
@@ -102,28 +83,26 @@ fn say_words(
 pub fn say_moments(
     rt: HostRuntime,
     output: &mut Output,
-    end: &mut usize,
     log: SnapshotLog,
     snapshots: Snapshots,
     line: &[u8],
     from: usize,
 ) {
     let kept = LogAndSnapshots { log, snapshots };
-    say_words(rt, output, end, kept, line, from);
+    say_words(rt, output, kept, line, from);
 }
 
 // The same to the word at one place.
 pub fn say_moment_at(
     rt: HostRuntime,
     output: &mut Output,
-    end: &mut usize,
     log: SnapshotLog,
     snapshots: Snapshots,
     line: &[u8],
     at: usize,
 ) {
     let kept = LogAndSnapshots { log, snapshots };
-    say_word(rt, output, end, kept, line, at);
+    say_word(rt, output, kept, line, at);
 }
 
 // Of the metadata that is read, the answers to the words of a command line from this one on.
@@ -132,12 +111,10 @@ pub fn say_answers(
     line: &[u8],
     from: usize,
     input: &mut Input,
-    place: &mut Place,
     output: &mut Output,
-    end: &mut usize,
 ) {
-    let kept = log_and_snapshots::read_log_and_snapshots(input, place);
-    if is_good(place) {
-        say_words(rt, output, end, kept, line, from);
+    let kept = log_and_snapshots::read_log_and_snapshots(input);
+    if input.is_good() {
+        say_words(rt, output, kept, line, from);
     }
 }

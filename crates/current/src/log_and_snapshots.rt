@@ -4,9 +4,8 @@ use records::capacities::{SNAPSHOT_LOG, SNAPSHOTS};
 use records::counters::{SnapshotId, Time};
 use records::snapshot::{SnapshotLog, Snapshots};
 use slot_bounds::with_slots;
-use tokens::input::{Input, Place, spoil};
-use tokens::token::read_token;
-use tokens::wanted::END;
+use tokens::input::Input;
+use tokens::token::read_end;
 
 #[derive(Clone, Copy)]
 pub struct LogAndSnapshots {
@@ -14,59 +13,28 @@ pub struct LogAndSnapshots {
     pub snapshots: Snapshots,
 }
 
-fn read_end(input: &mut Input, place: &mut Place) {
-    let rest = read_token(input, place);
-    if rest.is_begun {
-        spoil(place, END, 0);
+pub fn read_log_and_snapshots(input: &mut Input) -> LogAndSnapshots {
+    let metadata = read_metadata(input);
+    read_end(input);
+    LogAndSnapshots {
+        log: metadata.snapshot_log,
+        snapshots: metadata.snapshots,
     }
 }
 
-pub fn read_log_and_snapshots(input: &mut Input, place: &mut Place) -> LogAndSnapshots {
-    let metadata = read_metadata(input, place);
-    read_end(input, place);
-    let log = metadata.snapshot_log;
-    let snapshots = metadata.snapshots;
-    LogAndSnapshots { log, snapshots }
-}
-
-// Whether a snapshot of this id is held, and its own time.
-#[derive(Clone, Copy)]
-pub struct Held {
-    pub is_held: bool,
-    pub made: Time,
-}
-
-pub fn held_as(snapshots: Snapshots, id: SnapshotId) -> Held {
+// When the held snapshot of this id was made, if there is one.
+pub fn held_as(snapshots: Snapshots, id: SnapshotId) -> Option<Time> {
     let n = with_slots(snapshots.count, SNAPSHOTS);
-    let mut i = 0;
-    while i < n {
-        let snapshot = snapshots.items[i];
-        if snapshot.snapshot_id.0 == id.0 {
-            let made = snapshot.timestamp_ms;
-            return Held {
-                is_held: true,
-                made,
-            };
+    for snapshot in &snapshots.items[..n] {
+        if snapshot.snapshot_id == id {
+            return Some(snapshot.timestamp_ms);
         }
-        i += 1;
     }
-    Held {
-        is_held: false,
-        made: Time(0),
-    }
+    None
 }
 
 // The time from which on there is an answer. The log's times can step back, so this need not be the first entry's.
-pub fn earliest(log: SnapshotLog) -> Time {
+pub fn earliest(log: SnapshotLog) -> Option<Time> {
     let n = with_slots(log.count, SNAPSHOT_LOG);
-    let mut least = Time(i64::MAX);
-    let mut i = 0;
-    while i < n {
-        let entry = log.items[i];
-        i += 1;
-        if entry.timestamp_ms.0 < least.0 {
-            least = entry.timestamp_ms;
-        }
-    }
-    least
+    log.items[..n].iter().map(|entry| entry.timestamp_ms).min()
 }

@@ -1,4 +1,4 @@
 -- What the proofs of several functions cite, and what is true of the comparisons.
-pub mod Abreast
+pub mod Derived
 mod Readings
 pub mod Told

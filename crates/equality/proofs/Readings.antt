@@ -4,17 +4,21 @@ use native.Mathlib.Omega.{arith}
 use mathlib.Core.Path.{◌≡◌, refl, sym, ap, ap₂, ◌∙◌}
 use mathlib.Core.Bool.{Bool, true, false, not, beq, ◌&&◌, ◌||◌}
 use mathlib.Core.List.{List, [], ◌∷◌, map}
+use borrow.Author.Tests.{ne_eqb}
 use borrow.Table.Steps.{cases}
+use lib.Dec.{eqb}
 use lib.IntN.{ℤ}
 use lib.ListN.{length, take, replicate, length-take, length-map}
 use lib.Seq.{take_at}
+use Rattle.std.proofs.Common.{int_eq}
 use Rattle.rules.specs.Words.{eq_z, same_option, same_list}
 use Rattle.rules.specs.Layout.{given, counted, pad}
 use Rattle.rules.proofs.Slots.Relaid.{length_counted, counted_take}
+use Rattle.equality.proofs.Derived.{numbers}
 
 -- both flags are set and the numbers equal, or neither is set
-pub same_given : (h : Bool) (x : ℤ) (g : Bool) (y : ℤ) {same : Bool} → same ≡ eq_z x y → (beq h g && (not h || same)) ≡ same_option eq_z (given h x) (given g y)
-same_given true x true y e = e
+pub same_given : (h : Bool) (x : ℤ) (g : Bool) (y : ℤ) {same : Bool} → same ≡ int_eq x y → (beq h g && (not h || same)) ≡ same_option eq_z (given h x) (given g y)
+same_given true x true y e = e ∙ numbers x y
 same_given true x false y e = refl
 same_given false x true y e = refl
 same_given false x false y e = refl
@@ -54,8 +58,8 @@ module _ {A B : Type 0} (rd : A → B) (same : B → B → Bool) where
     long l k = length-map (counted b l k) rd ∙ length_counted b l k
 
     -- other counts
-    pub counts_differ : (m ≡ n → ⊥) → false ≡ same_list same (map rd (counted b xs m)) (map rd (counted b ys n))
-    counts_differ h = sym (unequal_lengths same (map rd (counted b xs m)) (map rd (counted b ys n)) (λ e. h (sym (long xs m) ∙ e ∙ long ys n)))
+    pub counts_differ : (m ≡ n → ⊥) → eqb m n ≡ same_list same (map rd (counted b xs m)) (map rd (counted b ys n))
+    counts_differ h = ne_eqb m n h ∙ sym (unequal_lengths same (map rd (counted b xs m)) (map rd (counted b ys n)) (λ e. h (sym (long xs m) ∙ e ∙ long ys n)))
 
     -- the same count, and so many slots compared
     pub counts_agree : m ≡ n → m ≤ length xs → m ≤ length ys → {z : Bool} → z ≡ same_list (λ (x y : A). same (rd x) (rd y)) (take m xs) (take m ys) → z ≡ same_list same (map rd (counted b xs m)) (map rd (counted b ys n))

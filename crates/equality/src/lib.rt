@@ -3,8 +3,6 @@
 // `read` compares what the rules read of a record, and no more.
 #![tactic(auto)]
 
-pub mod ids;
-pub mod number;
 pub mod read;
 pub mod slots;
 pub mod text;

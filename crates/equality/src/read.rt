@@ -8,8 +8,6 @@ ghost use Rattle.rules.specs.OrderUpdates.{same_sort_field};
 ghost use Rattle.rules.specs.Partitions.{same_partition};
 ghost use Rattle.rules.specs.Layout.{read_reference, read_schema, laid_schema, read_sort_order, read_partition_spec, laid_partition_spec};
 
-use crate::ids::same_snapshot;
-use crate::number::{same_age, same_min};
 use crate::slots;
 use records::partition::PartitionSpec;
 use records::reference::SnapshotReference;
@@ -19,14 +17,14 @@ use records::sort_order::SortOrder;
 pub fn same_reference(a: SnapshotReference, b: SnapshotReference) -> bool
     ensures { result ≡ same_reference (read_reference a) (read_reference b) }
 {
-    same_snapshot(a.snapshot_id, b.snapshot_id)
+    (a.snapshot_id == b.snapshot_id)
         & (a.kind == b.kind)
         & ((a.has_min == b.has_min)
-            & (!a.has_min | same_min(a.min_snapshots_to_keep, b.min_snapshots_to_keep)))
+            & (!a.has_min | (a.min_snapshots_to_keep == b.min_snapshots_to_keep)))
         & ((a.has_age == b.has_age)
-            & (!a.has_age | same_age(a.max_snapshot_age_ms, b.max_snapshot_age_ms)))
+            & (!a.has_age | (a.max_snapshot_age_ms == b.max_snapshot_age_ms)))
         & ((a.has_ref_age == b.has_ref_age)
-            & (!a.has_ref_age | same_age(a.max_ref_age_ms, b.max_ref_age_ms)))
+            & (!a.has_ref_age | (a.max_ref_age_ms == b.max_ref_age_ms)))
 }
 
 // As many fields, the same one by one. Of schemas that are laid out each field is what is read of it.
@@ -35,12 +33,7 @@ pub fn same_fields(a: Schema, b: Schema) -> bool
     requires b_value { (laid_schema (read_schema b) ≡ b) × (b.count ≤ schema_field_room) }
     ensures { result ≡ same_list same_schema_field (read_schema a).fields (read_schema b).fields }
 {
-    let n = a.count;
-    let m = b.count;
-    if n != m {
-        return false;
-    }
-    slots::same_fields(a, b, n)
+    (a.count == b.count) && slots::same_fields(a, b, a.count)
 }
 
 pub fn same_sort_fields(a: SortOrder, b: SortOrder) -> bool
@@ -48,12 +41,7 @@ pub fn same_sort_fields(a: SortOrder, b: SortOrder) -> bool
     requires count_le_sort_field_room_2 { b.count ≤ sort_field_room }
     ensures { result ≡ same_list same_sort_field (read_sort_order a).fields (read_sort_order b).fields }
 {
-    let n = a.count;
-    let m = b.count;
-    if n != m {
-        return false;
-    }
-    slots::same_sort_fields(a, b, n)
+    (a.count == b.count) && slots::same_sort_fields(a, b, a.count)
 }
 
 // As many fields, the same one by one but for their ids.
@@ -62,10 +50,5 @@ pub fn same_partition_fields(a: PartitionSpec, b: PartitionSpec) -> bool
     requires b_value { (laid_partition_spec (read_partition_spec b) ≡ b) × (b.count ≤ partition_field_room) }
     ensures { result ≡ same_list same_partition (read_partition_spec a).fields (read_partition_spec b).fields }
 {
-    let n = a.count;
-    let m = b.count;
-    if n != m {
-        return false;
-    }
-    slots::alike_partitions(a, b, n)
+    (a.count == b.count) && slots::alike_partitions(a, b, a.count)
 }

@@ -9,8 +9,8 @@ use records::metadata::TableMetadata;
 use records::run::{DEFAULT_TOLERANCE_MS, FIRST_OFFICE, RunTerms};
 use records::text::Text;
 use tokens::field::{read_count, read_i32, read_i64, read_u8};
-use tokens::input::{Input, Place, is_first, is_good, spoil};
-use tokens::wanted;
+use tokens::input::Input;
+use tokens::wanted::Wanted;
 
 #[derive(Clone, Copy)]
 pub struct Asked {
@@ -23,59 +23,56 @@ pub struct Asked {
 pub const EXPIRY: u64 = 12;
 
 // The kind of the next expiry; 0 at the end of the input, between expiries. An input has an expiry.
-pub fn read_first_of_expiry(input: &mut Input, place: &mut Place) -> u64 {
-    let first = read_case(input, place, wanted::EXPIRY, EXPIRY);
+pub fn read_first_of_expiry(input: &mut Input) -> u64 {
+    let first = read_case(input, Wanted::Expiry, EXPIRY);
     if first == EXPIRY {
         return first;
     }
-    if first != 0 || is_first(place) {
-        spoil(place, wanted::EXPIRY, EXPIRY);
+    if first != 0 || input.is_first() {
+        input.spoil(Wanted::Expiry);
     }
     0
 }
 
 // The clock and the defaults. The office comes behind them, and is the first here.
-fn read_policy(input: &mut Input, place: &mut Place) -> Policy {
-    let clock_ms = Time(read_i64(input, place));
-    let min_snapshots = MinSnapshots(read_i32(input, place));
-    let max_snapshot_age_ms = Age(read_i64(input, place));
-    let max_ref_age_ms = Age(read_i64(input, place));
+fn read_policy(input: &mut Input) -> Policy {
     Policy {
-        clock_ms,
-        min_snapshots,
-        max_snapshot_age_ms,
-        max_ref_age_ms,
+        clock_ms: Time(read_i64(input)),
+        min_snapshots: MinSnapshots(read_i32(input)),
+        max_snapshot_age_ms: Age(read_i64(input)),
+        max_ref_age_ms: Age(read_i64(input)),
         office: FIRST_OFFICE,
     }
 }
 
 // The office with what this tag gives. A tolerance is read, and nothing looks at it: neither an expiry nor a run that adds no snapshot.
-fn read_office(tag: u64, office: u8, input: &mut Input, place: &mut Place) -> u8 {
+fn read_office(tag: u64, office: u8, input: &mut Input) -> u8 {
     match tag {
         TOLERANCE => {
-            read_i64(input, place);
+            read_i64(input);
             office
         }
-        OFFICE => read_u8(input, place),
+        OFFICE => read_u8(input),
         _ => office,
     }
 }
 
 // What stands behind the kind.
-pub fn read_asked(input: &mut Input, place: &mut Place) -> Asked {
-    let mut metadata = read_metadata(input, place);
-    let mut policy = read_policy(input, place);
-    let count = read_count(input, place);
+pub fn read_asked(input: &mut Input) -> Asked {
+    let mut metadata = read_metadata(input);
+    let mut policy = read_policy(input);
+    let count = read_count(input);
     let mut given = Given::none();
     let mut office = FIRST_OFFICE;
     let mut last: u64 = 0;
-    let mut i = 0;
-    while i < count && is_good(place) {
-        i += 1;
-        last = read_tag(last, input, place);
+    for _ in 0..count {
+        if !input.is_good() {
+            break;
+        }
+        last = read_tag(last, input);
         given = given.with(last);
-        office = read_office(last, office, input, place);
-        metadata = read_given(Given::none().with(last), metadata, input, place);
+        office = read_office(last, office, input);
+        metadata = read_given(Given::none().with(last), metadata, input);
     }
     policy.office = office;
     Asked {
@@ -87,13 +84,11 @@ pub fn read_asked(input: &mut Input, place: &mut Place) -> Asked {
 
 // The terms of a run of the list: the same clock and office, no file name, the usual tolerance.
 pub fn terms_of(policy: Policy) -> RunTerms {
-    let clock_ms = policy.clock_ms;
-    let file = Text::blank();
     RunTerms {
-        clock_ms,
+        clock_ms: policy.clock_ms,
         tolerance_ms: Age(DEFAULT_TOLERANCE_MS),
         has_file: false,
-        file,
+        file: Text::blank(),
         office: policy.office,
     }
 }

@@ -9,26 +9,26 @@ use expiry::{Expiry, expiring_updates};
 use records::metadata::TableMetadata;
 use records::run::FIRST_OFFICE;
 use records::update::UpdateList;
-use tokens::input::{Input, Place, is_good};
+use tokens::input::Input;
 use tokens::number::{put_count, put_flag, put_i64, put_u8, put_u64};
-use tokens::output::{Output, put_line_end};
+use tokens::output::Output;
 
 // The count and the updates, which offer nothing.
-pub fn put_list(output: &mut Output, end: &mut usize, list: UpdateList) {
-    put_updates(output, end, list, b"", false);
+pub fn put_list(output: &mut Output, list: UpdateList) {
+    put_updates(output, list, b"", false);
 }
 
-fn read_expiry(input: &mut Input, place: &mut Place) -> Expiry {
-    let asked = read_asked(input, place);
+fn read_expiry(input: &mut Input) -> Expiry {
+    let asked = read_asked(input);
     expiring_updates(asked.metadata, asked.policy)
 }
 
 // Case 12: the number and the list.
-pub fn answer(input: &mut Input, place: &mut Place, output: &mut Output, end: &mut usize) {
-    let expiry = read_expiry(input, place);
-    if is_good(place) {
-        put_u8(output, end, expiry.number);
-        put_list(output, end, expiry.updates);
+pub fn answer(input: &mut Input, output: &mut Output) {
+    let expiry = read_expiry(input);
+    if input.is_good() {
+        put_u8(output, expiry.number);
+        put_list(output, expiry.updates);
     }
 }
 
@@ -41,58 +41,37 @@ fn has_tag(given: Given, office: u8, tag: u64) -> bool {
 }
 
 fn count_of_tags(given: Given, office: u8) -> usize {
-    let mut count: usize = 0;
-    let mut tag = STATISTICS;
-    while tag <= OWNERS {
-        let has = has_tag(given, office, tag);
-        tag += 1;
-        if has {
-            count += 1;
-        }
-    }
-    count
+    (STATISTICS..=OWNERS)
+        .filter(|tag| has_tag(given, office, *tag))
+        .count()
 }
 
-fn put_tag(output: &mut Output, end: &mut usize, metadata: TableMetadata, office: u8, tag: u64) {
-    put_u64(output, end, tag);
+fn put_tag(output: &mut Output, metadata: TableMetadata, office: u8, tag: u64) {
+    put_u64(output, tag);
     if tag == OFFICE {
-        put_u8(output, end, office);
+        put_u8(output, office);
     } else {
-        put_table(output, end, metadata, table_of(tag));
+        put_table(output, metadata, table_of(tag));
     }
 }
 
-fn put_tags(
-    output: &mut Output,
-    end: &mut usize,
-    metadata: TableMetadata,
-    office: u8,
-    given: Given,
-) {
-    put_count(output, end, count_of_tags(given, office));
-    let mut tag = STATISTICS;
-    while tag <= OWNERS {
+fn put_tags(output: &mut Output, metadata: TableMetadata, office: u8, given: Given) {
+    put_count(output, count_of_tags(given, office));
+    for tag in STATISTICS..=OWNERS {
         if has_tag(given, office, tag) {
-            put_tag(output, end, metadata, office, tag);
+            put_tag(output, metadata, office, tag);
         }
-        tag += 1;
     }
 }
 
 // A line: the run of the list, without a file name and without a limit text.
-pub fn put_run(output: &mut Output, end: &mut usize, asked: Asked, list: UpdateList) {
-    put_u64(output, end, RUN_GIVEN_MORE);
-    put_metadata(output, end, asked.metadata);
-    put_i64(output, end, asked.policy.clock_ms.0);
-    put_flag(output, end, false);
-    put_flag(output, end, false);
-    put_list(output, end, list);
-    put_tags(
-        output,
-        end,
-        asked.metadata,
-        asked.policy.office,
-        asked.given,
-    );
-    put_line_end(output, *end);
+pub fn put_run(output: &mut Output, asked: Asked, list: UpdateList) {
+    put_u64(output, RUN_GIVEN_MORE);
+    put_metadata(output, asked.metadata);
+    put_i64(output, asked.policy.clock_ms.0);
+    put_flag(output, false);
+    put_flag(output, false);
+    put_list(output, list);
+    put_tags(output, asked.metadata, asked.policy.office, asked.given);
+    output.end_line();
 }

@@ -19,16 +19,12 @@ const TAG: u8 = 2;
 
 // A tag keeps what it names and no ancestor, so that none comes again.
 fn as_tag(named: NamedRef) -> NamedRef {
-    let none = MinSnapshots(0);
-    let ageless = Age(0);
-    let mut reference = named.reference;
-    reference.kind = TAG;
-    reference.has_min = false;
-    reference.min_snapshots_to_keep = none;
-    reference.has_age = false;
-    reference.max_snapshot_age_ms = ageless;
     let mut tag = named;
-    tag.reference = reference;
+    tag.reference.kind = TAG;
+    tag.reference.has_min = false;
+    tag.reference.min_snapshots_to_keep = MinSnapshots(0);
+    tag.reference.has_age = false;
+    tag.reference.max_snapshot_age_ms = Age(0);
     tag
 }
 
@@ -36,13 +32,10 @@ fn as_tag(named: NamedRef) -> NamedRef {
 fn all_tags_but(refs: Refs, at: usize) -> Refs {
     let mut tags = refs;
     let n = with_slots(refs.count, REFS);
-    let mut i = 0;
-    while i < n {
-        let named = refs.items[i];
+    for (i, &named) in refs.items[..n].iter().enumerate() {
         if i != at {
             tags.items[i] = as_tag(named);
         }
-        i += 1;
     }
     tags
 }
@@ -51,22 +44,17 @@ fn all_tags_but(refs: Refs, at: usize) -> Refs {
 fn is_cyclic(metadata: TableMetadata, policy: Policy, at: usize) -> bool {
     let mut alone = metadata;
     alone.refs = all_tags_but(metadata.refs, at);
-    let expiry = expiring_updates(alone, policy);
-    expiry.number == MET_TWICE
+    expiring_updates(alone, policy).number == MET_TWICE
 }
 
 // The first of them, in table order.
 fn cyclic_name(metadata: TableMetadata, policy: Policy) -> Name {
     let refs = metadata.refs;
     let n = with_slots(refs.count, REFS);
-    let mut i = 0;
-    while i < n {
-        let named = refs.items[i];
-        let name = named.name;
+    for (i, named) in refs.items[..n].iter().enumerate() {
         if is_cyclic(metadata, policy, i) {
-            return name;
+            return named.name;
         }
-        i += 1;
     }
     Name::blank()
 }
@@ -90,28 +78,22 @@ pub fn refusal_of(metadata: TableMetadata, policy: Policy, number: u8, fault: u8
     }
 }
 
-// The words of a number, in the order in which the checks come.
-fn words_of(number: u8) -> i64 {
+fn words_of(number: u8) -> &'static [u8] {
     match number {
-        START_NOT_FORMED => 0,
-        OFFICE_UNKNOWN => 1,
-        UPDATE_NOT_FORMED => 2,
-        _ => 3,
+        START_NOT_FORMED => b"refused #0: the metadata is not well formed: ",
+        OFFICE_UNKNOWN => b"refused #0: office not 1 or 2",
+        UPDATE_NOT_FORMED => b"refused #0: a default is below 1",
+        _ => b"refused #0: the parents of branch $ lead back to a snapshot that it keeps",
     }
 }
 
 // As `refused 3: a default is below 1`.
-pub fn say_refusal(output: &mut Output, end: &mut usize, refusal: Refusal) {
-    let template = b"refused #0: ?1{the metadata is not well formed: \
-        |office not 1 or 2\
-        |a default is below 1\
-        |the parents of branch $ lead back to a snapshot that it keeps}";
+pub fn say_refusal(output: &mut Output, refusal: Refusal) {
     let number = refusal.number;
-    let numbers = Card::of_numbers([number as i64, words_of(number), 0, 0, 0, 0, 0, 0], [0, 0]);
-    let card = numbers.with_text(name_text(refusal.branch));
-    say_part(output, end, template, 0, 0, card);
+    let card = Card::of_number(number as i64).with_text(name_text(refusal.branch));
+    say_part(output, words_of(number), 0, 0, card);
     if number == START_NOT_FORMED {
-        say_fault(output, end, refusal.fault);
+        say_fault(output, refusal.fault);
     }
-    say(output, end, b"\n");
+    say(output, b"\n");
 }

@@ -8,30 +8,15 @@ use tokens::output::Output;
 
 fn refs_going(reasons: Reasons, count: usize) -> usize {
     let n = with_slots(count, REFS);
-    let mut going: usize = 0;
-    let mut i = 0;
-    while i < n {
-        let goes = reasons.goes[i];
-        i += 1;
-        if goes {
-            going += 1;
-        }
-    }
-    going
+    reasons.goes[..n].iter().filter(|goes| **goes).count()
 }
 
 fn snapshots_going(reasons: Reasons, count: usize) -> usize {
     let n = with_slots(count, SNAPSHOTS);
-    let mut going: usize = 0;
-    let mut i = 0;
-    while i < n {
-        let stays = reasons.stays[i];
-        i += 1;
-        if stays.why == NOTHING {
-            going += 1;
-        }
-    }
-    going
+    reasons.stays[..n]
+        .iter()
+        .filter(|stays| stays.why == NOTHING)
+        .count()
 }
 
 fn less(all: usize, going: usize) -> usize {
@@ -63,15 +48,9 @@ fn sums(reasons: Reasons, refs: usize, snapshots: usize) -> Card {
     )
 }
 
-pub fn say_sums(
-    output: &mut Output,
-    end: &mut usize,
-    reasons: Reasons,
-    refs: usize,
-    snapshots: usize,
-) {
+pub fn say_sums(output: &mut Output, reasons: Reasons, refs: usize, snapshots: usize) {
     let template =
         b"  in all: #0 of #1 refs and #2 of #3 snapshots go, #4 refs and #5 snapshots stay, and #6 new snapshots fit then\n";
     let card = sums(reasons, refs, snapshots);
-    say_part(output, end, template, 0, 0, card);
+    say_part(output, template, 0, 0, card);
 }

@@ -21,7 +21,7 @@ use records::run::FIRST_OFFICE;
 use records::snapshot::Snapshots;
 use records::update::UpdateList;
 use slot_bounds::with_slots;
-use tokens::output::{Output, put_line_end};
+use tokens::output::Output;
 
 // clock, whether the office is not the first, count, age, ref age; office, number of the piece
 fn policy_card(policy: Policy, number: usize) -> Card {
@@ -41,68 +41,53 @@ fn policy_card(policy: Policy, number: usize) -> Card {
 }
 
 // The office is said if it is not the first.
-fn say_policy(output: &mut Output, end: &mut usize, policy: Policy, number: usize) {
+fn say_policy(output: &mut Output, policy: Policy, number: usize) {
     let template = b"expiry %1\
         \nwhat is asked\
         ?1{|\n  office: %0}\
         \n  clock: #0 (@0)\
         \n  where a ref says nothing else, a branch keeps at least #2 snapshots and those not older than #3 ms, and a ref stays for #4 ms\n";
-    say_part(output, end, template, 0, 0, policy_card(policy, number));
+    say_part(output, template, 0, 0, policy_card(policy, number));
 }
 
-fn say_refs(output: &mut Output, end: &mut usize, refs: Refs, policy: Policy, found: Reasons) {
+fn say_refs(output: &mut Output, refs: Refs, policy: Policy, found: Reasons) {
     let n = with_slots(refs.count, REFS);
-    say_heading(output, end, b"refs", refs.count);
-    let mut i = 0;
-    while i < n {
-        let named = refs.items[i];
-        let goes = found.goes[i];
-        say_ref(output, end, named, policy, goes);
-        i += 1;
+    say_heading(output, b"refs", refs.count);
+    for (&named, &goes) in refs.items[..n].iter().zip(&found.goes) {
+        say_ref(output, named, policy, goes);
     }
 }
 
-fn say_snapshots(
-    output: &mut Output,
-    end: &mut usize,
-    snapshots: Snapshots,
-    refs: Refs,
-    found: Reasons,
-) {
+fn say_snapshots(output: &mut Output, snapshots: Snapshots, refs: Refs, found: Reasons) {
     let n = with_slots(snapshots.count, SNAPSHOTS);
-    say_heading(output, end, b"snapshots", snapshots.count);
-    let mut i = 0;
-    while i < n {
-        let snapshot = snapshots.items[i];
-        let stays = found.stays[i];
+    say_heading(output, b"snapshots", snapshots.count);
+    for (&snapshot, &stays) in snapshots.items[..n].iter().zip(&found.stays) {
         let by = with_slots(stays.by, REFS - 1);
         let named = refs.items[by];
-        say_snapshot(output, end, snapshot, stays.why, named);
-        i += 1;
+        say_snapshot(output, snapshot, stays.why, named);
     }
 }
 
 fn say_reasons(
     output: &mut Output,
-    end: &mut usize,
     refs: Refs,
     snapshots: Snapshots,
     policy: Policy,
     found: Reasons,
 ) {
-    say(output, end, b"what goes and what stays\n");
-    say_refs(output, end, refs, policy, found);
-    say_snapshots(output, end, snapshots, refs, found);
-    say_sums(output, end, found, refs.count, snapshots.count);
+    say(output, b"what goes and what stays\n");
+    say_refs(output, refs, policy, found);
+    say_snapshots(output, snapshots, refs, found);
+    say_sums(output, found, refs.count, snapshots.count);
 }
 
 // In words, and on a line of its own as it stands in a run.
-fn say_list(output: &mut Output, end: &mut usize, list: UpdateList) {
-    say(output, end, b"the list\n");
-    say_updates(output, end, b"updates", list, b"");
-    say(output, end, b"  as a run has them: ");
-    put_list(output, end, list);
-    put_line_end(output, *end);
+fn say_list(output: &mut Output, list: UpdateList) {
+    say(output, b"the list\n");
+    say_updates(output, b"updates", list, b"");
+    say(output, b"  as a run has them: ");
+    put_list(output, list);
+    output.end_line();
 }
 
 // What is found beside the list: why each ref and snapshot stays or goes, or why there is none. It is asked before anything is said, so that less stack
@@ -122,7 +107,6 @@ pub fn find(metadata: TableMetadata, policy: Policy, number: u8, fault: u8) -> F
 // What is asked, what is found, and the list or the refusal.
 fn say_expiry(
     output: &mut Output,
-    end: &mut usize,
     number: usize,
     refs: Refs,
     snapshots: Snapshots,
@@ -130,19 +114,18 @@ fn say_expiry(
     expiry: Expiry,
     found: Found,
 ) {
-    say_policy(output, end, policy, number);
+    say_policy(output, policy, number);
     if expiry.number == 0 {
-        say_reasons(output, end, refs, snapshots, policy, found.reasons);
-        say_list(output, end, expiry.updates);
+        say_reasons(output, refs, snapshots, policy, found.reasons);
+        say_list(output, expiry.updates);
     } else {
-        say_refusal(output, end, found.refusal);
+        say_refusal(output, found.refusal);
     }
 }
 
 // In words; or, where the run of the list is asked no times, that run in numbers.
 pub fn tell(
     output: &mut Output,
-    end: &mut usize,
     times: u64,
     number: usize,
     asked: Asked,
@@ -152,7 +135,6 @@ pub fn tell(
     if times > 0 {
         say_expiry(
             output,
-            end,
             number,
             asked.metadata.refs,
             asked.metadata.snapshots,
@@ -161,19 +143,19 @@ pub fn tell(
             found,
         );
     } else if expiry.number == 0 {
-        put_run(output, end, asked, expiry.updates);
+        put_run(output, asked, expiry.updates);
     } else {
-        say_refusal(output, end, found.refusal);
+        say_refusal(output, found.refusal);
     }
 }
 
 // A run that has no file name starts from what the expiry found well formed.
-pub fn say_outcome(output: &mut Output, end: &mut usize, number: u8, place: usize) {
-    say(output, end, b"the run of the list: ");
+pub fn say_outcome(output: &mut Output, number: u8, place: usize) {
+    say(output, b"the run of the list: ");
     if number == 0 {
-        say(output, end, b"accepted");
+        say(output, b"accepted");
     } else {
-        say_run_refusal(output, end, number, place, fault::NONE);
+        say_run_refusal(output, number, place, fault::NONE);
     }
-    say(output, end, b"\n");
+    say(output, b"\n");
 }

@@ -7,7 +7,6 @@ use mathlib.Core.Bool.{Bool, true, false, cond}
 use mathlib.Core.List.{List, [], ◌∷◌, ◌++◌, append-nil}
 use borrow.Table.Steps.{cases}
 use lib.ListN.{length, get_or, set, take, length-take}
-use lib.Seq.{take_all}
 use Rattle.rules.specs.Words.{all}
 use Rattle.rules.proofs.Checks.{both}
 use Rattle.rules.proofs.Tables.{all_head, all_tail}
@@ -77,6 +76,3 @@ module _ {B : Type 0} {K : Kind} {laid : List K.Plain → K.Whole} (m : Made K l
           short = omega (arith, k.short);
           so = pushed m (get_or (K.items t) i d) k.so w (element_back h i d b) p n ∙ ap laid (sym (more ∙ rw f));
         }
-
-  pub picking_end : {r : K.Whole} {i : ℕ} → K.count t ≤ i → Picking K laid q ys t r i → r ≡ laid (picked q ys (listed K t))
-  picking_end {r} {i} b k = k.so ∙ ap (λ (l : List K.Plain). laid (picked q ys l)) (take_all i (listed K t) (omega (arith, read_length h)))

@@ -9,3 +9,7 @@ mod Leaving
 mod Places
 mod Answers
 pub mod Unique
+mod Overlaid
+mod Logged
+mod Stored
+mod Taking

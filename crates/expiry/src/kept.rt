@@ -21,6 +21,7 @@ use records::reference::{NamedRef, Refs, SnapshotReference};
 use records::run::SECOND_OFFICE;
 use records::snapshot::{SnapshotLog, Snapshots};
 use search::position_ascending;
+use tables::keys::snapshot_key;
 use tables::names::is_main_name;
 use tables::snapshots::{ids_of, parents_of};
 
@@ -28,6 +29,7 @@ use tables::snapshots::{ids_of, parents_of};
 const BRANCH: u8 = 1;
 
 // What is found of a ref: whether it goes, whether its walk meets a snapshot twice, and why each held snapshot stays for it.
+// Kept: `kept_of` and `found_of` of specs/Found.antt are stated over the members of these two, also where a snapshot is met twice.
 #[derive(Clone, Copy)]
 pub struct Kept {
     pub goes: bool,
@@ -45,10 +47,11 @@ pub struct Found {
 fn limits_of(policy: Policy, r: SnapshotReference) -> Limits
     ensures { result ≡ record { clock = policy.clock_ms; count = record { 0 = count_of (read_policy policy) (read_reference r) }; age = record { 0 = age_of (read_policy policy) (read_reference r) } } }
 {
-    let clock = policy.clock_ms;
-    let count = own_count(r.has_min, r.min_snapshots_to_keep, policy.min_snapshots);
-    let age = own_age(r.has_age, r.max_snapshot_age_ms, policy.max_snapshot_age_ms);
-    Limits { clock, count, age }
+    Limits {
+        clock: policy.clock_ms,
+        count: own_count(r.has_min, r.min_snapshots_to_keep, policy.min_snapshots),
+        age: own_age(r.has_age, r.max_snapshot_age_ms, policy.max_snapshot_age_ms),
+    }
 }
 
 // A ref of the office but `main` goes when its snapshot is past its ref age.
@@ -68,7 +71,6 @@ fn ref_kept(policy: Policy, x: NamedRef, over: &[usize], times: &[i64], start: u
     requires over_len_bound { length over.now ≤ snapshot_room }
     ensures { (snapshots : List plain.Snapshot) → Placed snapshots over.now → times.now ≡ snapshot_times snapshots → start ≡ place_in (snapshot_ids snapshots) x.reference.snapshot_id.0 → result ≡ kept_of (read_policy policy) snapshots (read_ref x) }
 {
-    let r = x.reference;
     let goes = ref_goes(policy, x, times, start);
     if x.owner != policy.office {
         let slots = reach_marks(over, start);
@@ -85,8 +87,8 @@ fn ref_kept(policy: Policy, x: NamedRef, over: &[usize], times: &[i64], start: u
             slots: [NOTHING; SNAPSHOTS],
         };
     }
-    if r.kind == BRANCH {
-        let marks = branch_marks(over, times, start, limits_of(policy, r));
+    if x.reference.kind == BRANCH {
+        let marks = branch_marks(over, times, start, limits_of(policy, x.reference));
         let slots = marks.slots;
         return Kept {
             goes,
@@ -103,19 +105,19 @@ fn ref_kept(policy: Policy, x: NamedRef, over: &[usize], times: &[i64], start: u
 }
 
 // The reasons with those of one ref over them.
-fn overlaid(stays: [Reason; SNAPSHOTS], slots: [u8; SNAPSHOTS], by: usize) -> [Reason; SNAPSHOTS]
+fn overlaid(
+    mut stays: [Reason; SNAPSHOTS],
+    slots: [u8; SNAPSHOTS],
+    by: usize,
+) -> [Reason; SNAPSHOTS]
     ensures { result ≡ pair_up (overlay by) stays slots }
 {
-    let mut r = stays;
-    let mut k = 0;
-    while k < SNAPSHOTS {
-        let why = slots[k];
-        if why != NOTHING {
-            r[k] = Reason { why, by };
+    for (k, why) in slots.iter().enumerate() {
+        if *why != NOTHING {
+            stays[k] = Reason { why: *why, by };
         }
-        k += 1;
     }
-    r
+    stays
 }
 
 // For the second office all that the snapshot log names stays.
@@ -125,19 +127,12 @@ fn logged(office: u8, log: SnapshotLog, ids: &[i64]) -> [Reason; SNAPSHOTS]
     requires ids_len_bound { length ids.now ≤ snapshot_room }
     ensures { result ≡ slotted no_reason (log_reason office (read_snapshot_log log)) ids.now }
 {
-    let none = Reasons::blank();
-    let mut stays = none.stays;
-    let mut n = 0;
-    if office == SECOND_OFFICE {
-        n = log.count;
+    let mut stays = Reasons::blank().stays;
+    if office != SECOND_OFFICE {
+        return stays;
     }
-    let mut i = 0;
-    while i < n {
-        let e = log.items[i];
-        let id = e.snapshot_id;
-        let z = id.0;
-        let place = position_ascending(ids, z);
-        i += 1;
+    for entry in &log.items[..log.count] {
+        let place = position_ascending(ids, snapshot_key(entry.snapshot_id).0);
         if place < ids.len() {
             stays[place] = Reason {
                 why: LOG_NAMES,
@@ -165,23 +160,19 @@ fn refs_findings(
     let mut goes = [false; REFS];
     let mut stays = named;
     let mut cyclic = false;
-    let mut i = refs.count;
-    while i > 0 {
-        i -= 1;
+    for i in (0..refs.count).rev() {
         let x = refs.items[i];
-        let r = x.reference;
-        let id = r.snapshot_id;
-        let z = id.0;
-        let start = position_ascending(ids, z);
+        let start = position_ascending(ids, snapshot_key(x.reference.snapshot_id).0);
         let kept = ref_kept(policy, x, over, times, start);
         goes[i] = kept.goes;
-        cyclic = cyclic | kept.twice;
-        let slots = kept.slots;
-        let next = overlaid(stays, slots, i);
+        cyclic |= kept.twice;
+        let next = overlaid(stays, kept.slots, i);
         stays = next;
     }
-    let reasons = Reasons { goes, stays };
-    Found { cyclic, reasons }
+    Found {
+        cyclic,
+        reasons: Reasons { goes, stays },
+    }
 }
 
 // What a policy finds in the tables of well-formed metadata.

@@ -20,6 +20,7 @@ use records::replies::{ACCEPTED, MET_TWICE};
 use records::update::UpdateList;
 
 // The number is 0, or that of the refusal.
+// Kept: the contract of `expiring_updates` (`expiry_answer`) gives the number and the list.
 #[derive(Clone, Copy)]
 pub struct Expiry {
     pub number: u8,
@@ -56,7 +57,7 @@ pub fn expiring_updates(metadata: TableMetadata, policy: Policy) -> Expiry
 }
 
 // Of each ref whether it goes, and of each held snapshot what it stays for. There are none where no list is made.
-// What both functions ask first stands in both, since one function for it made each of them slower by a quarter.
+// Kept: what both functions ask first stands in both, since one function for it made each of them slower by a quarter.
 pub fn reasons(metadata: TableMetadata, policy: Policy) -> Reasons
     ensures { result ≡ reasons_answer metadata policy }
 {

@@ -22,20 +22,14 @@ fn dropped(t: Refs, goes: [bool; REFS]) -> Refs
     requires { LaidRefs t }
     ensures { result ≡ laid_refs (refs_going goes (read_refs t)) }
 {
-    let n = t.count;
-    let mut r = Refs::blank();
-    let mut i = 0;
-    while i < n {
-        let x = t.items[i];
-        let gone = goes[i];
-        i += 1;
-        if gone {
-            let k = r.count;
-            r.items[k] = x;
-            r.count = k + 1;
+    let mut gone = Refs::blank();
+    for (i, r) in t.items[..t.count].iter().enumerate() {
+        if goes[i] {
+            gone.items[gone.count] = *r;
+            gone.count += 1;
         }
     }
-    r
+    gone
 }
 
 // The snapshots that go: nothing keeps them.
@@ -43,20 +37,14 @@ fn leaving(t: Snapshots, stays: [Reason; SNAPSHOTS]) -> Snapshots
     requires { LaidSnapshots t }
     ensures { result ≡ laid_snapshots (snapshots_going stays (read_snapshots t)) }
 {
-    let n = t.count;
-    let mut r = Snapshots::blank();
-    let mut i = 0;
-    while i < n {
-        let s = t.items[i];
-        let why = stays[i].why;
-        i += 1;
-        if why == NOTHING {
-            let k = r.count;
-            r.items[k] = s;
-            r.count = k + 1;
+    let mut gone = Snapshots::blank();
+    for (i, snapshot) in t.items[..t.count].iter().enumerate() {
+        if stays[i].why == NOTHING {
+            gone.items[gone.count] = *snapshot;
+            gone.count += 1;
         }
     }
-    r
+    gone
 }
 
 // The ids of sixteen snapshots from a place on, or of as many as there are.
@@ -64,41 +52,32 @@ fn part(t: Snapshots, from: usize) -> SnapshotIds
     requires { LaidSnapshots t }
     ensures { result ≡ laid_snapshot_ids (take removal_room (drop from (snapshot_ids (read_snapshots t)))) }
 {
-    let n = t.count;
-    let mut r = SnapshotIds::blank();
-    let mut taken: usize = 0;
-    let mut i = from;
-    while (i < n) & (taken < REMOVALS) {
-        let s = t.items[i];
-        let id = s.snapshot_id;
-        r = push_snapshot(r, id);
-        taken += 1;
-        i += 1;
+    let start = from.min(t.count);
+    let end = (start + REMOVALS).min(t.count);
+    let mut ids = SnapshotIds::blank();
+    for snapshot in &t.items[start..end] {
+        ids = push_snapshot(ids, snapshot.snapshot_id);
     }
-    r
+    ids
 }
 
 fn ref_removal(name: Name) -> TableUpdate
     requires { LaidName name }
     ensures { result ≡ laid_update (RemoveRef (read_name name)) }
 {
-    let mut u = TableUpdate::blank();
-    let mut p = u.refs;
-    p.name = name;
-    u.kind = REMOVE_REF;
-    u.refs = p;
-    u
+    let mut update = TableUpdate::blank();
+    update.kind = REMOVE_REF;
+    update.refs.name = name;
+    update
 }
 
 fn snapshots_removal(ids: SnapshotIds) -> TableUpdate
     ensures { (l : List ℤ) → ids ≡ laid_snapshot_ids l → result ≡ laid_update (RemoveSnapshots l) }
 {
-    let mut u = TableUpdate::blank();
-    let mut p = u.snapshots;
-    p.removed = ids;
-    u.kind = REMOVE_SNAPSHOTS;
-    u.snapshots = p;
-    u
+    let mut update = TableUpdate::blank();
+    update.kind = REMOVE_SNAPSHOTS;
+    update.snapshots.removed = ids;
+    update
 }
 
 // How many removals take so many snapshots.
@@ -116,19 +95,16 @@ fn update_at(refs: Refs, snapshots: Snapshots, place: usize) -> TableUpdate
     requires place_lt_list_room { place < list_room }
     ensures { result ≡ laid_update (update_at (read_refs refs) (snapshot_ids (read_snapshots snapshots)) place) }
 {
-    let n = refs.count;
-    if place < n {
-        let x = refs.items[place];
-        return ref_removal(x.name);
+    if place < refs.count {
+        return ref_removal(refs.items[place].name);
     }
-    snapshots_removal(part(snapshots, (place - n) * REMOVALS))
+    snapshots_removal(part(snapshots, (place - refs.count) * REMOVALS))
 }
 
 fn no_updates() -> [TableUpdate; UPDATES]
     ensures { result ≡ replicate list_room no_update }
 {
-    let none = TableUpdate::blank();
-    [none; UPDATES]
+    [TableUpdate::blank(); UPDATES]
 }
 
 // Each update is stored in its place, since a list that is handed over is copied.
@@ -137,16 +113,12 @@ pub fn list_of(refs: Refs, snapshots: Snapshots, reasons: Reasons) -> UpdateList
     requires laid_snapshots { LaidSnapshots snapshots }
     ensures { result ≡ laid_updates (list_of (refs_going reasons.goes (read_refs refs)) (snapshot_ids (snapshots_going reasons.stays (read_snapshots snapshots)))) }
 {
-    let goes = reasons.goes;
-    let stays = reasons.stays;
-    let refs_gone = dropped(refs, goes);
-    let gone = leaving(snapshots, stays);
+    let refs_gone = dropped(refs, reasons.goes);
+    let gone = leaving(snapshots, reasons.stays);
     let count = refs_gone.count + parts(gone.count);
     let mut items = no_updates();
-    let mut place = 0;
-    while place < count {
+    for place in 0..count {
         items[place] = update_at(refs_gone, gone, place);
-        place += 1;
     }
     UpdateList { items, count }
 }

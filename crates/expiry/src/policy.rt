@@ -25,6 +25,7 @@ pub struct Policy {
 
 // Why a snapshot stays: nothing keeps it, so that it goes; a ref names it, or it is within a branch's count, or within its age; a ref of the other office
 // names or reaches it; the snapshot log names it.
+// Kept: the contract of `reasons` (`reasons_answer`), and `why_at` and `why_by` of the crate `retention`, are stated over these numbers.
 pub const NOTHING: u8 = 0;
 
 pub const NAMED: u8 = 1;
@@ -66,34 +67,35 @@ impl Reasons {
     pub fn blank() -> Reasons
         ensures { result ≡ no_reasons }
     {
-        let none = Reason::blank();
-        let goes = [false; REFS];
-        let stays = [none; SNAPSHOTS];
-        Reasons { goes, stays }
+        Reasons {
+            goes: [false; REFS],
+            stays: [Reason::blank(); SNAPSHOTS],
+        }
     }
 }
 
+// Kept: the contract of `start_number` gives the number of the refusal.
 // 1, then 39, then 3. Whether the metadata is well formed is handed over, and not the metadata, which would be copied.
 pub fn start_number(is_formed: bool, policy: Policy) -> u8
     ensures { result ≡ first_of ((not is_formed, start_not_formed) ∷ (not (is_office policy.office), office_unknown) ∷ (not (policy_formed (read_policy policy)), update_not_formed) ∷ []) }
 {
-    let known = (policy.office == FIRST_OFFICE) | (policy.office == SECOND_OFFICE);
-    let count = min_formed(true, policy.min_snapshots);
-    let age = age_formed(true, policy.max_snapshot_age_ms);
-    let ref_age = age_formed(true, policy.max_ref_age_ms);
     if !is_formed {
         return START_NOT_FORMED;
     }
-    if !known {
+    if policy.office != FIRST_OFFICE && policy.office != SECOND_OFFICE {
         return OFFICE_UNKNOWN;
     }
-    if !(count & age & ref_age) {
+    if !min_formed(true, policy.min_snapshots)
+        || !age_formed(true, policy.max_snapshot_age_ms)
+        || !age_formed(true, policy.max_ref_age_ms)
+    {
         return UPDATE_NOT_FORMED;
     }
     ACCEPTED
 }
 
 // A ref's own number stands before the policy's.
+// Kept: both are public, and one function for both types would be called by two that have its only line.
 pub fn own_count(has: bool, own: MinSnapshots, other: MinSnapshots) -> MinSnapshots
     ensures { result.0 ≡ or_else (given has own.0) other.0 }
 {

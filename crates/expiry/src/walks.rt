@@ -27,10 +27,17 @@ pub struct Limits {
 }
 
 // Why each held snapshot stays for a branch, and whether its walk met one twice; then nothing is marked.
+// Kept: `branch_marks` of specs/Found.antt is stated over both, and says of the slots what they are where one is met twice.
 #[derive(Clone, Copy)]
 pub struct Marks {
     pub slots: [u8; SNAPSHOTS],
     pub twice: bool,
+}
+
+fn milliseconds(time: Time) -> i64
+    ensures { result ≡ time.0 }
+{
+    time.0
 }
 
 // The times, in table order, and zeros after them.
@@ -38,17 +45,11 @@ pub fn times_of(t: Snapshots) -> [i64; SNAPSHOTS]
     requires { LaidSnapshots t }
     ensures { result ≡ pad snapshot_room (pos 0) (snapshot_times (read_snapshots t)) }
 {
-    let n = t.count;
-    let mut r = [0i64; SNAPSHOTS];
-    let mut i = 0;
-    while i < n {
-        let s = t.items[i];
-        let time = s.timestamp_ms;
-        let z = time.0;
-        r[i] = z;
-        i += 1;
+    let mut times = [0i64; SNAPSHOTS];
+    for (i, snapshot) in t.items[..t.count].iter().enumerate() {
+        times[i] = milliseconds(snapshot.timestamp_ms);
     }
-    r
+    times
 }
 
 // The places of the parents, and zeros after them.
@@ -58,24 +59,18 @@ pub fn parent_places(ids: &[i64], parents: &[i64]) -> [usize; SNAPSHOTS]
     requires pairs { length ids.now ≡ length parents.now }
     ensures { result ≡ pad snapshot_room 0 (parent_places ids.now parents.now) }
 {
-    let mut r = [0usize; SNAPSHOTS];
-    let mut i = 0;
-    while i < ids.len() {
-        let parent = parents[i];
-        r[i] = position_ascending(ids, parent);
-        i += 1;
+    let mut places = [0usize; SNAPSHOTS];
+    for (i, parent) in parents.iter().enumerate() {
+        places[i] = position_ascending(ids, *parent);
     }
-    r
+    places
 }
 
 // The snapshot at a place is past an age; one that is not held is not.
 pub fn is_older(times: &[i64], place: usize, age: Age, clock: Time) -> bool
     ensures { result ≡ is_older_at times.now place age.0 clock.0 }
 {
-    if place < times.len() {
-        return is_before(age, Time(times[place]), clock);
-    }
-    false
+    place < times.len() && is_before(age, Time(times[place]), clock)
 }
 
 // One that so many stand before is among the first so many.
@@ -83,8 +78,7 @@ fn is_counted(listed: usize, count: MinSnapshots) -> bool
     requires { listed ≤ snapshot_room }
     ensures { result ≡ lt_z (pos listed) count.0 }
 {
-    let c = count.0;
-    (listed as i64) < (c as i64)
+    (listed as i64) < i64::from(count.0)
 }
 
 // Why a snapshot stays that so many stand before on its branch.

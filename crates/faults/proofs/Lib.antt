@@ -1,5 +1,5 @@
 -- What the proofs of several functions cite, and what is true of the contracts.
-mod Picked
+pub mod Picked
 mod Parts
 pub mod Exactly
 pub mod Unique

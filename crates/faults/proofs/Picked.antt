@@ -1,7 +1,7 @@
 -- The first fault of two lists of tests, one after the other, and the tests of a table or a log as the code groups them.
 use Prim.Native.Nat.{ℕ, ◌+◌}
 use mathlib.Core.Path.{◌≡◌, refl, sym, ◌∙◌}
-use mathlib.Core.Bool.{Bool, true, false, cond, not, ◌&&◌}
+use mathlib.Core.Bool.{Bool, true, false, cond, not, ◌&&◌, not-not}
 use mathlib.Core.List.{List, [], ◌∷◌, ◌++◌}
 use borrow.Author.Tests.{eqb-true, eqb-false, not-false}
 use borrow.Table.Steps.{cases}
@@ -61,3 +61,7 @@ module _ {A : Type 0} (n room : ℕ) (tidy : Bool) (formed : A → Bool) (l : Li
     table_faultless k =
         let f : (leb (length l) room && all formed l) ≡ true = and_left (leb (length l) room && all formed l) (ascending below l) k.1 in
         rw (k.0, and_left (leb (length l) room) (all formed l) f, and_right (leb (length l) room) (all formed l) f, and_right (leb (length l) room && all formed l) (ascending below l) k.1)
+
+-- what is found of refs that there is room for
+pub found : (room owned : Bool) → room ≡ true → (room && owned) ≡ not (room && not owned)
+found room owned h = rw (h, not-not owned)

@@ -1,6 +1,7 @@
 // The numbers of the faults, in the order in which they are looked for, but that the owners of refs are looked at before the other three of their table.
 // A table has three, from its number on: it counts more than it has room for; one of its records is not well formed, or an unused place is not blank; its
 // keys do not ascend. A log has the first two.
+// Kept: numbers, since `start_fault` and `metadata_fault` promise the number that `first_of` of specs/ finds, and a table adds to its first one.
 pub const NONE: u8 = 0;
 
 pub const FORMAT_VERSION: u8 = 1;

@@ -7,10 +7,7 @@ use crate::fault;
 pub fn unless(passes: bool, number: u8, later: u8) -> u8
     ensures { result ≡ cond (not passes) number later }
 {
-    if passes {
-        return later;
-    }
-    number
+    if passes { later } else { number }
 }
 
 // The earlier fault, if there is one.
@@ -18,7 +15,8 @@ pub fn or_later(earlier: u8, later: u8) -> u8
     ensures { result ≡ cond (eqb earlier 0) later earlier }
 {
     if earlier == fault::NONE {
-        return later;
+        later
+    } else {
+        earlier
     }
-    earlier
 }

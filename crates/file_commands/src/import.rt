@@ -1,9 +1,10 @@
 // import FILE: what a metadata file holds, in plain words, or why it is refused.
-use crate::asked::{IMPORT, are_words};
+use crate::asked::are_words;
 use crate::read::read_metadata_at;
 use cards::card::{Card, counted};
 use cards::record::{identity, single_fields};
 use cards::table::OF_REFS;
+use file_words::Command;
 use file_words::file::read_file_name;
 use named_files::metadata::Held;
 use plaintext::name::say_escaped;
@@ -15,7 +16,7 @@ use records::metadata::{SingleFields, TableMetadata};
 use records::snapshot::Snapshots;
 use slot_bounds::with_slots;
 use std::rt::HostRuntime;
-use tokens::input::{Input, Place};
+use tokens::input::Input;
 use tokens::output::Output;
 
 // The times of the oldest and the newest snapshot.
@@ -29,22 +30,14 @@ fn span_of(snapshots: Snapshots) -> Span {
     let n = with_slots(snapshots.count, SNAPSHOTS);
     let mut oldest = i64::MAX;
     let mut newest = i64::MIN;
-    let mut i = 0;
-    while i < n {
-        let snapshot = snapshots.items[i];
-        let time = snapshot.timestamp_ms.0;
-        i += 1;
-        if time < oldest {
-            oldest = time;
-        }
-        if time > newest {
-            newest = time;
-        }
+    for snapshot in &snapshots.items[..n] {
+        oldest = oldest.min(snapshot.timestamp_ms.0);
+        newest = newest.max(snapshot.timestamp_ms.0);
     }
     Span { oldest, newest }
 }
 
-fn say_fields(output: &mut Output, end: &mut usize, fields: SingleFields) {
+fn say_fields(output: &mut Output, fields: SingleFields) {
     let first = b"  format version: #0\
         \n  uuid: ^\n";
     let others = b"  location: $\
@@ -52,11 +45,11 @@ fn say_fields(output: &mut Output, end: &mut usize, fields: SingleFields) {
         \n  last sequence number: #1\
         \n  next row id: %0\
         \n  current snapshot: ?3{none|#4}\n";
-    say_part(output, end, first, 0, 0, identity(fields));
-    say_part(output, end, others, 0, 0, single_fields(fields));
+    say_part(output, first, 0, 0, identity(fields));
+    say_part(output, others, 0, 0, single_fields(fields));
 }
 
-fn say_snapshots(output: &mut Output, end: &mut usize, snapshots: Snapshots) {
+fn say_snapshots(output: &mut Output, snapshots: Snapshots) {
     let template = b"  snapshots: %0?0{|, the oldest of @1, the newest of @2}\n";
     let span = span_of(snapshots);
     let count = snapshots.count;
@@ -64,71 +57,76 @@ fn say_snapshots(output: &mut Output, end: &mut usize, snapshots: Snapshots) {
         [(count > 0) as i64, span.oldest, span.newest, 0, 0, 0, 0, 0],
         [count as u64, 0],
     );
-    say_part(output, end, template, 0, 0, card);
+    say_part(output, template, 0, 0, card);
 }
 
 // Two counts a line.
-fn say_counts(output: &mut Output, end: &mut usize, kind: usize, one: usize, other: usize) {
-    let templates = b"  entries of the snapshot log: %0\n  entries of the metadata log: %1\n\
-        ;  schemas: %0\n  sort orders: %1\n\
-        ;  partition specs: %0\n  refs: %1\n\
-        ;  statistics files: %0\n  partition statistics files: %1\n";
+fn say_counts(output: &mut Output, template: &[u8], one: usize, other: usize) {
     let card = Card::of_numbers([0; 8], [one as u64, other as u64]);
-    say_part(output, end, templates, kind, 0, card);
+    say_part(output, template, 0, 0, card);
 }
 
-fn say_tables(output: &mut Output, end: &mut usize, m: TableMetadata) {
-    say_counts(output, end, 0, m.snapshot_log.count, m.metadata_log.count);
-    say_counts(output, end, 1, m.schemas.count, m.sort_orders.count);
+fn say_tables(output: &mut Output, m: TableMetadata) {
     say_counts(
         output,
-        end,
-        3,
+        b"  entries of the snapshot log: %0\n  entries of the metadata log: %1\n",
+        m.snapshot_log.count,
+        m.metadata_log.count,
+    );
+    say_counts(
+        output,
+        b"  schemas: %0\n  sort orders: %1\n",
+        m.schemas.count,
+        m.sort_orders.count,
+    );
+    say_counts(
+        output,
+        b"  statistics files: %0\n  partition statistics files: %1\n",
         m.statistics.count,
         m.partition_statistics.count,
     );
-    say_counts(output, end, 2, m.partition_specs.count, m.refs.count);
-    say_elements(output, end, m, OF_REFS);
+    say_counts(
+        output,
+        b"  partition specs: %0\n  refs: %1\n",
+        m.partition_specs.count,
+        m.refs.count,
+    );
+    say_elements(output, m, OF_REFS);
 }
 
-// What was left out is said of a JSON file.
-pub fn say_skipped(output: &mut Output, end: &mut usize, is_json: bool, skipped: usize) {
-    let template = b";?0{the file has nothing more at its outermost level\
+// What was left out of a JSON file.
+fn say_skipped(output: &mut Output, skipped: usize) {
+    let template = b"?0{the file has nothing more at its outermost level\
         |the file has more at its outermost level, which is not held: members: %0}\
         \nwhat its snapshots and statistics files have more is passed over, and not counted\n";
     let mut card = counted(skipped, 0);
     card.signed[0] = (skipped > 0) as i64;
-    say_part(output, end, template, is_json as usize, 0, card);
+    say_part(output, template, 0, 0, card);
 }
 
-fn say_held(output: &mut Output, end: &mut usize, name: &[u8], metadata: TableMetadata) {
-    say(output, end, b"accepted: ");
-    say_escaped(output, end, name, name.len());
-    say(output, end, b"\n");
-    say_fields(output, end, metadata.fields);
-    say_snapshots(output, end, metadata.snapshots);
-    say_tables(output, end, metadata);
+fn say_held(output: &mut Output, name: &[u8], metadata: TableMetadata) {
+    say(output, b"accepted: ");
+    say_escaped(output, name, name.len());
+    say(output, b"\n");
+    say_fields(output, metadata.fields);
+    say_snapshots(output, metadata.snapshots);
+    say_tables(output, metadata);
 }
 
-fn say_file(rt: HostRuntime, output: &mut Output, end: &mut usize, line: &[u8], held: Held) {
+fn say_file(rt: HostRuntime, output: &mut Output, line: &[u8], held: Held) {
     let mut name = io::buffer();
     let len = read_file_name(rt, line, 0, &mut name);
     if held.number == 0 {
-        say_held(output, end, &name[..len], held.metadata);
-        say_skipped(output, end, held.is_json, held.skipped);
+        say_held(output, &name[..len], held.metadata);
+        if held.is_json {
+            say_skipped(output, held.skipped);
+        }
     }
 }
 
-pub fn import(
-    rt: HostRuntime,
-    line: &[u8],
-    input: &mut Input,
-    place: &mut Place,
-    output: &mut Output,
-    end: &mut usize,
-) {
-    if are_words(rt, line, IMPORT, 1, 1, output, end) {
-        let held = read_metadata_at(rt, line, 0, input, place, output, end);
-        say_file(rt, output, end, line, held);
+pub fn import(rt: HostRuntime, line: &[u8], input: &mut Input, output: &mut Output) {
+    if are_words(rt, line, Command::Import, 1, 1, output) {
+        let held = read_metadata_at(rt, line, 0, input, output);
+        say_file(rt, output, line, held);
     }
 }

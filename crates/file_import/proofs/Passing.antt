@@ -1,7 +1,7 @@
 -- One step of the search for the version: a value that is passed over, with its comma; and a name, with its colon.
 use Prim.Native.Nat.{ℕ, suc, ◌-◌, ◌<◌, ◌≤◌}
 use native.Mathlib.Omega.{arith}
-use mathlib.Core.Path.{◌≡◌, refl, sym, ap, ◌∙◌}
+use mathlib.Core.Path.{◌≡◌, refl, sym, ap, subst, ◌∙◌}
 use mathlib.Core.Bool.{Bool, true, false, cond, ◌||◌, true≢false}
 use mathlib.Core.List.{List, [], ◌∷◌}
 use mathlib.Core.Option.{Option, none, some}
@@ -24,18 +24,13 @@ use Rattle.json_tokens.specs.declared.token.Token.{Token}
 use Rattle.json_tokens.specs.Tokens.{lexemes_at, WholeAt, BrokenAt, TokenAt}
 use Rattle.file_walk.specs.declared.seat.Seat.{Seat}
 use Rattle.file_import.specs.declared.version.Passed.{Passed}
+use Rattle.file_import.specs.declared.version.Passed.TheVariants.{At, Ended}
 use Rattle.file_walk.specs.Outcomes.{Outcome, told, of_value, Meant}
 use Rattle.file_walk.specs.Seats.{said_by}
 use Rattle.file_walk.specs.Walked.{Walked}
 use Rattle.file_import.specs.Versions.{version_from, version_next, version_behind, version_after, version_name, version_at_start}
-use Rattle.file_import.specs.Passing.{Passes}
+use Rattle.file_import.specs.Passing.{Passes, GoesOn}
 use Rattle.file_import.proofs.Versions.{no_version, no_name_lem, broken_name, no_more, no_colon, a_member}
-
--- the search has ended
-pub at_end_lem : (bs : List ℕ) (from version n : ℕ) (r : Passed) → r ≡ record { from = 0; goes_on = false; version = n } → n ≡ version → Passes bs from r version
-at_end_lem bs from version n r q e =
-    let no : (r.goes_on ≡ true → ⊥) = λ f. true≢false (sym f ∙ ap (λ (p : Passed). p.goes_on) q) in
-    record { ends = λ _. ap (λ (p : Passed). p.version) q ∙ e; goes = λ f. absurd (no f); later = λ f. absurd (no f); fits = λ f. absurd (no f) }
 
 -- ---- what a value came to
 
@@ -90,10 +85,6 @@ module _ (bs : List ℕ) (from : ℕ) (t : Token) (slots : List ℕ) (k : TokenA
   pub still_fits : t.state ≡ 1 → t.after ≤ length bs
   still_fits e = (k.whole e).fits
 
--- one more name is to come
-pub onward : (bs : List ℕ) (from later version : ℕ) → version_from (length bs) (lexemes_at bs later) ≡ version → from < later → later ≤ length bs → Passes bs from (record { from = later; goes_on = true; version = 0 }) version
-onward bs from later version e l f = record { ends = λ h. absurd (true≢false h); goes = λ _. e; later = λ _. l; fits = λ _. f }
-
 -- ---- a name and its colon
 
 scalar_no_colon : (u : Lexeme) → stands_alone u ≡ true → is_byte 58 u ≡ false
@@ -102,8 +93,8 @@ scalar_no_colon u s = cases (is_byte 58 u) (λ e. absurd (true≢false (sym s �
 
 -- one that was passed from a later place on
 pub from_later : (bs : List ℕ) (from later : ℕ) (r : Passed) (version other : ℕ) → from ≤ later → version ≡ other → Passes bs later r version → Passes bs from r other
-from_later bs from later r version other l e p =
-    record { ends = λ f. p.ends f ∙ e; goes = λ f. p.goes f ∙ e; later = λ f. omega (arith, p.later f); fits = p.fits }
+from_later bs from later (At next) version other l e p = record { goes = p.goes ∙ e; later = omega (arith, p.later); fits = p.fits }
+from_later bs from later (Ended n) version other l e p = p ∙ e
 
 module _ (bs : List ℕ) (from : ℕ) (t : Token) (slots : List ℕ) (k : TokenAt bs from t slots) where
   pub no_name_there : (t.state ≡ 1 → ⊥) → 0 ≡ version_from (length bs) (lexemes_at bs from)
@@ -176,11 +167,6 @@ is_quoted bs from t slots k e q =
 -- ---- the loop over the members
 
 -- where the search stands against the version of the whole file
-pub record Standing (bs : List ℕ) (r : Passed) : Type 0 where
-  pub ends : r.goes_on ≡ false → r.version ≡ version_at_start (length bs) (lexemes_at bs 0)
-  pub goes : r.goes_on ≡ true → version_from (length bs) (lexemes_at bs r.from) ≡ version_at_start (length bs) (lexemes_at bs 0)
-  pub fits : r.goes_on ≡ true → r.from ≤ length bs
-
 module _ (bs : List ℕ) (t : Token) (slots : List ℕ) (k : TokenAt bs 0 t slots) where
   abbrev start_of : List Lexeme → ℕ
   start_of ts = version_at_start (length bs) ts
@@ -198,24 +184,17 @@ module _ (bs : List ℕ) (t : Token) (slots : List ℕ) (k : TokenAt bs 0 t slot
       let w = k.whole e in
       sym (ap start_of w.is ∙ ap (λ (b : Bool). cond b (version_from (length bs) (lexemes_at bs t.after)) 0) (ne_eqb w.lexeme.head 123 (λ q. n (w.head ∙ q))))
 
-  pub begins : t.state ≡ 1 → t.head ≡ 123 → Standing bs (record { from = t.after; goes_on = true; version = 0 })
+  pub begins : t.state ≡ 1 → t.head ≡ 123 → version_from (length bs) (lexemes_at bs t.after) ≡ version_at_start (length bs) (lexemes_at bs 0)
   begins e q =
       let w = k.whole e in
-      record {
-        ends = λ f. absurd (true≢false f);
-        goes = λ _. sym (ap start_of w.is ∙ ap (λ (b : Bool). cond b (version_from (length bs) (lexemes_at bs t.after)) 0) (eq-eqb w.lexeme.head 123 (sym w.head ∙ q)));
-        fits = λ _. w.fits;
-      }
+      sym (ap start_of w.is ∙ ap (λ (b : Bool). cond b (version_from (length bs) (lexemes_at bs t.after)) 0) (eq-eqb w.lexeme.head 123 (sym w.head ∙ q)))
 
-module _ (bs : List ℕ) (p r : Passed) where
-  pub goes_further : Standing bs p → p.goes_on ≡ true → Passes bs p.from r (version_from (length bs) (lexemes_at bs p.from)) → Standing bs r
-  goes_further s g h = record { ends = λ f. h.ends f ∙ s.goes g; goes = λ f. h.goes f ∙ s.goes g; fits = h.fits }
+-- by what a step answered
+pub passes_at : {bs : List ℕ} {from version next : ℕ} {r : Passed} → r ≡ At next → Passes bs from r version → GoesOn bs from next version
+passes_at {bs} {from} {version} e p = subst (λ (q : Passed). Passes bs from q version) e p
 
-  pub less : (n : ℕ) → Standing bs p → p.goes_on ≡ true → Passes bs p.from r n → cond r.goes_on (suc (length bs - r.from)) 0 < cond p.goes_on (suc (length bs - p.from)) 0
-  less n s g h =
-      rw g (cases r.goes_on
-      (λ f. rw f (omega (arith, h.later f, h.fits f, s.fits g)))
-      (λ f. rw f (omega arith)))
+pub passes_ended : (bs : List ℕ) (from : ℕ) {version n : ℕ} {r : Passed} → r ≡ Ended n → Passes bs from r version → n ≡ version
+passes_ended bs from {version} e p = subst (λ (q : Passed). Passes bs from q version) e p
 
 -- ---- the same, of what the reader of values promises
 

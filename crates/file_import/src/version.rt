@@ -1,6 +1,6 @@
 // The version that a file says: 1, 2 or 3, and 0 where it is none of these. The first `format-version` decides, wherever it stands; what stands before it is passed
 // over.
-ghost use Rattle.std.specs.Prelude.{◌≡◌, ◌≤◌, true, false, length};
+ghost use Rattle.std.specs.Prelude.{◌≡◌, ◌≤◌, length};
 ghost use Rattle.json_rule.specs.Lexemes.{lexemes};
 ghost use Rattle.json_tokens.specs.Tokens.{lexemes_at};
 ghost use Rattle.json_descent.specs.Descent.{value_from};
@@ -55,20 +55,9 @@ fn version_at(bytes: &[u8], from: usize, kept: &mut Kept) -> usize
 
 // Where the search for the version stands: at the next name, or at its end.
 #[derive(Clone, Copy)]
-struct Passed {
-    from: usize,
-    goes_on: bool,
-    version: usize,
-}
-
-fn ended(version: usize) -> Passed
-    ensures { result ≡ record { from = 0; goes_on = false; version = version } }
-{
-    Passed {
-        from: 0,
-        goes_on: false,
-        version,
-    }
+enum Passed {
+    At(usize),
+    Ended(usize),
 }
 
 // A value that is passed over, and the comma behind it.
@@ -86,20 +75,16 @@ fn pass(bytes: &[u8], from: usize, kept: &mut Kept, cells: &mut Cells) -> Passed
     };
     let seat = value(bytes, kept, cells, NO_VERSION, ANYTHING, 0, 0, 1, start);
     if seat.state != READ {
-        return ended(NO_VERSION);
+        return Passed::Ended(NO_VERSION);
     }
     let comma = next(bytes, seat.from, kept);
     if comma.state != WHOLE {
-        return ended(NO_VERSION);
+        return Passed::Ended(NO_VERSION);
     }
     if comma.head != b',' {
-        return ended(NO_VERSION);
+        return Passed::Ended(NO_VERSION);
     }
-    Passed {
-        from: comma.after,
-        goes_on: true,
-        version: NO_VERSION,
-    }
+    Passed::At(comma.after)
 }
 
 // The value behind a name: the version where that is its name, and else it is passed over.
@@ -108,8 +93,7 @@ fn take_value(bytes: &[u8], from: usize, kept: &mut Kept, cells: &mut Cells, fou
     ensures { Passes bytes.now from result (version_after (length bytes.now) found (value_from (length bytes.now) 1 (lexemes_at bytes.now from))) }
 {
     if found {
-        let version = version_at(bytes, from, kept);
-        return ended(version);
+        return Passed::Ended(version_at(bytes, from, kept));
     }
     pass(bytes, from, kept, cells)
 }
@@ -120,18 +104,18 @@ fn take_member(bytes: &[u8], from: usize, kept: &mut Kept, cells: &mut Cells) ->
 {
     let name = next(bytes, from, kept);
     if name.state != WHOLE {
-        return ended(NO_VERSION);
+        return Passed::Ended(NO_VERSION);
     }
     if name.head != b'"' {
-        return ended(NO_VERSION);
+        return Passed::Ended(NO_VERSION);
     }
     let is_version = is_word(kept, name.len, b"format-version");
     let colon = next(bytes, name.after, kept);
     if colon.state != WHOLE {
-        return ended(NO_VERSION);
+        return Passed::Ended(NO_VERSION);
     }
     if colon.head != b':' {
-        return ended(NO_VERSION);
+        return Passed::Ended(NO_VERSION);
     }
     take_value(bytes, colon.after, kept, cells, is_version)
 }
@@ -147,13 +131,11 @@ pub fn version_of(bytes: &[u8], cells: &mut Cells) -> usize
     if brace.head != b'{' {
         return NO_VERSION;
     }
-    let mut passed = Passed {
-        from: brace.after,
-        goes_on: true,
-        version: NO_VERSION,
-    };
-    while passed.goes_on {
-        passed = take_member(bytes, passed.from, &mut kept, cells);
+    let mut from = brace.after;
+    loop {
+        match take_member(bytes, from, &mut kept, cells) {
+            Passed::At(next) => from = next,
+            Passed::Ended(version) => return version,
+        }
     }
-    passed.version
 }

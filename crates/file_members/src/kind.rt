@@ -8,6 +8,7 @@ use crate::spot::{
     SORT_TRANSFORM, SPEC_ID, STATISTICS_SNAPSHOT_ID,
 };
 
+// Kept: numbers, since file_cells/specs/Wants.antt numbers kinds, members and wants, and the contracts of this crate are stated over those numbers.
 pub const THE_FILE: usize = 0;
 
 pub const HELD_SNAPSHOT: usize = 1;

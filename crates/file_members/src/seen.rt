@@ -17,10 +17,7 @@ pub type Seen = [bool; FLAGS];
 fn is_lacking(version: usize, spot: usize, seen: bool) -> bool
     ensures { result ≡ eqb (standing_at version spot) 2 && not seen }
 {
-    if seen {
-        return false;
-    }
-    standing(version, spot) == REQUIRED
+    standing(version, spot) == REQUIRED && !seen
 }
 
 // One after another.
@@ -28,13 +25,10 @@ fn lacks_any(version: usize, kind: usize, seen: &Seen) -> bool
     ensures { result ≡ lacking version (first_of kind) (count_of kind) 0 seen.now }
 {
     let first = first_of(kind);
-    let count = count_of(kind);
-    let mut i = 0;
-    while i < count {
-        if is_lacking(version, first + i, seen[i]) {
+    for (i, was_seen) in seen[..count_of(kind)].iter().enumerate() {
+        if is_lacking(version, first + i, *was_seen) {
             return true;
         }
-        i += 1;
     }
     false
 }
@@ -46,11 +40,7 @@ pub fn lacks(version: usize, kind: usize, seen: &Seen) -> bool
     if lacks_any(version, kind, seen) {
         return true;
     }
-    if kind != HELD_SNAPSHOT {
-        return false;
-    }
-    if version != 3 {
-        return false;
-    }
-    seen[FIRST_ROW_ID - SNAPSHOT_ID] != seen[ADDED_ROWS - SNAPSHOT_ID]
+    kind == HELD_SNAPSHOT
+        && version == 3
+        && seen[FIRST_ROW_ID - SNAPSHOT_ID] != seen[ADDED_ROWS - SNAPSHOT_ID]
 }

@@ -14,6 +14,7 @@ use crate::spot::{
 };
 
 // Not published; of a version that is none of the three: not in each.
+// Kept: numbers, since `standing_at` of specs/Standings.antt gives them, and file_walk is proved over it.
 pub const ABSENT: u8 = 0;
 
 pub const OPTIONAL: u8 = 1;

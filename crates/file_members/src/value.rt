@@ -19,6 +19,7 @@ use json_lex::byte::is_digit;
 use json_lex::text::Kept;
 use json_members::refusal::NOT_PUBLISHED;
 
+// Kept: a number, as refusals are in `fault_in` of specs/Faults.antt.
 const RIGHT: usize = 0;
 
 // A number: of 64 bits, of 32, or of 64 without a sign.

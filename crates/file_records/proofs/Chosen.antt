@@ -1,13 +1,17 @@
 -- The current snapshot: none where it is `null`, absent or -1.
 use Prim.Native.Nat.{ℕ}
-use mathlib.Core.Path.{◌≡◌, refl, ◌∙◌}
+use mathlib.Core.Path.{◌≡◌, refl, ap, ◌∙◌}
 use mathlib.Core.Bool.{true, false, cond}
 use mathlib.Core.List.{List}
 use mathlib.Core.Option.{Option, none, some}
 use borrow.Author.Tests.{eq-eqb, ne_eqb}
 use lib.Dec.{eqb}
-use lib.IntN.{ℤ, negsuc}
-use Rattle.rules.specs.Words.{eq_z}
+use lib.IntN.{ℤ, pos, negsuc}
+use Rattle.std.specs.Prelude as prelude
+use Rattle.std.specs.Option as std
+use Rattle.records.specs.declared.counters.SnapshotId.{SnapshotId}
+use Rattle.rules.specs.Words.{eq_z, is_some, or_else}
+use Rattle.file_records.specs.Current.{laid_current}
 use Rattle.file_records.specs.Decoded.{is_there, head_of, maybe_at, or_zero_at, current_in}
 
 -- not -1
@@ -41,3 +45,13 @@ module _ (file cells : List ℕ) where
 
       pub some_current_lem : eq_z (or_zero_at file cells 5594) (negsuc 0) ≡ false → current_in file cells ≡ some (or_zero_at file cells 5594)
       some_current_lem m = by_number ∙ rw m
+
+-- ---- as an `Option`
+
+pub given_told : (o : Option ℤ) {r : prelude.Option SnapshotId} → r ≡ laid_current o → std.is_some r ≡ is_some o
+given_told none e = ap (λ (r : prelude.Option SnapshotId). std.is_some r) e
+given_told (some id) e = ap (λ (r : prelude.Option SnapshotId). std.is_some r) e
+
+pub id_told : (o : Option ℤ) {r : prelude.Option SnapshotId} → r ≡ laid_current o → (std.unwrap_or r (record { 0 = pos 0 })).0 ≡ or_else o (pos 0)
+id_told none e = ap (λ (r : prelude.Option SnapshotId). (std.unwrap_or r (record { 0 = pos 0 })).0) e
+id_told (some id) e = ap (λ (r : prelude.Option SnapshotId). (std.unwrap_or r (record { 0 = pos 0 })).0) e

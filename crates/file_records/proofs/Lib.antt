@@ -8,6 +8,7 @@ pub mod Places
 pub mod Named
 pub mod Keys
 pub mod Arranged
+pub mod Filling
 pub mod Ordered
 pub mod Chosen
 pub mod Pointed

@@ -1,16 +1,17 @@
 -- A text of what is kept of it, byte by byte, with zeros behind it.
-use Prim.Native.Nat.{ℕ, ◌+◌, ◌≤◌, ◌<◌}
-use mathlib.Core.Path.{◌≡◌, sym, ◌∙◌}
+use Prim.Native.Nat.{ℕ, zero, suc, ◌≤◌}
+use native.Mathlib.Omega.{arith}
+use mathlib.Core.Path.{◌≡◌, refl, sym, ap, ◌∙◌}
 use mathlib.Core.Bool.{true, true≢false}
-use mathlib.Core.List.{List}
-use native.Mathlib.Nat.{zero-add}
+use mathlib.Core.List.{List, [], ◌∷◌, ◌++◌}
 use borrow.Author.Tests.{eqb-true, eqb-false}
 use borrow.Table.Steps.{cases}
 use lib.Dec.{eqb}
-use lib.ListN.{get_or, set}
+use lib.ListN.{length, take, drop, replicate}
+use Rattle.std.proofs.lemmas.List.{drop-replicate}
 use Rattle.records.specs.declared.text.Name.{Name}
 use Rattle.records.specs.declared.text.Text.{Text}
-use Rattle.rules.specs.Layout.{laid_text, laid_name}
+use Rattle.rules.specs.Layout.{pad, laid_text, laid_name}
 use Rattle.json_rule.specs.Records.{uuid_of}
 use Rattle.json_rule.specs.Defects.{is_uuid}
 use Rattle.json_members.specs.Kept.{front}
@@ -18,19 +19,25 @@ use Rattle.json_members.proofs.Fronts.{front_length}
 use Rattle.json_members.proofs.Uuids.{uuid_length}
 use Rattle.json_store.specs.Puts.{uuid_bytes}
 use Rattle.json_store.proofs.Uuids.{uuid_bytes_lem}
-use Rattle.json_store.proofs.Taken.{Rest, rest_more, rest_all}
 
-pub kept_more : {kept : List ℕ} {room n : ℕ} {bytes : List ℕ} {i : ℕ} → Rest kept 0 room n bytes i → i < n → Rest kept 0 room n (set bytes i (get_or kept i 0)) (i + 1)
-kept_more {kept} {room} {n} {bytes} {i} x h = rw (zero-add i) at (rest_more x h)
+-- what is taken of enough is what is kept
+front_taken : (n : ℕ) (kept : List ℕ) → n ≤ length kept → take n kept ≡ front n kept
+unfolding front
+front_taken zero kept h = refl
+front_taken (suc n) [] h = absurd (omega arith)
+front_taken (suc n) (b ∷ kept) h = ap (λ (l : List ℕ). b ∷ l) (front_taken n kept (omega arith))
 
-module _ (kept bytes : List ℕ) (n i : ℕ) (done : n ≤ i) where
-  pub text_laid : Rest kept 0 96 n bytes i → ◌≡◌ {A = Text} (record { bytes = bytes; len = n }) (laid_text (front n kept))
+module _ (kept : List ℕ) (n : ℕ) (h : n ≤ length kept) where
+  copied : (room : ℕ) {blank : List ℕ} → blank ≡ replicate room 0 → take n kept ++ drop n blank ≡ pad room 0 (front n kept)
+  copied room e = rw (e, drop-replicate {X = ℕ} n room 0, front_taken n kept h, front_length n kept)
+
+  pub text_copied : {blank : List ℕ} → blank ≡ replicate 96 0 → ◌≡◌ {A = Text} (record { bytes = take n kept ++ drop n blank; len = n }) (laid_text (front n kept))
   unfolding laid_text
-  text_laid x = rw (rest_all x done, front_length n kept)
+  text_copied e = rw (copied 96 e, front_length n kept)
 
-  pub name_laid : Rest kept 0 32 n bytes i → ◌≡◌ {A = Name} (record { bytes = bytes; len = n }) (laid_name (front n kept))
+  pub name_copied : {blank : List ℕ} → blank ≡ replicate 32 0 → ◌≡◌ {A = Name} (record { bytes = take n kept ++ drop n blank; len = n }) (laid_name (front n kept))
   unfolding laid_name
-  name_laid x = rw (rest_all x done, front_length n kept)
+  name_copied e = rw (copied 32 e, front_length n kept)
 
 -- ---- a uuid has 36 bytes
 

@@ -1,14 +1,15 @@
--- The current snapshot behind a flag, and `main` at it.
-use Rattle.std.proofs.Math.Option.{Option, none}
-use Rattle.std.specs.Prelude.{ℤ, pos}
-use Rattle.rules.specs.Words.{is_some, or_else}
+-- The current snapshot as an `Option`, and `main` at it.
+use Rattle.std.proofs.Math.Option as math
+use Rattle.std.proofs.Math.Option.{none, some}
+use Rattle.std.specs.Prelude.{ℤ, Option, Some, None}
+use Rattle.records.specs.declared.counters.SnapshotId.{SnapshotId}
 use Rattle.rules.specs.Names.{main_name}
 use Rattle.rules.specs.WellFormed.{branch}
 use Rattle.rules.specs.Register.{NamedRef}
-use Rattle.file_records.specs.declared.current_snapshot.CurrentSnapshot.{CurrentSnapshot}
 
-unfoldable pub laid_current : Option ℤ → CurrentSnapshot
-laid_current current = record { given = is_some current; id = record { 0 = or_else current (pos 0) } }
+abbrev pub laid_current : math.Option ℤ → Option SnapshotId
+laid_current none = None
+laid_current (some id) = Some (record { 0 = id })
 
 -- `main`, a plain branch, at a snapshot
 abbrev pub main_ref : ℤ → NamedRef

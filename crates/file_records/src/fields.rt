@@ -13,7 +13,9 @@ use crate::partition::last_partition;
 use crate::table::single_decides;
 use crate::text::{text_at, uuid_at};
 use crate::value::{Cells, narrow_number, natural, number};
-use records::counters::{FieldId, RowId, SchemaId, SequenceNumber, SortOrderId, SpecId, Time};
+use records::counters::{
+    FieldId, RowId, SchemaId, SequenceNumber, SnapshotId, SortOrderId, SpecId, Time,
+};
 use records::metadata::SingleFields;
 
 // Version 1 has no sequence numbers.
@@ -61,31 +63,20 @@ fn default_spec(version: usize, bytes: &[u8], cells: &Cells) -> SpecId
 pub fn fields_of(version: usize, bytes: &[u8], cells: &Cells) -> SingleFields
     ensures { result ≡ laid_fields (fields_in bytes.now cells.now version) }
 {
-    let table_uuid = uuid_at(bytes, cells, TABLE_UUID);
-    let location = text_at(bytes, cells, LOCATION);
-    let updated = number(bytes, cells, LAST_UPDATED_MS);
-    let last_sequence_number = last_sequence(version, bytes, cells);
-    let next_row_id = next_row(version, cells);
-    let column = narrow_number(bytes, cells, LAST_COLUMN_ID);
-    let now = current(bytes, cells);
-    let current_snapshot_id = now.id;
-    let current_schema_id = current_schema(version, bytes, cells);
-    let order = number(bytes, cells, DEFAULT_SORT_ORDER_ID);
-    let default_spec_id = default_spec(version, bytes, cells);
-    let last_partition_id = last_partition(version, bytes, cells);
+    let snapshot = current(bytes, cells);
     SingleFields {
         format_version: (version % 256) as u8,
-        table_uuid,
-        location,
-        last_updated_ms: Time(updated.0),
-        last_sequence_number,
-        next_row_id,
-        last_column_id: FieldId(column.0),
-        has_current: now.given,
-        current_snapshot_id,
-        current_schema_id,
-        default_sort_order_id: SortOrderId(order.0),
-        default_spec_id,
-        last_partition_id,
+        table_uuid: uuid_at(bytes, cells, TABLE_UUID),
+        location: text_at(bytes, cells, LOCATION),
+        last_updated_ms: Time(number(bytes, cells, LAST_UPDATED_MS).0),
+        last_sequence_number: last_sequence(version, bytes, cells),
+        next_row_id: next_row(version, cells),
+        last_column_id: FieldId(narrow_number(bytes, cells, LAST_COLUMN_ID).0),
+        has_current: snapshot.is_some(),
+        current_snapshot_id: snapshot.unwrap_or(SnapshotId(0)),
+        current_schema_id: current_schema(version, bytes, cells),
+        default_sort_order_id: SortOrderId(number(bytes, cells, DEFAULT_SORT_ORDER_ID).0),
+        default_spec_id: default_spec(version, bytes, cells),
+        last_partition_id: last_partition(version, bytes, cells),
     }
 }

@@ -10,6 +10,7 @@ pub mod order;
 pub mod partition;
 pub mod record;
 pub mod refs;
+pub mod slots;
 pub mod table;
 pub mod text;
 pub mod value;

@@ -13,16 +13,11 @@ use crate::table::single_decides;
 use crate::value::{Cells, count_of, is_there, narrow_number};
 use records::capacities::{PARTITION_FIELDS, PARTITION_SPECS};
 use records::counters::FieldId;
-use search::is_below;
-use tables::keys::field_key;
 
 fn larger_id(a: FieldId, b: FieldId) -> FieldId
     ensures { result.0 ≡ larger a.0 b.0 }
 {
-    if is_below(field_key(a), field_key(b)) {
-        return b;
-    }
-    a
+    a.max(b)
 }
 
 // Of the fields of a list; 0 where there is none.
@@ -30,28 +25,23 @@ fn highest_id(bytes: &[u8], cells: &Cells, list: usize) -> FieldId
     requires { list + 65 ≤ 9047 }
     ensures { result.0 ≡ highest (map (λ (f : PartitionField). or_else f.id (pos 0)) (spec_fields_at bytes.now cells.now list)) }
 {
-    let mut id = FieldId(0);
-    let mut i = count_of(cells, list, PARTITION_FIELDS);
-    while i > 0 {
-        i -= 1;
-        let x = field_id(bytes, cells, list + 3 + i * FIELD, i);
-        id = larger_id(x, id);
+    let mut highest = FieldId(0);
+    for i in (0..count_of(cells, list, PARTITION_FIELDS)).rev() {
+        highest = larger_id(field_id(bytes, cells, list + 3 + i * FIELD, i), highest);
     }
-    id
+    highest
 }
 
 // Of all specs of the table, at least 999.
 fn largest_listed(bytes: &[u8], cells: &Cells) -> FieldId
     ensures { result.0 ≡ largest_id (each (λ i. spec_at bytes.now cells.now (item_at 67 4517 i)) (count_at cells.now 16 4517)) }
 {
-    let mut id = FieldId(999);
-    let mut i = count_of(cells, offsets::PARTITION_SPECS, PARTITION_SPECS);
-    while i > 0 {
-        i -= 1;
-        let x = highest_id(bytes, cells, offsets::PARTITION_SPECS + 3 + i * SPEC);
-        id = larger_id(x, id);
+    let mut highest = FieldId(999);
+    for i in (0..count_of(cells, offsets::PARTITION_SPECS, PARTITION_SPECS)).rev() {
+        let of_spec = highest_id(bytes, cells, offsets::PARTITION_SPECS + 3 + i * SPEC);
+        highest = larger_id(of_spec, highest);
     }
-    id
+    highest
 }
 
 fn largest_id(version: usize, bytes: &[u8], cells: &Cells) -> FieldId

@@ -5,6 +5,7 @@ ghost use Rattle.rules.specs.Layout.{laid_snapshot, laid_reference, laid_ref, la
 ghost use Rattle.file_records.specs.Decoded.{is_there, natural_at, maybe_narrow_at, snapshot_at, reference_at, ref_at, log_entry_at, file_entry_at, statistics_at, field_at, schema_at, sort_field_at, order_at, partition_field_at, spec_fields_at, spec_at};
 ghost use Rattle.file_records.specs.Positions.{placed};
 
+use crate::slots::fill;
 use crate::text::{choice, name_at, text_at, transform_at};
 use crate::value::{Cells, count_of, is_there, narrow_number, natural, number};
 use records::capacities::{PARTITION_FIELDS, SCHEMA_FIELDS, SORT_FIELDS};
@@ -176,15 +177,12 @@ pub fn schema_at(bytes: &[u8], cells: &Cells, at: usize) -> Schema
 {
     let count = count_of(cells, at + 2, SCHEMA_FIELDS);
     let mut schema = Schema::blank();
-    let mut i = 0;
-    while i < count {
-        let field = field_at(bytes, cells, at + 3 + i * FIELD);
-        schema.items[i] = field;
-        i += 1;
-    }
-    let z = narrow_number(bytes, cells, at + 259);
-    let id = SchemaId(z.0);
-    schema.schema_id = id;
+    fill(
+        &mut schema.items,
+        count,
+        |i| field_at(bytes, cells, at + 3 + i * FIELD),
+    );
+    schema.schema_id = SchemaId(narrow_number(bytes, cells, at + 259).0);
     schema.count = count;
     schema
 }
@@ -211,15 +209,12 @@ pub fn order_at(bytes: &[u8], cells: &Cells, at: usize) -> SortOrder
 {
     let count = count_of(cells, at + 2, SORT_FIELDS);
     let mut order = SortOrder::blank();
-    let mut i = 0;
-    while i < count {
-        let field = sort_field_at(bytes, cells, at + 3 + i * FIELD);
-        order.items[i] = field;
-        i += 1;
-    }
-    let z = number(bytes, cells, at);
-    let id = SortOrderId(z.0);
-    order.order_id = id;
+    fill(
+        &mut order.items,
+        count,
+        |i| sort_field_at(bytes, cells, at + 3 + i * FIELD),
+    );
+    order.order_id = SortOrderId(number(bytes, cells, at).0);
     order.count = count;
     order
 }
@@ -263,12 +258,9 @@ pub fn spec_of(bytes: &[u8], cells: &Cells, list: usize, id: SpecId) -> Partitio
 {
     let count = count_of(cells, list, PARTITION_FIELDS);
     let mut spec = PartitionSpec::blank();
-    let mut i = 0;
-    while i < count {
-        let field = partition_field_at(bytes, cells, list + 1 + i * FIELD, i);
-        spec.items[i] = field;
-        i += 1;
-    }
+    fill(&mut spec.items, count, |i| {
+        partition_field_at(bytes, cells, list + 1 + i * FIELD, i)
+    });
     spec.spec_id = id;
     spec.count = count;
     spec

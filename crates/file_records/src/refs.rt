@@ -13,8 +13,9 @@ use crate::current_snapshot::current;
 use crate::offsets;
 use crate::order::name_order;
 use crate::record::{BRANCH, ref_at};
+use crate::slots::fill;
 use crate::value::{Cells, count_of, is_there};
-use records::capacities::REFS;
+use records::capacities::{NAME, REFS};
 use records::counters::SnapshotId;
 use records::reference::{NamedRef, Refs, SnapshotReference};
 use records::text::Name;
@@ -22,58 +23,43 @@ use records::text::Name;
 fn file_refs(bytes: &[u8], cells: &Cells) -> Refs
     ensures { result ≡ laid_refs (each (λ i. ref_at bytes.now cells.now (item_at 12 8466 i)) (count_at cells.now 16 8466)) }
 {
-    let n = count_of(cells, offsets::REFS, REFS);
-    let mut t = Refs::blank();
-    let mut i = 0;
-    while i < n {
-        let x = ref_at(bytes, cells, offsets::REFS + 1 + i * offsets::REF);
-        t.items[i] = x;
-        i += 1;
-    }
-    t.count = n;
-    t
+    let count = count_of(cells, offsets::REFS, REFS);
+    let mut refs = Refs::blank();
+    fill(&mut refs.items, count, |i| {
+        ref_at(bytes, cells, offsets::REFS + 1 + i * offsets::REF)
+    });
+    refs.count = count;
+    refs
 }
 
 fn arranged(t: Refs) -> Refs
     requires { LaidRefs t }
     ensures { result ≡ laid_refs (sorted ref_below (read_refs t)) }
 {
-    let n = t.count;
     let order = name_order(t);
-    let mut r = Refs::blank();
-    let mut i = 0;
-    while i < n {
-        let k = order.items[i];
-        let x = t.items[k];
-        r.items[i] = x;
-        i += 1;
-    }
-    r.count = n;
-    r
+    let mut refs = Refs::blank();
+    fill(&mut refs.items, t.count, |i| t.items[order.items[i]]);
+    refs.count = t.count;
+    refs
 }
 
 fn main_name() -> Name
     ensures { result ≡ laid_name main_name }
 {
-    let mut name = Name::blank();
-    name.bytes[0] = b'm';
-    name.bytes[1] = b'a';
-    name.bytes[2] = b'i';
-    name.bytes[3] = b'n';
-    name.len = 4;
-    name
+    let mut bytes = [0u8; NAME];
+    bytes[..4].copy_from_slice(b"main");
+    Name { bytes, len: 4 }
 }
 
 // `main`, a plain branch.
 fn main_ref(id: SnapshotId) -> NamedRef
     ensures { result ≡ laid_ref (main_ref id.0) }
 {
-    let name = main_name();
     let mut reference = SnapshotReference::blank();
     reference.snapshot_id = id;
     reference.kind = BRANCH;
     NamedRef {
-        name,
+        name: main_name(),
         reference,
         owner: 1,
     }
@@ -83,15 +69,12 @@ fn main_ref(id: SnapshotId) -> NamedRef
 fn main_refs(bytes: &[u8], cells: &Cells) -> Refs
     ensures { result ≡ laid_refs (main_at (current_in bytes.now cells.now)) }
 {
-    let at = current(bytes, cells);
-    let mut t = Refs::blank();
-    if !at.given {
-        return t;
+    let mut refs = Refs::blank();
+    if let Some(id) = current(bytes, cells) {
+        refs.items[0] = main_ref(id);
+        refs.count = 1;
     }
-    let x = main_ref(at.id);
-    t.items[0] = x;
-    t.count = 1;
-    t
+    refs
 }
 
 pub fn refs(bytes: &[u8], cells: &Cells) -> Refs

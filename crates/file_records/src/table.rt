@@ -11,6 +11,7 @@ use crate::offsets;
 use crate::record::{
     file_entry_at, log_entry_at, order_at, schema_at, snapshot_at, spec_at, spec_of, statistics_at,
 };
+use crate::slots::fill;
 use crate::value::{Cells, count_of, is_there};
 use records::capacities::{
     METADATA_LOG, PARTITION_SPECS, SCHEMAS, SNAPSHOT_LOG, SNAPSHOTS, SORT_ORDERS, STATISTICS,
@@ -28,63 +29,57 @@ use records::statistics::StatisticsFiles;
 pub fn snapshots(bytes: &[u8], cells: &Cells) -> Snapshots
     ensures { result ≡ laid_snapshots (sorted snapshot_below (snapshots_in bytes.now cells.now)) }
 {
-    let n = count_of(cells, offsets::SNAPSHOTS, SNAPSHOTS);
+    let count = count_of(cells, offsets::SNAPSHOTS, SNAPSHOTS);
     let order = order_of(
         bytes,
         cells,
         false,
         offsets::SNAPSHOTS + 1,
         offsets::SNAPSHOT,
-        n,
+        count,
     );
-    let mut t = Snapshots::blank();
-    let mut i = 0;
-    while i < n {
-        let k = order.items[i];
-        let s = snapshot_at(bytes, cells, offsets::SNAPSHOTS + 1 + k * offsets::SNAPSHOT);
-        t.items[i] = s;
-        i += 1;
-    }
-    t.count = n;
-    t
+    let mut table = Snapshots::blank();
+    fill(&mut table.items, count, |i| {
+        snapshot_at(
+            bytes,
+            cells,
+            offsets::SNAPSHOTS + 1 + order.items[i] * offsets::SNAPSHOT,
+        )
+    });
+    table.count = count;
+    table
 }
 
 pub fn snapshot_log(bytes: &[u8], cells: &Cells) -> SnapshotLog
     ensures { result ≡ laid_snapshot_log (snapshot_log_in bytes.now cells.now) }
 {
-    let n = count_of(cells, offsets::SNAPSHOT_LOG, SNAPSHOT_LOG);
-    let mut t = SnapshotLog::blank();
-    let mut i = 0;
-    while i < n {
-        let e = log_entry_at(
+    let count = count_of(cells, offsets::SNAPSHOT_LOG, SNAPSHOT_LOG);
+    let mut log = SnapshotLog::blank();
+    fill(&mut log.items, count, |i| {
+        log_entry_at(
             bytes,
             cells,
             offsets::SNAPSHOT_LOG + 1 + i * offsets::LOG_ENTRY,
-        );
-        t.items[i] = e;
-        i += 1;
-    }
-    t.count = n;
-    t
+        )
+    });
+    log.count = count;
+    log
 }
 
 pub fn metadata_log(bytes: &[u8], cells: &Cells) -> MetadataLog
     ensures { result ≡ laid_metadata_log (metadata_log_in bytes.now cells.now) }
 {
-    let n = count_of(cells, offsets::METADATA_LOG, METADATA_LOG);
-    let mut t = MetadataLog::blank();
-    let mut i = 0;
-    while i < n {
-        let e = file_entry_at(
+    let count = count_of(cells, offsets::METADATA_LOG, METADATA_LOG);
+    let mut log = MetadataLog::blank();
+    fill(&mut log.items, count, |i| {
+        file_entry_at(
             bytes,
             cells,
             offsets::METADATA_LOG + 1 + i * offsets::LOG_ENTRY,
-        );
-        t.items[i] = e;
-        i += 1;
-    }
-    t.count = n;
-    t
+        )
+    });
+    log.count = count;
+    log
 }
 
 // Of either table, by the place of its list.
@@ -92,18 +87,25 @@ pub fn statistics(bytes: &[u8], cells: &Cells, list: usize) -> StatisticsFiles
     requires { list + 193 ≤ 9047 }
     ensures { result ≡ laid_statistics (sorted statistics_below (statistics_in bytes.now cells.now list)) }
 {
-    let n = count_of(cells, list, STATISTICS);
-    let order = order_of(bytes, cells, false, list + 1, offsets::STATISTICS_FILE, n);
-    let mut t = StatisticsFiles::blank();
-    let mut i = 0;
-    while i < n {
-        let k = order.items[i];
-        let f = statistics_at(bytes, cells, list + 1 + k * offsets::STATISTICS_FILE);
-        t.items[i] = f;
-        i += 1;
-    }
-    t.count = n;
-    t
+    let count = count_of(cells, list, STATISTICS);
+    let order = order_of(
+        bytes,
+        cells,
+        false,
+        list + 1,
+        offsets::STATISTICS_FILE,
+        count,
+    );
+    let mut table = StatisticsFiles::blank();
+    fill(&mut table.items, count, |i| {
+        statistics_at(
+            bytes,
+            cells,
+            list + 1 + order.items[i] * offsets::STATISTICS_FILE,
+        )
+    });
+    table.count = count;
+    table
 }
 
 // ---- schemas, partition specs and sort orders
@@ -125,35 +127,34 @@ pub fn single_decides(version: usize, cells: &Cells, table: usize, chosen: usize
 fn one_schema(bytes: &[u8], cells: &Cells) -> Schemas
     ensures { result ≡ laid_schemas (schema_at bytes.now cells.now 12 ∷ []) }
 {
-    let mut t = Schemas::blank();
-    let s = schema_at(bytes, cells, offsets::SINGLE_SCHEMA);
-    t.items[0] = s;
-    t.count = 1;
-    t
+    let mut table = Schemas::blank();
+    table.items[0] = schema_at(bytes, cells, offsets::SINGLE_SCHEMA);
+    table.count = 1;
+    table
 }
 
 fn all_schemas(bytes: &[u8], cells: &Cells) -> Schemas
     ensures { result ≡ laid_schemas (sorted schema_below (each (λ i. schema_at bytes.now cells.now (item_at 261 273 i)) (count_at cells.now 16 273))) }
 {
-    let n = count_of(cells, offsets::SCHEMAS, SCHEMAS);
+    let count = count_of(cells, offsets::SCHEMAS, SCHEMAS);
     let order = order_of(
         bytes,
         cells,
         true,
         offsets::SCHEMAS + 1 + offsets::SCHEMA_ID,
         offsets::SCHEMA,
-        n,
+        count,
     );
-    let mut t = Schemas::blank();
-    let mut i = 0;
-    while i < n {
-        let k = order.items[i];
-        let s = schema_at(bytes, cells, offsets::SCHEMAS + 1 + k * offsets::SCHEMA);
-        t.items[i] = s;
-        i += 1;
-    }
-    t.count = n;
-    t
+    let mut table = Schemas::blank();
+    fill(&mut table.items, count, |i| {
+        schema_at(
+            bytes,
+            cells,
+            offsets::SCHEMAS + 1 + order.items[i] * offsets::SCHEMA,
+        )
+    });
+    table.count = count;
+    table
 }
 
 pub fn schemas(version: usize, bytes: &[u8], cells: &Cells) -> Schemas
@@ -168,39 +169,34 @@ pub fn schemas(version: usize, bytes: &[u8], cells: &Cells) -> Schemas
 fn one_spec(bytes: &[u8], cells: &Cells) -> PartitionSpecs
     ensures { result ≡ laid_partition_specs (record { id = pos 0; fields = spec_fields_at bytes.now cells.now 4452 } ∷ []) }
 {
-    let mut t = PartitionSpecs::blank();
-    let s = spec_of(bytes, cells, offsets::SINGLE_SPEC, SpecId(0));
-    t.items[0] = s;
-    t.count = 1;
-    t
+    let mut table = PartitionSpecs::blank();
+    table.items[0] = spec_of(bytes, cells, offsets::SINGLE_SPEC, SpecId(0));
+    table.count = 1;
+    table
 }
 
 fn all_specs(bytes: &[u8], cells: &Cells) -> PartitionSpecs
     ensures { result ≡ laid_partition_specs (sorted spec_below (each (λ i. spec_at bytes.now cells.now (item_at 67 4517 i)) (count_at cells.now 16 4517))) }
 {
-    let n = count_of(cells, offsets::PARTITION_SPECS, PARTITION_SPECS);
+    let count = count_of(cells, offsets::PARTITION_SPECS, PARTITION_SPECS);
     let order = order_of(
         bytes,
         cells,
         true,
         offsets::PARTITION_SPECS + 1,
         offsets::SPEC,
-        n,
+        count,
     );
-    let mut t = PartitionSpecs::blank();
-    let mut i = 0;
-    while i < n {
-        let k = order.items[i];
-        let s = spec_at(
+    let mut table = PartitionSpecs::blank();
+    fill(&mut table.items, count, |i| {
+        spec_at(
             bytes,
             cells,
-            offsets::PARTITION_SPECS + 1 + k * offsets::SPEC,
-        );
-        t.items[i] = s;
-        i += 1;
-    }
-    t.count = n;
-    t
+            offsets::PARTITION_SPECS + 1 + order.items[i] * offsets::SPEC,
+        )
+    });
+    table.count = count;
+    table
 }
 
 pub fn partition_specs(version: usize, bytes: &[u8], cells: &Cells) -> PartitionSpecs
@@ -220,25 +216,25 @@ pub fn partition_specs(version: usize, bytes: &[u8], cells: &Cells) -> Partition
 fn all_orders(bytes: &[u8], cells: &Cells) -> SortOrders
     ensures { result ≡ laid_sort_orders (sorted order_below (each (λ i. order_at bytes.now cells.now (item_at 67 7391 i)) (count_at cells.now 16 7391))) }
 {
-    let n = count_of(cells, offsets::SORT_ORDERS, SORT_ORDERS);
+    let count = count_of(cells, offsets::SORT_ORDERS, SORT_ORDERS);
     let order = order_of(
         bytes,
         cells,
         false,
         offsets::SORT_ORDERS + 1,
         offsets::ORDER,
-        n,
+        count,
     );
-    let mut t = SortOrders::blank();
-    let mut i = 0;
-    while i < n {
-        let k = order.items[i];
-        let o = order_at(bytes, cells, offsets::SORT_ORDERS + 1 + k * offsets::ORDER);
-        t.items[i] = o;
-        i += 1;
-    }
-    t.count = n;
-    t
+    let mut table = SortOrders::blank();
+    fill(&mut table.items, count, |i| {
+        order_at(
+            bytes,
+            cells,
+            offsets::SORT_ORDERS + 1 + order.items[i] * offsets::ORDER,
+        )
+    });
+    table.count = count;
+    table
 }
 
 // Where there is no table, the order 0 without fields, which is blank.

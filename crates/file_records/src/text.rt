@@ -8,6 +8,7 @@ ghost use Rattle.json_store.specs.Puts.{uuid_bytes};
 ghost use Rattle.json_tokens.specs.Tokens.{lexemes_at};
 ghost use Rattle.file_records.specs.Decoded.{said_by, up_to, text_at, uuid_at};
 
+use crate::slots::fill;
 use crate::value::{Cells, is_there, place_of};
 use json_lex::text::{KEPT, Kept};
 use json_members::bucket::{Transform, transform_of};
@@ -49,28 +50,18 @@ fn text_of(kept: &Kept, len: usize) -> Text
     requires { len ≤ 96 }
     ensures { result ≡ laid_text (front len kept.now) }
 {
-    let mut text = Text::blank();
-    let mut i = 0;
-    while i < len {
-        text.bytes[i] = kept[i];
-        i += 1;
-    }
-    text.len = len;
-    text
+    let mut bytes = [0u8; TEXT];
+    bytes[..len].copy_from_slice(&kept[..len]);
+    Text { bytes, len }
 }
 
 fn name_of(kept: &Kept, len: usize) -> Name
     requires { len ≤ 32 }
     ensures { result ≡ laid_name (front len kept.now) }
 {
-    let mut name = Name::blank();
-    let mut i = 0;
-    while i < len {
-        name.bytes[i] = kept[i];
-        i += 1;
-    }
-    name.len = len;
-    name
+    let mut bytes = [0u8; NAME];
+    bytes[..len].copy_from_slice(&kept[..len]);
+    Name { bytes, len }
 }
 
 // A location, the name of a metadata file, or the path of a statistics file.
@@ -121,11 +112,7 @@ fn uuid_of(kept: &Kept) -> [u8; 16]
     ensures { result ≡ uuid_bytes kept.now 0 16 }
 {
     let mut uuid = [0u8; 16];
-    let mut i = 0;
-    while i < 16 {
-        uuid[i] = byte_of(kept, i);
-        i += 1;
-    }
+    fill(&mut uuid, 16, |i| byte_of(kept, i));
     uuid
 }
 

@@ -1,6 +1,6 @@
 // A value by the first of its two cells: one more than its place in the file, or 0 where it is absent; and the magnitude of a number, whose sign is the byte at
 // its place. A list by its first cell: one more than how many it has, or 0.
-ghost use Rattle.std.specs.Prelude.{◌≡◌, ◌+◌, ◌<◌};
+ghost use Rattle.std.specs.Prelude.{◌≡◌, ◌+◌, ◌<◌, ◌≤◌};
 ghost use Rattle.file_records.specs.Decoded.{is_there, place_of, natural_at, count_at, head_of, number_at, or_zero_at, or_zero_narrow_at};
 
 use json_store::numbers::{Narrow, Whole, narrowed, signed};
@@ -41,9 +41,11 @@ pub fn head_of(bytes: &[u8], cells: &Cells, at: usize) -> u8
 }
 
 // How many a list has, at most as many as there is room for.
+#[tactic(auto, unfolding(crate::specs::Decoded::count_at, crate::specs::Decoded::place_of))]
 pub fn count_of(cells: &Cells, list: usize, room: usize) -> usize
     requires { list < 9047 }
-    ensures { result ≡ count_at cells.now room list }
+    ensures count { result ≡ count_at cells.now room list }
+    ensures within { result ≤ room }
 {
     let count = place_of(cells, list);
     if count <= room {

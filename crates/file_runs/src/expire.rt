@@ -1,17 +1,14 @@
 // expire FILE --clock TIME ..: what goes and what stays of a metadata file, and the list for it.
 use case_reader::more::Given;
-use command::read_word;
 use expiries::asked::{Asked, terms_of};
 use expiries::told::{find, say_outcome, tell};
 use expiry::expiring_updates;
 use expiry::policy::Policy;
-use file_commands::asked::{EXPIRE, are_words, is_there, read_terms};
+use file_commands::asked::{are_words, is_there, read_terms};
 use file_commands::read::read_metadata_at;
 use file_sheets::session::write_list;
-use file_words::option::{
-    CLOCK, MAX_REF_AGE, MAX_SNAPSHOT_AGE, MIN_SNAPSHOTS, OPTIONS, OUT, has, place_behind,
-    say_no_value,
-};
+use file_words::Command;
+use file_words::option::{Switch, has, read_behind, say_no_value};
 use file_words::terms::number_behind;
 use json_store::numbers::{Whole, narrowed};
 use plaintext::text::say;
@@ -21,7 +18,7 @@ use records::run::RunTerms;
 use records::update::UpdateList;
 use report::answer::fault_of;
 use std::rt::HostRuntime;
-use tokens::input::{Input, Place};
+use tokens::input::Input;
 use tokens::output::Output;
 
 // Where nothing is said: one snapshot, five days, and refs for ever, as the public document has them.
@@ -31,37 +28,40 @@ const FIVE_DAYS_MS: i64 = 432000000;
 
 const FOR_EVER_MS: i64 = i64::MAX;
 
-// A count that does not fit its field is 0, which the expiry refuses.
-fn policy_of(rt: HostRuntime, line: &[u8], terms: RunTerms) -> Policy {
-    let least = number_behind(rt, line, MIN_SNAPSHOTS, ONE_SNAPSHOT);
-    let age = number_behind(rt, line, MAX_SNAPSHOT_AGE, FIVE_DAYS_MS);
-    let ref_age = number_behind(rt, line, MAX_REF_AGE, FOR_EVER_MS);
-    let clock_ms = terms.clock_ms;
-    let count = narrowed(Whole(least.number));
-    Policy {
-        clock_ms,
-        min_snapshots: MinSnapshots(count.0),
-        max_snapshot_age_ms: Age(age.number),
-        max_ref_age_ms: Age(ref_age.number),
-        office: terms.office,
-    }
+// What is kept where a branch or a ref says nothing.
+#[derive(Clone, Copy)]
+struct Kept {
+    snapshots: i64,
+    age_ms: i64,
+    ref_age_ms: i64,
 }
 
-// The first of the three whose value is no number.
-fn fault_in(rt: HostRuntime, line: &[u8]) -> usize {
-    let least = number_behind(rt, line, MIN_SNAPSHOTS, ONE_SNAPSHOT);
-    let age = number_behind(rt, line, MAX_SNAPSHOT_AGE, FIVE_DAYS_MS);
-    let ref_age = number_behind(rt, line, MAX_REF_AGE, FOR_EVER_MS);
-    if !least.is_number {
-        return MIN_SNAPSHOTS;
+// The number behind an option; the option where its value is none.
+fn number_of(rt: HostRuntime, line: &[u8], option: Switch, other: i64) -> Result<i64, Switch> {
+    number_behind(rt, line, option, other).ok_or(option)
+}
+
+// Or the first of the three options whose value is no number.
+fn kept_by(rt: HostRuntime, line: &[u8]) -> Result<Kept, Switch> {
+    let snapshots = number_of(rt, line, Switch::MinSnapshots, ONE_SNAPSHOT)?;
+    let age_ms = number_of(rt, line, Switch::MaxSnapshotAge, FIVE_DAYS_MS)?;
+    let ref_age_ms = number_of(rt, line, Switch::MaxRefAge, FOR_EVER_MS)?;
+    Ok(Kept {
+        snapshots,
+        age_ms,
+        ref_age_ms,
+    })
+}
+
+// A count that does not fit its field is 0, which the expiry refuses.
+fn policy_of(kept: Kept, terms: RunTerms) -> Policy {
+    Policy {
+        clock_ms: terms.clock_ms,
+        min_snapshots: MinSnapshots(narrowed(Whole(kept.snapshots)).0),
+        max_snapshot_age_ms: Age(kept.age_ms),
+        max_ref_age_ms: Age(kept.ref_age_ms),
+        office: terms.office,
     }
-    if !age.is_number {
-        return MAX_SNAPSHOT_AGE;
-    }
-    if !ref_age.is_number {
-        return MAX_REF_AGE;
-    }
-    OPTIONS
 }
 
 // What the run of the list answers.
@@ -79,10 +79,10 @@ fn outcome_of(m: TableMetadata, us: UpdateList, terms: RunTerms) -> Outcome {
     }
 }
 
-fn write_out(rt: HostRuntime, line: &[u8], list: UpdateList, output: &mut Output, end: &mut usize) {
+fn write_out(rt: HostRuntime, line: &[u8], list: UpdateList, output: &mut Output) {
     let mut name = io::buffer();
-    let len = read_word(rt, line, place_behind(rt, line, OUT), &mut name);
-    write_list(rt, &name[..len], list, output, end);
+    let len = read_behind(rt, line, Switch::Out, &mut name);
+    write_list(rt, &name[..len], list, output);
 }
 
 // The list is written where that is asked for. Whether there is one.
@@ -93,7 +93,6 @@ fn say_expired(
     metadata: TableMetadata,
     policy: Policy,
     output: &mut Output,
-    end: &mut usize,
 ) -> bool {
     let terms = terms_of(policy);
     let expiry = expiring_updates(metadata, policy);
@@ -105,52 +104,50 @@ fn say_expired(
         policy,
         given,
     };
-    tell(output, end, 1, 1, asked, expiry, found);
+    tell(output, 1, 1, asked, expiry, found);
     if expiry.number == 0 {
         let run = outcome_of(metadata, expiry.updates, terms);
-        say_outcome(output, end, run.number, run.place);
+        say_outcome(output, run.number, run.place);
         if is_written {
-            write_out(rt, line, expiry.updates, output, end);
+            write_out(rt, line, expiry.updates, output);
         }
     }
     expiry.number == 0
 }
 
-fn is_asked(rt: HostRuntime, line: &[u8], output: &mut Output, end: &mut usize) -> bool {
-    if !are_words(rt, line, EXPIRE, 1, 1, output, end) {
-        return false;
+// What the words ask, where they are those of the command.
+fn read_kept(rt: HostRuntime, line: &[u8], output: &mut Output) -> Option<Kept> {
+    if !are_words(rt, line, Command::Expire, 1, 1, output) {
+        return None;
     }
-    let fault = fault_in(rt, line);
-    if fault < OPTIONS {
-        say_no_value(rt, output, end, line, fault);
-        return false;
+    match kept_by(rt, line) {
+        Ok(kept) if is_there(rt, line, Switch::Clock, output) => Some(kept),
+        Ok(_) => None,
+        Err(option) => {
+            say_no_value(rt, output, line, option);
+            None
+        }
     }
-    is_there(rt, line, CLOCK, output, end)
 }
 
-pub fn expire(
-    rt: HostRuntime,
-    line: &[u8],
-    input: &mut Input,
-    place: &mut Place,
-    output: &mut Output,
-    end: &mut usize,
-) {
-    if is_asked(rt, line, output, end) {
-        let asked = read_terms(rt, line, output, end);
-        if asked.fault == OPTIONS {
-            let held = read_metadata_at(rt, line, 0, input, place, output, end);
-            if held.number == 0 {
-                let policy = policy_of(rt, line, asked.terms);
-                if has(rt, line, OUT) {
-                    let is_made = say_expired(rt, line, true, held.metadata, policy, output, end);
-                    if !is_made {
-                        say(output, end, b"no file is written\n");
-                    }
-                } else {
-                    say_expired(rt, line, false, held.metadata, policy, output, end);
-                }
-            }
+pub fn expire(rt: HostRuntime, line: &[u8], input: &mut Input, output: &mut Output) {
+    let Some(kept) = read_kept(rt, line, output) else {
+        return;
+    };
+    let Some(asked) = read_terms(rt, line, output) else {
+        return;
+    };
+    let held = read_metadata_at(rt, line, 0, input, output);
+    if held.number != 0 {
+        return;
+    }
+    let policy = policy_of(kept, asked.terms);
+    if has(rt, line, Switch::Out) {
+        let is_made = say_expired(rt, line, true, held.metadata, policy, output);
+        if !is_made {
+            say(output, b"no file is written\n");
         }
+    } else {
+        say_expired(rt, line, false, held.metadata, policy, output);
     }
 }

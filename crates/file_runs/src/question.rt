@@ -1,12 +1,11 @@
 // The question of a replay and of an audit: two metadata, a stored log and the terms of its run.
 use case_reader::limit_text::LimitText;
-use compare::difference::Difference;
 use file_commands::read::{read_list_at, read_metadata_at};
-use file_words::option::{CLOCK, FILE, has};
+use file_words::option::{Switch, has};
 use file_words::terms::Asked;
 use named_files::metadata::Held;
 use records::capacities::{METADATA_LOG, OFFERS};
-use records::counters::{Age, Time};
+use records::counters::Time;
 use records::metadata::{MetadataLog, MetadataLogEntry, TableMetadata};
 use records::run::RunTerms;
 use records::update::UpdateList;
@@ -14,7 +13,7 @@ use report::answer::fault_of;
 use report::judged::Judged;
 use slot_bounds::lent;
 use std::rt::HostRuntime;
-use tokens::input::{Input, Place};
+use tokens::input::Input;
 use tokens::output::Output;
 use verdict::Verdict;
 
@@ -25,10 +24,9 @@ const LOG: usize = 1;
 
 const THIS: usize = 2;
 
-// What is found, if the three files were read: the verdict, the terms that were asked with, and how many members of each metadata file are not held.
+// What is found: the verdict, the terms that were asked with, and how many members of each metadata file are not held.
 #[derive(Clone, Copy)]
 pub struct Found {
-    pub is_found: bool,
     pub judged: Judged,
     pub terms: RunTerms,
     pub skipped: usize,
@@ -37,12 +35,8 @@ pub struct Found {
 
 // The last entry of a metadata log; a blank one where there is none.
 fn last_entry(log: MetadataLog) -> MetadataLogEntry {
-    let count = log.count;
-    if 0 < count {
-        let last = count - 1;
-        if last < METADATA_LOG {
-            return log.items[last];
-        }
+    if 0 < log.count && log.count <= METADATA_LOG {
+        return log.items[log.count - 1];
     }
     MetadataLogEntry::blank()
 }
@@ -58,13 +52,12 @@ fn with_read_off(
     log: MetadataLog,
 ) -> RunTerms {
     let entry = last_entry(log);
-    if !has(rt, line, CLOCK) {
+    if !has(rt, line, Switch::Clock) {
         terms.clock_ms = last_update;
     }
-    if !has(rt, line, FILE) && log.count > 0 && entry.timestamp_ms.0 == start.0 {
-        let file = entry.metadata_file;
+    if !has(rt, line, Switch::File) && log.count > 0 && entry.timestamp_ms.0 == start.0 {
         terms.has_file = true;
-        terms.file = file;
+        terms.file = entry.metadata_file;
     }
     terms
 }
@@ -84,65 +77,36 @@ fn judge(
 }
 
 fn judged_of(verdict: Verdict, fault: u8, terms: RunTerms) -> Judged {
-    let difference = verdict.difference;
-    let tolerance_ms = terms.tolerance_ms;
     Judged {
         number: verdict.number,
         place: verdict.place,
         fault,
-        difference,
-        tolerance_ms,
+        difference: verdict.difference,
+        tolerance_ms: terms.tolerance_ms,
         office: terms.office,
     }
 }
 
-// Before anything is judged.
-fn unjudged() -> Judged {
-    let difference = Difference { part: 0, place: 0 };
-    Judged {
-        number: 0,
-        place: 0,
-        fault: 0,
-        difference,
-        tolerance_ms: Age(0),
-        office: 0,
-    }
-}
-
-fn nothing(terms: RunTerms) -> Found {
-    let judged = unjudged();
-    Found {
-        is_found: false,
-        judged,
-        terms,
-        skipped: 0,
-        skipped_then: 0,
-    }
-}
-
-// The files are read and judged in one place, and not handed on, so that less stack is needed.
+// Nothing where one of the three files could not be read. They are read and judged in one place, and not handed on, so that less stack is needed.
 pub fn find(
     rt: HostRuntime,
     line: &[u8],
     asked: Asked,
     offers: &mut [u8; OFFERS],
     input: &mut Input,
-    place: &mut Place,
     output: &mut Output,
-    end: &mut usize,
-) -> Found {
-    let mut found = nothing(asked.terms);
-    let start: Held = read_metadata_at(rt, line, LAST, input, place, output, end);
+) -> Option<Found> {
+    let start: Held = read_metadata_at(rt, line, LAST, input, output);
     if start.number != 0 {
-        return found;
+        return None;
     }
-    let ending: Held = read_metadata_at(rt, line, THIS, input, place, output, end);
+    let ending: Held = read_metadata_at(rt, line, THIS, input, output);
     if ending.number != 0 {
-        return found;
+        return None;
     }
-    let listed = read_list_at(rt, line, LOG, offers, input, place, output, end);
+    let listed = read_list_at(rt, line, LOG, offers, input, output);
     if listed.number != 0 {
-        return found;
+        return None;
     }
     let slots: &[u8] = offers;
     let terms = with_read_off(
@@ -162,10 +126,10 @@ pub fn find(
         ending.metadata,
     );
     let fault = fault_of(verdict.number, start.metadata, terms);
-    found.is_found = true;
-    found.judged = judged_of(verdict, fault, terms);
-    found.terms = terms;
-    found.skipped = start.skipped;
-    found.skipped_then = ending.skipped;
-    found
+    Some(Found {
+        judged: judged_of(verdict, fault, terms),
+        terms,
+        skipped: start.skipped,
+        skipped_then: ending.skipped,
+    })
 }

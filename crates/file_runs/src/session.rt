@@ -2,10 +2,11 @@
 use case_reader::limit_text::LimitText;
 use case_reader::more::Given;
 use case_reader::run::Run;
-use file_commands::asked::{RUN, are_words, is_there, read_terms};
+use file_commands::asked::{are_words, is_there, read_terms};
 use file_commands::read::{read_list_behind, read_metadata_at};
 use file_sheets::session::write_session;
-use file_words::option::{CLOCK, EXPIRED, LOG, OPTIONS, OUT, UPDATES, has};
+use file_words::Command;
+use file_words::option::{Switch, has};
 use file_words::terms::Asked;
 use plaintext::text::say;
 use records::capacities::OFFERS;
@@ -16,7 +17,7 @@ use report::answer::say_answer;
 use report::asked::say_asked;
 use slot_bounds::lent;
 use std::rt::HostRuntime;
-use tokens::input::{Input, Place};
+use tokens::input::Input;
 use tokens::output::Output;
 
 fn ask(
@@ -34,7 +35,6 @@ fn ask(
 
 fn say_start(
     output: &mut Output,
-    end: &mut usize,
     asked: Asked,
     metadata: TableMetadata,
     updates: UpdateList,
@@ -50,7 +50,7 @@ fn say_start(
         updates,
         given,
     };
-    say_asked(output, end, 1, run, offers);
+    say_asked(output, 1, run, offers);
 }
 
 // Files are made of an accepted run alone, if any are asked for. Whether it is accepted.
@@ -63,13 +63,12 @@ fn run_held(
     updates: UpdateList,
     offers: &[u8],
     output: &mut Output,
-    end: &mut usize,
 ) -> bool {
-    say_start(output, end, asked, metadata, updates, offers);
+    say_start(output, asked, metadata, updates, offers);
     let answer = ask(asked.limit, metadata, updates, asked.terms, offers);
-    say_answer(output, end, asked.terms, answer, offers);
+    say_answer(output, asked.terms, answer, offers);
     if answer.number == 0 && is_written {
-        if has(rt, line, OUT) {
+        if has(rt, line, Switch::Out) {
             write_session(
                 rt,
                 line,
@@ -78,12 +77,10 @@ fn run_held(
                 answer.expired,
                 offers,
                 output,
-                end,
             );
         } else {
             say(
                 output,
-                end,
                 b"the new metadata is not written: no --out is given\n",
             );
             write_session(
@@ -94,7 +91,6 @@ fn run_held(
                 answer.expired,
                 offers,
                 output,
-                end,
             );
         }
     }
@@ -103,7 +99,7 @@ fn run_held(
 
 // Whether a file is to be made.
 fn asks_for_file(rt: HostRuntime, line: &[u8]) -> bool {
-    has(rt, line, OUT) || has(rt, line, LOG) || has(rt, line, EXPIRED)
+    has(rt, line, Switch::Out) || has(rt, line, Switch::Log) || has(rt, line, Switch::Expired)
 }
 
 // The run is called from two places, so that its stack does not lie below the reading of files.
@@ -113,13 +109,11 @@ fn read_and_run(
     asked: Asked,
     offers: &mut [u8; OFFERS],
     input: &mut Input,
-    place: &mut Place,
     output: &mut Output,
-    end: &mut usize,
 ) {
-    let held = read_metadata_at(rt, line, 0, input, place, output, end);
+    let held = read_metadata_at(rt, line, 0, input, output);
     if held.number == 0 {
-        let listed = read_list_behind(rt, line, UPDATES, offers, input, place, output, end);
+        let listed = read_list_behind(rt, line, Switch::Updates, offers, input, output);
         let slots: &[u8] = offers;
         if listed.number != 0 {
             return;
@@ -134,10 +128,9 @@ fn read_and_run(
                 listed.list,
                 slots,
                 output,
-                end,
             );
             if !is_accepted {
-                say(output, end, b"no file is written\n");
+                say(output, b"no file is written\n");
             }
         } else {
             run_held(
@@ -149,20 +142,16 @@ fn read_and_run(
                 listed.list,
                 slots,
                 output,
-                end,
             );
         }
     }
 }
 
-fn is_asked(rt: HostRuntime, line: &[u8], output: &mut Output, end: &mut usize) -> bool {
-    if !are_words(rt, line, RUN, 1, 1, output, end) {
+fn is_asked(rt: HostRuntime, line: &[u8], output: &mut Output) -> bool {
+    if !are_words(rt, line, Command::Run, 1, 1, output) {
         return false;
     }
-    if !is_there(rt, line, CLOCK, output, end) {
-        return false;
-    }
-    is_there(rt, line, UPDATES, output, end)
+    is_there(rt, line, Switch::Clock, output) && is_there(rt, line, Switch::Updates, output)
 }
 
 pub fn run(
@@ -170,14 +159,11 @@ pub fn run(
     line: &[u8],
     offers: &mut [u8; OFFERS],
     input: &mut Input,
-    place: &mut Place,
     output: &mut Output,
-    end: &mut usize,
 ) {
-    if is_asked(rt, line, output, end) {
-        let asked = read_terms(rt, line, output, end);
-        if asked.fault == OPTIONS {
-            read_and_run(rt, line, asked, offers, input, place, output, end);
+    if is_asked(rt, line, output) {
+        if let Some(asked) = read_terms(rt, line, output) {
+            read_and_run(rt, line, asked, offers, input, output);
         }
     }
 }

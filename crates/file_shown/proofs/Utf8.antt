@@ -1,21 +1,18 @@
 -- A text is UTF-8 exactly if every byte fits where it stands, and no character is left open at the end.
 use Prim.Native.Nat.{ℕ, zero, suc, ◌+◌, ◌-◌, ◌≤◌, ◌<◌}
-use native.Mathlib.Numerals.{add-one}
 use native.Mathlib.Omega.{arith}
 use mathlib.Core.Path.{◌≡◌, refl, sym, ap, ◌∙◌}
-use mathlib.Core.Bool.{Bool, false, ◌&&◌, and_assoc}
+use mathlib.Core.Bool.{true, false, ◌&&◌}
 use mathlib.Core.List.{List, [], ◌∷◌}
-use mathlib.Core.Logic.{◌⊎◌, ⊎_elim}
 use borrow.Author.Tests.{le-leb, ne_eqb}
 use borrow.Table.Steps.{cases}
 use lib.Dec.{eqb, leb}
-use lib.ListN.{length, get_or, drop, drop_of_length-le}
-use lib.Seq.{drop-cons}
+use lib.ListN.{get_or, drop, drop_of_length-le}
 use Rattle.json_rule.specs.Lexemes.{lead_of}
 use Rattle.rules.specs.Layout.{counted}
 use Rattle.rules.proofs.Slots.Relaid.{length_counted}
 use Rattle.file_rule.specs.Export.{is_utf8, goes_on}
-use Rattle.file_text.proofs.Slots.{there, not_there}
+use Rattle.file_text.proofs.Slots.{from_slot}
 use Rattle.file_shown.specs.Characters.{leading, fits_byte, after_byte, goes_on_so}
 use Rattle.file_shown.specs.declared.character.Character.{Character}
 
@@ -43,23 +40,16 @@ pub starts : (bs : List ℕ) → is_utf8 bs ≡ goes_on_so (record { left = 0; l
 unfolding goes_on_so
 starts bs = refl
 
-module _ (l : List ℕ) (n : ℕ) where
-  -- what is counted from a place on
-  pub from_at : (d i x : ℕ) → i < n → ((i < length l) × (x ≡ get_or l i d)) ⊎ ((length l ≤ i) × (x ≡ 0)) → drop i (counted 0 l n) ≡ x ∷ drop (i + 1) (counted 0 l n)
-  from_at d i x h w =
-      let slot : get_or (counted 0 l n) i d ≡ x = ⊎_elim (λ p. there 0 l n i d h p.0 ∙ sym p.1) (λ q. not_there 0 l n i d h q.0 ∙ sym q.1) w in
-      drop-cons (counted 0 l n) i d (omega (arith, length_counted 0 l n)) ∙ rw (slot, ← add-one i)
+module _ (l : List ℕ) (n i : ℕ) (c : Character) (e : is_utf8 (counted 0 l n) ≡ goes_on_so c (drop i (counted 0 l n))) where
+  module _ (x : ℕ) (h : i < n) (q : x ≡ get_or l i 0) where
+    here : is_utf8 (counted 0 l n) ≡ (fits_byte c x && goes_on_so (after_byte c x) (drop (i + 1) (counted 0 l n)))
+    here = e ∙ ap (goes_on_so c) (from_slot 0 l n i h ∙ ap (λ (y : ℕ). y ∷ drop (i + 1) (counted 0 l n)) (sym q)) ∙ goes_on_lem c x (drop (i + 1) (counted 0 l n))
 
-  pub fits_on : (c next : Character) (ok z : Bool) (d i x : ℕ) → is_utf8 (counted 0 l n) ≡ (ok && goes_on_so c (drop i (counted 0 l n))) → i < n → ((i < length l) × (x ≡ get_or l i d)) ⊎ ((length l ≤ i) × (x ≡ 0))
-      → z ≡ fits_byte c x → next ≡ after_byte c x → is_utf8 (counted 0 l n) ≡ ((ok && z) && goes_on_so next (drop (i + 1) (counted 0 l n)))
-  fits_on c next ok z d i x e h w f a =
-      e ∙ ap (λ (k : List ℕ). ok && goes_on_so c k) (from_at d i x h w) ∙ ap (λ (t : Bool). ok && t) (goes_on_lem c x (drop (i + 1) (counted 0 l n)))
-      ∙ sym (and_assoc ok (fits_byte c x) (goes_on_so (after_byte c x) (drop (i + 1) (counted 0 l n))))
-      ∙ ap (λ (t : Bool). (ok && t) && goes_on_so (after_byte c x) (drop (i + 1) (counted 0 l n))) (sym f)
-      ∙ ap (λ (t : Character). (ok && z) && goes_on_so t (drop (i + 1) (counted 0 l n))) (sym a)
+    pub fits_on : {next : Character} → fits_byte c x ≡ true → next ≡ after_byte c x → is_utf8 (counted 0 l n) ≡ goes_on_so next (drop (i + 1) (counted 0 l n))
+    fits_on t a = rw a (here ∙ rw t)
 
-  pub fits_end : (c : Character) (ok : Bool) (i : ℕ) → is_utf8 (counted 0 l n) ≡ (ok && goes_on_so c (drop i (counted 0 l n))) → n ≤ i → (ok && eqb c.left 0) ≡ is_utf8 (counted 0 l n)
-  fits_end c ok i e h =
-      let k : length (counted 0 l n) ≤ i = omega (arith, length_counted 0 l n) in
-      let none : drop i (counted 0 l n) ≡ [] = drop_of_length-le (counted 0 l n) k in
-      sym (e ∙ ap (λ (k : List ℕ). ok && goes_on_so c k) none ∙ ap (λ (t : Bool). ok && t) (ends_at c.left c.least c.most))
+    pub broken : fits_byte c x ≡ false → false ≡ is_utf8 (counted 0 l n)
+    broken t = sym (here ∙ rw t)
+
+  pub fits_end : n ≤ i → eqb c.left 0 ≡ is_utf8 (counted 0 l n)
+  fits_end h = sym (e ∙ rw (drop_of_length-le (counted 0 l n) {i = i} (omega (arith, length_counted 0 l n))) (ends_at c.left c.least c.most))

@@ -14,40 +14,32 @@ pub struct Character {
     pub most: u8,
 }
 
-fn state(left: u8, least: u8, most: u8) -> Character
-    ensures { result ≡ record { left = left; least = least; most = most } }
-{
-    Character { left, least, most }
+impl Character {
+    fn new(left: u8, least: u8, most: u8) -> Character
+        ensures { result ≡ record { left = left; least = least; most = most } }
+    {
+        Character { left, least, most }
+    }
 }
 
 // What follows the first byte of a character of several.
+#[tactic(auto, unfolding(crate::specs::Characters::leading, json_rule::specs::Lexemes::lead_of))]
 fn lead(byte: u8) -> Character
     ensures { result ≡ leading byte }
 {
-    if (194 <= byte) & (byte <= 223) {
-        return state(1, 128, 191);
+    match byte {
+        194..=223 => Character::new(1, 128, 191),
+        224 => Character::new(2, 160, 191),
+        237 => Character::new(2, 128, 159),
+        225..=239 => Character::new(2, 128, 191),
+        240 => Character::new(3, 144, 191),
+        241..=243 => Character::new(3, 128, 191),
+        244 => Character::new(3, 128, 143),
+        _ => Character::new(1, 1, 0),
     }
-    if byte == 224 {
-        return state(2, 160, 191);
-    }
-    if byte == 237 {
-        return state(2, 128, 159);
-    }
-    if (225 <= byte) & (byte <= 239) {
-        return state(2, 128, 191);
-    }
-    if byte == 240 {
-        return state(3, 144, 191);
-    }
-    if (241 <= byte) & (byte <= 243) {
-        return state(3, 128, 191);
-    }
-    if byte == 244 {
-        return state(3, 128, 143);
-    }
-    state(1, 1, 0)
 }
 
+#[tactic(auto, unfolding(crate::specs::Characters::fits_byte, json_rule::specs::Lexemes::is_lead))]
 fn fits(c: Character, byte: u8) -> bool
     ensures { result ≡ fits_byte c byte }
 {
@@ -57,47 +49,42 @@ fn fits(c: Character, byte: u8) -> bool
     (c.least <= byte) & (byte <= c.most)
 }
 
+#[tactic(auto, unfolding(crate::specs::Characters::after_byte))]
 fn after(c: Character, byte: u8) -> Character
     ensures { result ≡ after_byte c byte }
 {
     if c.left == 0 {
         if byte <= 127 {
-            return state(0, 0, 0);
+            return Character::new(0, 0, 0);
         }
         return lead(byte);
     }
-    state(c.left - 1, 128, 191)
+    Character::new(c.left - 1, 128, 191)
 }
 
 // So many bytes; one that is counted and not there is 0.
 fn is_utf8(bytes: &[u8], count: usize) -> bool
     ensures { result ≡ is_utf8 (counted 0 bytes.now count) }
 {
-    let mut c = state(0, 0, 0);
-    let mut ok = true;
-    let mut i = 0;
-    while i < count {
-        let mut byte = 0;
-        if i < bytes.len() {
-            byte = bytes[i];
+    let mut c = Character::new(0, 0, 0);
+    for i in 0..count {
+        let byte = bytes.get(i).copied().unwrap_or(0);
+        if !fits(c, byte) {
+            return false;
         }
-        ok = ok & fits(c, byte);
         c = after(c, byte);
-        i += 1;
     }
-    ok & (c.left == 0)
+    c.left == 0
 }
 
 pub fn name_is_utf8(name: Name) -> bool
     ensures { result ≡ is_utf8 (read_name name) }
 {
-    let bytes = name.bytes;
-    is_utf8(&bytes, name.len)
+    is_utf8(&name.bytes, name.len)
 }
 
 pub fn text_is_utf8(text: Text) -> bool
     ensures { result ≡ is_utf8 (read_text text) }
 {
-    let bytes = text.bytes;
-    is_utf8(&bytes, text.len)
+    is_utf8(&text.bytes, text.len)
 }

@@ -16,7 +16,6 @@ use crate::table::{
     files_named, log_named, owners_shown, refs_named, rows_none, schemas_named, sequences_zero,
     specs_named,
 };
-use equality::number::same_sequence;
 use records::counters::{RowId, SequenceNumber};
 use records::metadata::TableMetadata;
 use records::snapshot::Snapshots;
@@ -27,7 +26,7 @@ fn sequences_shown(version: u8, last: SequenceNumber, t: Snapshots) -> bool
     if version >= 2 {
         return true;
     }
-    same_sequence(last, SequenceNumber(0)) & sequences_zero(t)
+    last == SequenceNumber(0) && sequences_zero(t)
 }
 
 fn rows_shown(version: u8, next: RowId, t: Snapshots) -> bool
@@ -36,30 +35,29 @@ fn rows_shown(version: u8, next: RowId, t: Snapshots) -> bool
     if version >= 3 {
         return true;
     }
-    let row = next.0;
-    (row == 0) & rows_none(t)
+    next == RowId(0) && rows_none(t)
 }
 
+#[tactic(auto, unfolding(file_rule::specs::Export::texts_shown))]
 fn texts_shown(m: TableMetadata) -> bool
     ensures { result ≡ texts_shown (read_metadata m) }
 {
-    let f = m.fields;
-    text_is_utf8(f.location)
-        & refs_named(m.refs)
-        & log_named(m.metadata_log)
-        & schemas_named(m.schemas)
-        & specs_named(m.partition_specs)
-        & files_named(m.statistics)
-        & files_named(m.partition_statistics)
+    text_is_utf8(m.fields.location)
+        && refs_named(m.refs)
+        && log_named(m.metadata_log)
+        && schemas_named(m.schemas)
+        && specs_named(m.partition_specs)
+        && files_named(m.statistics)
+        && files_named(m.partition_statistics)
 }
 
+#[tactic(auto, unfolding(file_rule::specs::Export::is_shown, file_rule::specs::Export::sequences_shown, file_rule::specs::Export::rows_shown, file_rule::specs::Export::owners_shown))]
 pub fn is_shown(metadata: TableMetadata) -> bool
     ensures { result ≡ is_shown (read_metadata metadata) }
 {
     let f = metadata.fields;
-    let version = f.format_version;
-    sequences_shown(version, f.last_sequence_number, metadata.snapshots)
-        & rows_shown(version, f.next_row_id, metadata.snapshots)
-        & owners_shown(metadata.refs)
-        & texts_shown(metadata)
+    sequences_shown(f.format_version, f.last_sequence_number, metadata.snapshots)
+        && rows_shown(f.format_version, f.next_row_id, metadata.snapshots)
+        && owners_shown(metadata.refs)
+        && texts_shown(metadata)
 }

@@ -1,12 +1,11 @@
 -- The pieces of each record, one behind the other, are the rule's text of it.
 use Prim.Native.Nat.{ℕ}
 use Prim.Native.String.{String}
-use mathlib.Core.Path.{◌≡◌, refl, sym, ap, ◌∙◌}
-use mathlib.Core.Bool.{Bool, true, false, cond, not, ◌&&◌, ◌||◌}
+use mathlib.Core.Path.{◌≡◌, refl, sym, ap}
+use mathlib.Core.Bool.{Bool, true, false, cond, ◌&&◌}
 use mathlib.Core.List.{List, [], ◌∷◌, ◌++◌, append_assoc}
-use mathlib.Core.Option.{Option, none, some}
-use borrow.Author.Tests.{eqb-true}
-use borrow.Table.Steps.{cases}
+use mathlib.Core.Option.{some}
+use borrow.Author.Tests.{ne_eqb}
 use lib.Dec.{eqb, leb}
 use lib.IntN.{ℤ, pos}
 use Rattle.records.specs.declared.snapshot.Snapshot.{Snapshot}
@@ -132,18 +131,10 @@ sort_field_is f p =
     rw (p, either d (bytes ",\"direction\":") (word_text "asc") (word_text "desc"), either_closed n (bytes ",\"null-order\":") (word_text "nulls-first") (word_text "nulls-last"))
     (sym (append_assoc (bytes "{\"transform\":\"identity\",\"source-id\":" ++ number_text f.source_id.0 ++ also "direction" (cond d (word_text "asc") (word_text "desc"))) (also "null-order" (cond n (word_text "nulls-first") (word_text "nulls-last"))) (125 ∷ [])))
 
-pub transform_is : (t : ℕ) (z : ℤ) {b : ℤ} → b ≡ z
-    → only_if (eqb t 1) (bytes "\"identity\"") ++ only_if (eqb t 2) (bytes "\"year\"") ++ only_if (eqb t 3) (bytes "\"month\"") ++ only_if (eqb t 4) (bytes "\"day\"")
-    ++ only_if (not (eqb t 1 || (eqb t 2 || (eqb t 3 || eqb t 4)))) (bytes "\"bucket[" ++ number_text b) ++ only_if (not (eqb t 1 || (eqb t 2 || (eqb t 3 || eqb t 4)))) (bytes "]\"")
-    ≡ transform_text t z
+pub bucket_is : (t : ℕ) (z : ℤ) {b : ℤ} → b ≡ z → (t ≡ 1 → ⊥) → (t ≡ 2 → ⊥) → (t ≡ 3 → ⊥) → (t ≡ 4 → ⊥)
+    → bytes "\"bucket[" ++ number_text b ++ bytes "]\"" ≡ transform_text t z
 unfolding transform_text
-transform_is t z p =
-    rw p
-    (cases (eqb t 1) (λ e. rw (eqb-true t 1 e))
-    (λ e. rw e (cases (eqb t 2) (λ f. rw (eqb-true t 2 f))
-    (λ f. rw f (cases (eqb t 3) (λ g. rw (eqb-true t 3 g))
-    (λ g. rw g (cases (eqb t 4) (λ h. rw (eqb-true t 4 h))
-    (λ h. rw h))))))))
+bucket_is t z e i y m d = rw (e, ne_eqb t 1 i, ne_eqb t 2 y, ne_eqb t 3 m, ne_eqb t 4 d)
 
 pub partition_field_is : (f : PartitionField) {a b : ℤ} → a ≡ f.source_id.0 → b ≡ or_else (read_partition_field f).id (pos 0)
     → bytes "{\"source-id\":" ++ number_text a ++ (bytes ",\"field-id\":" ++ number_text b) ++ (bytes ",\"name\":" ++ quoted (read_name f.name)) ++ bytes ",\"transform\":" ++ transform_text f.transform f.buckets.0 ++ bytes "}"

@@ -1,6 +1,8 @@
 // The file: the single fields in front of the tables, and the tables with the fields that go with them.
-ghost use Rattle.std.specs.Prelude.{[], ◌∷◌, ◌++◌, ◌≡◌};
-ghost use Rattle.rules.specs.Layout.{read_fields, read_schema, read_schemas, read_partition_spec, read_partition_specs, read_snapshots, read_snapshot_log, read_metadata_log, read_sort_orders, read_refs, read_statistics, read_metadata};
+ghost use Rattle.std.specs.Prelude.{Bool, [], ◌∷◌, ◌++◌, ◌≡◌, MatchOption};
+ghost use Rattle.std.proofs.Math.Option.{none, some};
+ghost use Rattle.rules.specs.Words.{first};
+ghost use Rattle.rules.specs.Layout.{counted, read_fields, read_schema, read_schemas, read_partition_spec, read_partition_specs, read_snapshots, read_snapshot_log, read_metadata_log, read_sort_orders, read_refs, read_statistics, read_metadata};
 ghost use Rattle.file_rule.specs.Written.{list_text, also};
 ghost use Rattle.file_rule.specs.Files.{schema_text, partition_field_text, schema_by_id, spec_fields, head_text, schemas_text, specs_text, snapshots_text, tail_text, file_text};
 ghost use Rattle.file_text.specs.Puts.{Puts, only_if};
@@ -11,11 +13,9 @@ use crate::table::{
     put_files, put_metadata_log, put_orders, put_partition_fields, put_refs, put_schema,
     put_schemas, put_snapshot_log, put_snapshots, put_specs,
 };
-use equality::ids::{same_schema, same_spec};
 use file_text::bytes::put;
 use file_text::numbers::{put_natural, put_number};
 use file_text::texts::{put_text, put_uuid};
-use records::capacities::{PARTITION_SPECS, SCHEMAS};
 use records::counters::{SchemaId, SpecId};
 use records::metadata::{MetadataLog, SingleFields, TableMetadata};
 use records::partition::{PartitionSpec, PartitionSpecs};
@@ -29,15 +29,19 @@ use records::statistics::StatisticsFiles;
 fn put_head(buffer: &mut [u8], at: usize, f: SingleFields) -> usize
     ensures { Puts buffer.old at (123 ∷ head_text (of_fields (read_fields f))) result buffer.new }
 {
-    let version = f.format_version;
-    let uuid = f.table_uuid;
-    let at = put_natural(buffer, at, true, b"{\"format-version\":", version as u64);
-    let at = put_uuid(buffer, at, b",\"table-uuid\":", &uuid);
+    let at = put_natural(
+        buffer,
+        at,
+        true,
+        b"{\"format-version\":",
+        f.format_version as u64,
+    );
+    let at = put_uuid(buffer, at, b",\"table-uuid\":", &f.table_uuid);
     let at = put_text(buffer, at, b",\"location\":", f.location);
     let at = put_number(
         buffer,
         at,
-        version >= 2,
+        f.format_version >= 2,
         b",\"last-sequence-number\":",
         of_sequence(f.last_sequence_number),
     );
@@ -57,45 +61,49 @@ fn put_head(buffer: &mut [u8], at: usize, f: SingleFields) -> usize
     )
 }
 
+// The first of so many slots of which the test is true; one that is counted and not there is blank.
+fn find_item<T: Copy, F: Fn(&T) -> bool>(
+    slots: &[T],
+    count: usize,
+    blank: T,
+    is_wanted: F,
+) -> Option<T>
+    ghost test: { T → Bool }
+    requires callable { F.IsAlwaysCallable is_wanted }
+    requires tests { (x : _) (r : _) → F.post is_wanted x r → r ≡ test x.now }
+    ensures { MatchOption result (first test (counted blank slots.now count) ≡ none) (λ x. first test (counted blank slots.now count) ≡ some x) }
+{
+    for i in 0..count {
+        let item = *slots.get(i).unwrap_or(&blank);
+        if is_wanted(&item) {
+            return Some(item);
+        }
+    }
+    None
+}
+
 // The schema of an id; one without fields where it is not held.
 fn schema_by_id(t: Schemas, id: SchemaId) -> Schema
     ensures { read_schema result ≡ schema_by_id id.0 (read_schemas t) }
 {
-    let n = t.count;
-    let mut none = Schema::blank();
-    let mut i = 0;
-    while i < n {
-        let mut x = none;
-        if i < SCHEMAS {
-            x = t.items[i];
-        }
-        if same_schema(x.schema_id, id) {
-            return x;
-        }
-        i += 1;
-    }
-    none.schema_id = id;
-    none
+    let held = find_item(&t.items, t.count, Schema::blank(), |s| s.schema_id == id);
+    held.unwrap_or(Schema {
+        schema_id: id,
+        ..Schema::blank()
+    })
 }
 
 // The spec of an id; one without fields where it is not held.
 fn spec_by_id(t: PartitionSpecs, id: SpecId) -> PartitionSpec
     ensures { (read_partition_spec result).fields ≡ spec_fields id.0 (read_partition_specs t) }
 {
-    let n = t.count;
-    let none = PartitionSpec::blank();
-    let mut i = 0;
-    while i < n {
-        let mut x = none;
-        if i < PARTITION_SPECS {
-            x = t.items[i];
-        }
-        if same_spec(x.spec_id, id) {
-            return x;
-        }
-        i += 1;
-    }
-    none
+    let held = find_item(
+        &t.items,
+        t.count,
+        PartitionSpec::blank(),
+        |s| s.spec_id == id,
+    );
+    held.unwrap_or(PartitionSpec::blank())
 }
 
 // Version 1 has the current schema once more.
@@ -202,7 +210,6 @@ fn put_tail(
 ) -> usize
     ensures { Puts buffer.old at (tail_text (of_rest (read_fields f) (read_sort_orders orders) (read_refs refs) (read_statistics files) (read_statistics others)) ++ (125 ∷ [])) result buffer.new }
 {
-    let next = f.next_row_id;
     let at = put(buffer, at, b",\"sort-orders\":[");
     let at = put_orders(buffer, at, orders);
     let at = put_number(
@@ -224,7 +231,7 @@ fn put_tail(
         at,
         f.format_version >= 3,
         b",\"next-row-id\":",
-        next.0,
+        f.next_row_id.0,
     );
     put(buffer, at, b"}")
 }

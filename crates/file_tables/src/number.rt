@@ -13,78 +13,67 @@ use records::partition::PartitionField;
 pub fn of_snapshot(x: SnapshotId) -> Number
     ensures { result.0 ≡ x.0 }
 {
-    let y = x.0;
-    Number(y)
+    Number(x.0)
 }
 
 pub fn of_schema(x: SchemaId) -> Number
     ensures { result.0 ≡ x.0 }
 {
-    let y = x.0;
-    Number(y as i64)
+    Number(i64::from(x.0))
 }
 
 pub fn of_field(x: FieldId) -> Number
     ensures { result.0 ≡ x.0 }
 {
-    let y = x.0;
-    Number(y as i64)
+    Number(i64::from(x.0))
 }
 
 pub fn of_order(x: SortOrderId) -> Number
     ensures { result.0 ≡ x.0 }
 {
-    let y = x.0;
-    Number(y)
+    Number(x.0)
 }
 
 pub fn of_spec(x: SpecId) -> Number
     ensures { result.0 ≡ x.0 }
 {
-    let y = x.0;
-    Number(y as i64)
+    Number(i64::from(x.0))
 }
 
 pub fn of_buckets(x: Buckets) -> Number
     ensures { result.0 ≡ x.0 }
 {
-    let y = x.0;
-    Number(y as i64)
+    Number(i64::from(x.0))
 }
 
 pub fn of_time(x: Time) -> Number
     ensures { result.0 ≡ x.0 }
 {
-    let y = x.0;
-    Number(y)
+    Number(x.0)
 }
 
 pub fn of_age(x: Age) -> Number
     ensures { result.0 ≡ x.0 }
 {
-    let y = x.0;
-    Number(y)
+    Number(x.0)
 }
 
 pub fn of_size(x: FileSize) -> Number
     ensures { result.0 ≡ x.0 }
 {
-    let y = x.0;
-    Number(y)
+    Number(x.0)
 }
 
 pub fn of_min(x: MinSnapshots) -> Number
     ensures { result.0 ≡ x.0 }
 {
-    let y = x.0;
-    Number(y as i64)
+    Number(i64::from(x.0))
 }
 
 pub fn of_sequence(x: SequenceNumber) -> Number
     ensures { result.0 ≡ x.0 }
 {
-    let y = x.0;
-    Number(y)
+    Number(x.0)
 }
 
 // The id of a partition field; 0 where it has none.

@@ -8,7 +8,7 @@ ghost use Rattle.file_text.specs.Puts.{Puts, only_if};
 use crate::number::{
     of_age, of_buckets, of_field, of_held_field, of_min, of_sequence, of_size, of_snapshot, of_time,
 };
-use file_text::bytes::{put, put_either, put_if};
+use file_text::bytes::{put, put_either};
 use file_text::numbers::{put_natural, put_number};
 use file_text::texts::{put_name, put_quoted, put_text};
 use records::counters::{Buckets, RowId};
@@ -26,8 +26,7 @@ const BRANCH: u8 = 1;
 fn put_rows(buffer: &mut [u8], at: usize, wanted: bool, first: RowId, added: u64) -> usize
     ensures { Puts buffer.old at (only_if wanted (rows_text (some (record { first = first; added = added })))) result buffer.new }
 {
-    let row = first.0;
-    let at = put_natural(buffer, at, wanted, b",\"first-row-id\":", row);
+    let at = put_natural(buffer, at, wanted, b",\"first-row-id\":", first.0);
     put_natural(buffer, at, wanted, b",\"added-rows\":", added)
 }
 
@@ -152,9 +151,7 @@ fn put_reference(buffer: &mut [u8], at: usize, f: SnapshotReference) -> usize
 pub fn put_ref(buffer: &mut [u8], at: usize, x: NamedRef) -> usize
     ensures { Puts buffer.old at (ref_text (read_ref x)) result buffer.new }
 {
-    let name = x.name;
-    let bytes = name.bytes;
-    let at = put_quoted(buffer, at, &bytes, name.len);
+    let at = put_quoted(buffer, at, &x.name.bytes, x.name.len);
     put_reference(buffer, at, x.reference)
 }
 
@@ -172,17 +169,20 @@ pub fn put_field(buffer: &mut [u8], at: usize, f: SchemaField) -> usize
     )
 }
 
+#[tactic(auto, unfolding(file_rule::specs::Files::transform_text))]
 pub fn put_transform(buffer: &mut [u8], at: usize, transform: u8, buckets: Buckets) -> usize
     ensures { Puts buffer.old at (transform_text transform buckets.0) result buffer.new }
 {
-    let other = !((transform == IDENTITY)
-        | ((transform == YEAR) | ((transform == MONTH) | (transform == DAY))));
-    let at = put_if(buffer, at, transform == IDENTITY, b"\"identity\"");
-    let at = put_if(buffer, at, transform == YEAR, b"\"year\"");
-    let at = put_if(buffer, at, transform == MONTH, b"\"month\"");
-    let at = put_if(buffer, at, transform == DAY, b"\"day\"");
-    let at = put_number(buffer, at, other, b"\"bucket[", of_buckets(buckets));
-    put_if(buffer, at, other, b"]\"")
+    match transform {
+        IDENTITY => put(buffer, at, b"\"identity\""),
+        YEAR => put(buffer, at, b"\"year\""),
+        MONTH => put(buffer, at, b"\"month\""),
+        DAY => put(buffer, at, b"\"day\""),
+        _ => {
+            let at = put_number(buffer, at, true, b"\"bucket[", of_buckets(buckets));
+            put(buffer, at, b"]\"")
+        }
+    }
 }
 
 pub fn put_partition_field(buffer: &mut [u8], at: usize, f: PartitionField) -> usize

@@ -9,12 +9,9 @@ use crate::record::{
     put_field, put_file, put_file_entry, put_log_entry, put_partition_field, put_ref, put_snapshot,
     put_sort_field,
 };
-use file_text::bytes::{put, put_if};
+use file_text::bytes::put;
+use file_text::list::put_items;
 use file_text::numbers::put_number;
-use records::capacities::{
-    METADATA_LOG, PARTITION_FIELDS, PARTITION_SPECS, REFS, SCHEMA_FIELDS, SCHEMAS, SNAPSHOT_LOG,
-    SNAPSHOTS, SORT_FIELDS, SORT_ORDERS, STATISTICS,
-};
 use records::metadata::{MetadataLog, MetadataLogEntry};
 use records::partition::{PartitionField, PartitionSpec, PartitionSpecs};
 use records::reference::{NamedRef, Refs};
@@ -26,115 +23,72 @@ use records::statistics::{StatisticsFile, StatisticsFiles};
 pub fn put_snapshots(buffer: &mut [u8], at: usize, version: u8, t: Snapshots) -> usize
     ensures { Puts buffer.old at (items (snapshot_text version) (read_snapshots t)) result buffer.new }
 {
-    let n = t.count;
-    let none = Snapshot::blank();
-    let mut to = at;
-    let mut i = 0;
-    while i < n {
-        let mut x = none;
-        if i < SNAPSHOTS {
-            x = t.items[i];
-        }
-        to = put_if(buffer, to, i > 0, b",");
-        to = put_snapshot(buffer, to, version, x);
-        i += 1;
-    }
-    to
+    put_items(
+        buffer,
+        at,
+        &t.items,
+        t.count,
+        Snapshot::blank(),
+        |buffer, at, x| { put_snapshot(buffer, at, version, x) },
+    )
 }
 
 pub fn put_snapshot_log(buffer: &mut [u8], at: usize, t: SnapshotLog) -> usize
     ensures { Puts buffer.old at (items log_entry_text (read_snapshot_log t)) result buffer.new }
 {
-    let n = t.count;
-    let none = SnapshotLogEntry::blank();
-    let mut to = at;
-    let mut i = 0;
-    while i < n {
-        let mut x = none;
-        if i < SNAPSHOT_LOG {
-            x = t.items[i];
-        }
-        to = put_if(buffer, to, i > 0, b",");
-        to = put_log_entry(buffer, to, x);
-        i += 1;
-    }
-    to
+    put_items(
+        buffer,
+        at,
+        &t.items,
+        t.count,
+        SnapshotLogEntry::blank(),
+        put_log_entry,
+    )
 }
 
 pub fn put_metadata_log(buffer: &mut [u8], at: usize, t: MetadataLog) -> usize
     ensures { Puts buffer.old at (items file_entry_text (read_metadata_log t)) result buffer.new }
 {
-    let n = t.count;
-    let none = MetadataLogEntry::blank();
-    let mut to = at;
-    let mut i = 0;
-    while i < n {
-        let mut x = none;
-        if i < METADATA_LOG {
-            x = t.items[i];
-        }
-        to = put_if(buffer, to, i > 0, b",");
-        to = put_file_entry(buffer, to, x);
-        i += 1;
-    }
-    to
+    put_items(
+        buffer,
+        at,
+        &t.items,
+        t.count,
+        MetadataLogEntry::blank(),
+        put_file_entry,
+    )
 }
 
 pub fn put_refs(buffer: &mut [u8], at: usize, t: Refs) -> usize
     ensures { Puts buffer.old at (items ref_text (read_refs t)) result buffer.new }
 {
-    let n = t.count;
-    let none = NamedRef::blank();
-    let mut to = at;
-    let mut i = 0;
-    while i < n {
-        let mut x = none;
-        if i < REFS {
-            x = t.items[i];
-        }
-        to = put_if(buffer, to, i > 0, b",");
-        to = put_ref(buffer, to, x);
-        i += 1;
-    }
-    to
+    put_items(buffer, at, &t.items, t.count, NamedRef::blank(), put_ref)
 }
 
 pub fn put_files(buffer: &mut [u8], at: usize, t: StatisticsFiles) -> usize
     ensures { Puts buffer.old at (items statistics_text (read_statistics t)) result buffer.new }
 {
-    let n = t.count;
-    let none = StatisticsFile::blank();
-    let mut to = at;
-    let mut i = 0;
-    while i < n {
-        let mut x = none;
-        if i < STATISTICS {
-            x = t.items[i];
-        }
-        to = put_if(buffer, to, i > 0, b",");
-        to = put_file(buffer, to, x);
-        i += 1;
-    }
-    to
+    put_items(
+        buffer,
+        at,
+        &t.items,
+        t.count,
+        StatisticsFile::blank(),
+        put_file,
+    )
 }
 
 fn put_fields(buffer: &mut [u8], at: usize, t: Schema) -> usize
     ensures { Puts buffer.old at (items field_text (read_schema t).fields) result buffer.new }
 {
-    let n = t.count;
-    let none = SchemaField::blank();
-    let mut to = at;
-    let mut i = 0;
-    while i < n {
-        let mut x = none;
-        if i < SCHEMA_FIELDS {
-            x = t.items[i];
-        }
-        to = put_if(buffer, to, i > 0, b",");
-        to = put_field(buffer, to, x);
-        i += 1;
-    }
-    to
+    put_items(
+        buffer,
+        at,
+        &t.items,
+        t.count,
+        SchemaField::blank(),
+        put_field,
+    )
 }
 
 pub fn put_schema(buffer: &mut [u8], at: usize, s: Schema) -> usize
@@ -155,39 +109,20 @@ pub fn put_schema(buffer: &mut [u8], at: usize, s: Schema) -> usize
 pub fn put_schemas(buffer: &mut [u8], at: usize, t: Schemas) -> usize
     ensures { Puts buffer.old at (items schema_text (read_schemas t)) result buffer.new }
 {
-    let n = t.count;
-    let none = Schema::blank();
-    let mut to = at;
-    let mut i = 0;
-    while i < n {
-        let mut x = none;
-        if i < SCHEMAS {
-            x = t.items[i];
-        }
-        to = put_if(buffer, to, i > 0, b",");
-        to = put_schema(buffer, to, x);
-        i += 1;
-    }
-    to
+    put_items(buffer, at, &t.items, t.count, Schema::blank(), put_schema)
 }
 
 pub fn put_partition_fields(buffer: &mut [u8], at: usize, t: PartitionSpec) -> usize
     ensures { Puts buffer.old at (items partition_field_text (read_partition_spec t).fields) result buffer.new }
 {
-    let n = t.count;
-    let none = PartitionField::blank();
-    let mut to = at;
-    let mut i = 0;
-    while i < n {
-        let mut x = none;
-        if i < PARTITION_FIELDS {
-            x = t.items[i];
-        }
-        to = put_if(buffer, to, i > 0, b",");
-        to = put_partition_field(buffer, to, x);
-        i += 1;
-    }
-    to
+    put_items(
+        buffer,
+        at,
+        &t.items,
+        t.count,
+        PartitionField::blank(),
+        put_partition_field,
+    )
 }
 
 fn put_spec(buffer: &mut [u8], at: usize, s: PartitionSpec) -> usize
@@ -202,39 +137,27 @@ fn put_spec(buffer: &mut [u8], at: usize, s: PartitionSpec) -> usize
 pub fn put_specs(buffer: &mut [u8], at: usize, t: PartitionSpecs) -> usize
     ensures { Puts buffer.old at (items spec_text (read_partition_specs t)) result buffer.new }
 {
-    let n = t.count;
-    let none = PartitionSpec::blank();
-    let mut to = at;
-    let mut i = 0;
-    while i < n {
-        let mut x = none;
-        if i < PARTITION_SPECS {
-            x = t.items[i];
-        }
-        to = put_if(buffer, to, i > 0, b",");
-        to = put_spec(buffer, to, x);
-        i += 1;
-    }
-    to
+    put_items(
+        buffer,
+        at,
+        &t.items,
+        t.count,
+        PartitionSpec::blank(),
+        put_spec,
+    )
 }
 
 fn put_sort_fields(buffer: &mut [u8], at: usize, t: SortOrder) -> usize
     ensures { Puts buffer.old at (items sort_field_text (read_sort_order t).fields) result buffer.new }
 {
-    let n = t.count;
-    let none = SortField::blank();
-    let mut to = at;
-    let mut i = 0;
-    while i < n {
-        let mut x = none;
-        if i < SORT_FIELDS {
-            x = t.items[i];
-        }
-        to = put_if(buffer, to, i > 0, b",");
-        to = put_sort_field(buffer, to, x);
-        i += 1;
-    }
-    to
+    put_items(
+        buffer,
+        at,
+        &t.items,
+        t.count,
+        SortField::blank(),
+        put_sort_field,
+    )
 }
 
 pub fn put_order(buffer: &mut [u8], at: usize, o: SortOrder) -> usize
@@ -249,18 +172,5 @@ pub fn put_order(buffer: &mut [u8], at: usize, o: SortOrder) -> usize
 pub fn put_orders(buffer: &mut [u8], at: usize, t: SortOrders) -> usize
     ensures { Puts buffer.old at (items order_text (read_sort_orders t)) result buffer.new }
 {
-    let n = t.count;
-    let none = SortOrder::blank();
-    let mut to = at;
-    let mut i = 0;
-    while i < n {
-        let mut x = none;
-        if i < SORT_ORDERS {
-            x = t.items[i];
-        }
-        to = put_if(buffer, to, i > 0, b",");
-        to = put_order(buffer, to, x);
-        i += 1;
-    }
-    to
+    put_items(buffer, at, &t.items, t.count, SortOrder::blank(), put_order)
 }

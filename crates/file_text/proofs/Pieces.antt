@@ -1,16 +1,18 @@
 -- Pieces that are put one behind the other are one piece.
-use Prim.Native.Nat.{ℕ, suc, ◌+◌, ◌^◌, ◌≤◌, ◌<◌}
+use Prim.Native.Nat.{ℕ, suc, ◌+◌, ◌-◌, ◌^◌, ◌≤◌, ◌<◌, min}
 use native.Mathlib.Nat.{add-zero}
-use native.Mathlib.Numerals.{add-one}
 use native.Mathlib.Omega.{arith}
 use mathlib.Core.Path.{◌≡◌, refl, sym, ap, ◌∙◌}
 use mathlib.Core.Bool.{Bool, true, false, cond}
-use mathlib.Core.List.{List, [], ◌∷◌, ◌++◌}
+use mathlib.Core.List.{List, [], ◌∷◌, ◌++◌, append_assoc}
 use borrow.Author.Tests.{le-leb, lt-leb, leb-true, leb-false}
 use borrow.Table.Steps.{cases}
 use lib.Dec.{leb}
-use lib.ListN.{length, set, take, get_or, length-append}
-use lib.Seq.{sets, length-sets, take-suc, length-take-le}
+use lib.ListN.{length, set, take, drop, length-append}
+use lib.Seq.{sets, length-sets}
+use borrow.Rule.Slice.PartMut.{put_mid}
+use Rattle.std.proofs.lemmas.Slice.{put_mid-paste}
+use Rattle.std.proofs.lemmas.List.Edits.{sets-eq, paste_all}
 use Rattle.file_text.specs.Puts.{Puts, past, only_if}
 
 -- ---- places
@@ -22,6 +24,13 @@ past_exact p n h = sym (rw (le-leb (p + n) 18446744073709551615 (omega arith)))
 pub past_last : (p n : ℕ) → 2 ^ 64 ≤ p + n → 18446744073709551615 ≡ past p n
 unfolding past
 past_last p n h = sym (rw (lt-leb (p + n) 18446744073709551615 (omega arith)))
+
+pub past_min : (p n : ℕ) → min (p + n) 18446744073709551615 ≡ past p n
+unfolding past
+past_min p n =
+    cases (leb (p + n) 18446744073709551615)
+    (λ e. let h = leb-true (p + n) 18446744073709551615 e in rw e (omega arith))
+    (λ e. let h = leb-false (p + n) 18446744073709551615 e in rw e (omega arith))
 
 past_past : (p m n : ℕ) → past (past p m) n ≡ past p (m + n)
 unfolding past
@@ -42,10 +51,6 @@ sets_on l i (v ∷ vs) ws =
     let e : i + suc (length vs) ≡ suc i + length vs = omega arith in
     ap (λ (k : ℕ). sets (sets (set l i v) (suc i) vs) k ws) e ∙ sets_on (set l i v) (suc i) vs ws
 
--- one more of a list's elements
-pub sets_more : (l : List ℕ) (p : ℕ) (vs : List ℕ) (i : ℕ) → i < length vs → set (sets l p (take i vs)) (p + i) (get_or vs i 0) ≡ sets l p (take (i + 1) vs)
-sets_more l p vs i h = rw (add-one, take-suc vs i 0 h, ← sets_on, length-take-le i vs (omega arith))
-
 -- ---- pieces
 
 module _ {b : List ℕ} {p : ℕ} where
@@ -53,11 +58,16 @@ module _ {b : List ℕ} {p : ℕ} where
   nothing h = record { ends = sym (add-zero p) ∙ past_exact p 0 (omega arith); bytes = λ _ _. refl }
 
   -- where there is no room, the bytes are only counted
-  pub counted : (text : List ℕ) → length b < p + length text → Puts b p text (past p (length text)) b
-  counted text h = record { ends = refl; bytes = λ k _. absurd (omega arith) }
+  pub counted : (text : List ℕ) {r : ℕ} → length b < p + length text → r ≡ past p (length text) → Puts b p text r b
+  counted text h e = record { ends = e; bytes = λ k _. absurd (omega arith) }
 
-  pub stored : (text : List ℕ) {a : List ℕ} → p + length text ≤ length b → length b < 2 ^ 64 → a ≡ sets b p text → Puts b p text (p + length text) a
-  stored text h k e = record { ends = past_exact p (length text) (omega arith); bytes = λ _ _. e }
+  pub stored : (text : List ℕ) {r : ℕ} {a : List ℕ} → p + length text < 2 ^ 64 → r ≡ p + length text → a ≡ sets b p text → Puts b p text r a
+  stored text h e d = record { ends = e ∙ past_exact p (length text) h; bytes = λ _ _. d }
+
+  pub copied : (text held : List ℕ) {r : ℕ} → r < 2 ^ 64 → r ≡ p + length text → r ≤ length b → held ≡ text → Puts b p text r (put_mid p (r - p) b held)
+  copied text held {r} h e k d =
+      stored text (omega arith) e
+      (put_mid-paste p (r - p) b held text (length text) d (omega arith) refl ∙ paste_all b p text (length text) refl ∙ sym (append_assoc (take p b) text (drop (p + length text) b)) ∙ sym (sets-eq text b p (omega arith)))
 
   module _ {s t b' b'' : List ℕ} {r r' : ℕ} (x : Puts b p s r b') (y : Puts b' r t r' b'') where
     on : p + length (s ++ t) ≤ length b → length b < 2 ^ 64 → b'' ≡ sets b p (s ++ t)
@@ -88,16 +98,18 @@ module _ {b : List ℕ} {p : ℕ} where
 
 -- ---- in a loop
 
--- i of n pieces are put, and the buffer is as long as it was
-pub record Putting (b : List ℕ) (p : ℕ) (text : List ℕ) (r : ℕ) (a : List ℕ) (i n : ℕ) : Type 0 where
-  pub puts : Puts b p text r a
-  pub size : length a ≡ length b
-  pub upto : i ≤ n
+-- whatever puts the rest, from here on, has put the text
+pub record Leads (b : List ℕ) (p : ℕ) (text : List ℕ) (b' : List ℕ) (r : ℕ) (rest : List ℕ) : Type 0 where
+  pub all : (end : ℕ) (after : List ℕ) → Puts b' r rest end after → Puts b p text end after
+  pub place : r < 2 ^ 64
 
-module _ {b : List ℕ} {p n : ℕ} where
-  pub putting : p < 2 ^ 64 → Putting b p [] p b 0 n
-  putting h = record { puts = nothing h; size = refl; upto = omega arith }
+module _ {b : List ℕ} {p : ℕ} {text : List ℕ} where
+  pub leads : p < 2 ^ 64 → Leads b p text b p text
+  leads h = record { all = λ _ _ y. y; place = h }
 
-  module _ {text : List ℕ} {r : ℕ} {a : List ℕ} {i : ℕ} (x : Putting b p text r a i n) where
-    pub putting_on : {more both : List ℕ} {r' : ℕ} {a' : List ℕ} → Puts a r more r' a' → length a' ≡ length a → i < n → text ++ more ≡ both → Putting b p both r' a' (i + 1) n
-    putting_on y e h q = record { puts = is (then x.puts y) q; size = e ∙ x.size; upto = omega arith }
+  module _ {b' : List ℕ} {r : ℕ} {rest : List ℕ} (x : Leads b p text b' r rest) where
+    pub leads_on : {s : List ℕ} {r' : ℕ} {b'' : List ℕ} {others : List ℕ} → Puts b' r s r' b'' → r' < 2 ^ 64 → s ++ others ≡ rest → Leads b p text b'' r' others
+    leads_on y h e = record { all = λ end after z. x.all end after (is (then y z) e); place = h }
+
+    pub led : [] ≡ rest → Puts b p text r b'
+    led e = x.all r b' (is (nothing x.place) e)

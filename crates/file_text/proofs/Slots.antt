@@ -1,16 +1,15 @@
 -- The counted slots of an array one after the other; one that is not there is blank.
-use Prim.Native.Nat.{ℕ, suc, ◌+◌, ◌-◌, ◌≤◌, ◌<◌}
+use Prim.Native.Nat.{ℕ, ◌+◌, ◌-◌, ◌≤◌, ◌<◌}
 use native.Mathlib.Numerals.{add-one}
 use native.Mathlib.Omega.{arith}
-use mathlib.Core.Path.{◌≡◌, refl, sym, ap, ◌∙◌}
-use mathlib.Core.Bool.{Bool, true, false}
-use mathlib.Core.List.{List, [], ◌∷◌, ◌++◌}
-use mathlib.Core.Logic.{◌⊎◌, ⊎_elim}
-use borrow.Author.Tests.{leb-true, leb-false}
+use mathlib.Core.Path.{◌≡◌, sym, ap, ◌∙◌}
+use mathlib.Core.List.{List, ◌∷◌, ◌++◌}
+use borrow.Author.Tests.{leb-true, leb-false, ltb-true, ltb-false}
 use borrow.Table.Steps.{cases}
-use lib.Dec.{leb}
-use lib.ListN.{length, get_or, take, replicate, get_or-append, get_or-replicate}
-use lib.Seq.{length-take-le, take_all, take-suc, get_or-take, get_or-append-add}
+use lib.Dec.{leb, ltb}
+use lib.ListN.{length, get_or, take, drop, replicate, get_or-append, get_or-replicate}
+use lib.Seq.{length-take-le, take_all, get_or-take, get_or-append-add, drop-cons}
+use Rattle.std.proofs.lemmas.List.{get_or_past}
 use Rattle.rules.specs.Layout.{counted}
 use Rattle.rules.proofs.Slots.Relaid.{length_counted}
 
@@ -29,8 +28,10 @@ module _ {A : Type 0} (blank : A) (l : List A) (n : ℕ) where
       ∙ get_or-append-add l (replicate (n - length l) blank) (i - length l) d
       ∙ get_or-replicate (n - length l) (i - length l) blank d (omega arith)
 
-  -- one more
-  pub taken_on : (d : A) (i : ℕ) (x : A) → i < n → ((i < length l) × (x ≡ get_or l i d)) ⊎ ((length l ≤ i) × (x ≡ blank)) → take (i + 1) (counted blank l n) ≡ take i (counted blank l n) ++ (x ∷ [])
-  taken_on d i x h w =
-      let slot : get_or (counted blank l n) i d ≡ x = ⊎_elim (λ p. there i d h p.0 ∙ sym p.1) (λ q. not_there i d h q.0 ∙ sym q.1) w in
-      rw (add-one, take-suc (counted blank l n) i d (omega (arith, length_counted blank l n)), slot)
+  -- the rest from a slot on
+  pub from_slot : (i : ℕ) → i < n → drop i (counted blank l n) ≡ get_or l i blank ∷ drop (i + 1) (counted blank l n)
+  from_slot i h =
+      let k : i < length (counted blank l n) = omega (arith, length_counted blank l n) in
+      let slot : get_or (counted blank l n) i blank ≡ get_or l i blank =
+      cases (ltb i (length l)) (λ e. there i blank h (ltb-true i (length l) e)) (λ e. let m = ltb-false i (length l) e in not_there i blank h m ∙ sym (get_or_past l i blank m)) in
+      drop-cons (counted blank l n) i blank k ∙ rw (slot, ← add-one)

@@ -1,6 +1,6 @@
 -- Bytes are put into a buffer at a place, and the place behind them is told. Places are counted up to 2^64 - 1 and no further. What a buffer holds then is said only
 -- where there is room: whoever writes asks that first, by putting everything into a buffer that does not matter.
-use Rattle.std.specs.Prelude.{ℕ, ◌+◌, ◌^◌, ◌≤◌, ◌<◌, ◌≡◌, Bool, true, false, cond, List, [], ◌∷◌, ◌++◌, eqb, leb, ℤ, pos, negsuc, length}
+use Rattle.std.specs.Prelude.{ℕ, ◌+◌, ◌^◌, ◌≤◌, ◌<◌, ◌≡◌, Bool, cond, List, [], leb, length}
 use Rattle.std.proofs.lemmas.List.Edits.{sets}
 
 -- the place so many bytes further on
@@ -14,20 +14,3 @@ pub record Puts (before : List ℕ) (place : ℕ) (text : List ℕ) (end : ℕ) 
 -- a text that may be left out
 abbrev pub only_if : Bool → List ℕ → List ℕ
 only_if wanted text = cond wanted text []
-
--- ---- pieces
-
-unfoldable pub is_below_zero : ℤ → Bool
-is_below_zero (pos n) = false
-is_below_zero (negsuc n) = true
-
--- the letter of a byte's short escape; 0 where it has none
-unfoldable pub short_letter : ℕ → ℕ
-short_letter b =
-    cond (eqb b 34) 34
-    (cond (eqb b 92) 92
-    (cond (eqb b 8) 98
-    (cond (eqb b 12) 102
-    (cond (eqb b 10) 110
-    (cond (eqb b 13) 114
-    (cond (eqb b 9) 116 0))))))

@@ -1,7 +1,7 @@
 // Numbers in decimal digits, each behind the bytes that stand in front of it, and both left out where they are not wanted.
-ghost use Rattle.std.specs.Prelude.{◌≡◌, ◌++◌, nat_abs};
+ghost use Rattle.std.specs.Prelude.{◌++◌};
 ghost use Rattle.file_rule.specs.Written.{natural_text, number_text};
-ghost use Rattle.file_text.specs.Puts.{Puts, only_if, is_below_zero};
+ghost use Rattle.file_text.specs.Puts.{Puts, only_if};
 
 use crate::bytes::{put, put_if};
 
@@ -18,41 +18,24 @@ fn put_digits(buffer: &mut [u8], at: usize, number: u64) -> usize
 {
     let mut digits = [0u8; DIGITS];
     let mut rest = number;
-    let mut i: usize = 19;
-    while (i > 0) & (rest >= 10) {
-        digits[i] = 48 + (rest % 10) as u8;
-        rest = rest / 10;
-        i -= 1;
+    for i in (0..DIGITS).rev() {
+        digits[i] = b'0' + (rest % 10) as u8;
+        if rest < 10 {
+            return put(buffer, at, &digits[i..]);
+        }
+        rest /= 10;
     }
-    digits[i] = 48 + (rest % 10) as u8;
-    put(buffer, at, &digits[i..])
+    put(buffer, at, &digits)
 }
 
 pub fn put_natural(buffer: &mut [u8], at: usize, wanted: bool, before: &[u8], number: u64) -> usize
     ensures { Puts buffer.old at (only_if wanted (before.now ++ natural_text number)) result buffer.new }
 {
-    if wanted {
-        let named = put(buffer, at, before);
-        return put_digits(buffer, named, number);
+    if !wanted {
+        return at;
     }
-    at
-}
-
-fn is_negative(number: Number) -> bool
-    ensures { result ≡ is_below_zero number.0 }
-{
-    let x = number.0;
-    x < 0
-}
-
-fn magnitude(number: Number) -> u64
-    ensures { result ≡ nat_abs number.0 }
-{
-    let x = number.0;
-    if x < 0 {
-        return (-1 - x) as u64 + 1;
-    }
-    x as u64
+    let at = put(buffer, at, before);
+    put_digits(buffer, at, number)
 }
 
 pub fn put_number(
@@ -64,10 +47,11 @@ pub fn put_number(
 ) -> usize
     ensures { Puts buffer.old at (only_if wanted (before.now ++ number_text number.0)) result buffer.new }
 {
-    if wanted {
-        let named = put(buffer, at, before);
-        let signed = put_if(buffer, named, is_negative(number), b"-");
-        return put_digits(buffer, signed, magnitude(number));
+    if !wanted {
+        return at;
     }
-    at
+    let at = put(buffer, at, before);
+    let Number(value) = number;
+    let at = put_if(buffer, at, value < 0, b"-");
+    put_digits(buffer, at, value.unsigned_abs())
 }

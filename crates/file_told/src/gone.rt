@@ -1,131 +1,107 @@
 // A text, gone through lexeme by lexeme up to the first that can not stand where it does.
-use crate::course::{
-    AFTER, COLON, Course, FIRST_NAME, FIRST_VALUE, Flags, LIST, NAME, NOTHING_MORE, STOPPED, VALUE,
-    close, expect_of, opened_of, set_expect, set_version, version_of,
-};
-use crate::judged::{take_close, take_name, take_value};
-use crate::reason::{BROKEN, ENDED};
+use crate::course::{Course, Expect};
+use crate::judged::NOT_JSON;
+use crate::reason::Reason;
 use json_lex::text::{KEPT, Kept};
 use json_tokens::{END, Token, WHOLE, next};
-use json_told::found::{Defect, Found, SLOTS, note};
-
-const NOT_JSON: usize = 27;
-
-fn stop(course: &mut Course, found: &mut Found, place: usize, reason: usize) {
-    set_expect(course, STOPPED);
-    note(
-        found,
-        Defect {
-            number: NOT_JSON,
-            place,
-            at: place,
-            reason,
-            detail: 0,
-        },
-    );
-}
+use json_told::found::Found;
 
 // Whether a lexeme with this first byte is a value, or begins one.
 fn is_value(head: u8) -> bool {
     match head {
-        b'"' | b'[' | b'{' | b'-' | b't' | b'f' | b'n' => true,
-        _ => b'0' <= head && head <= b'9',
-    }
-}
-
-// Whether it closes what is open.
-fn closes(course: &Course, head: u8) -> bool {
-    if opened_of(course) == LIST {
-        return head == b']';
-    }
-    head == b'}'
-}
-
-// Whether a lexeme with this first byte may stand there.
-fn may_stand(course: &Course, head: u8) -> bool {
-    let expect = expect_of(course);
-    match expect {
-        VALUE => is_value(head),
-        FIRST_VALUE => is_value(head) || head == b']',
-        NAME => head == b'"',
-        FIRST_NAME => head == b'"' || head == b'}',
-        COLON => head == b':',
-        AFTER => head == b',' || closes(course, head),
+        b'"' | b'[' | b'{' | b'-' | b't' | b'f' | b'n' | b'0'..=b'9' => true,
         _ => false,
     }
 }
 
-// Behind a comma: the next element of a list, or the next name.
-fn take_comma(course: &mut Course) {
-    if opened_of(course) == LIST {
-        set_expect(course, VALUE);
-    } else {
-        set_expect(course, NAME);
+impl Course {
+    fn stop(&mut self, place: usize, reason: Reason) {
+        self.expect = Expect::Stopped;
+        self.note(NOT_JSON, place, reason);
     }
-}
 
-// A lexeme that may stand there.
-fn take(course: &mut Course, flags: &mut Flags, kept: &Kept, t: Token, found: &mut Found) {
-    let expect = expect_of(course);
-    let head = t.head;
-    if head == b']' || head == b'}' {
-        take_close(course, flags, found);
-        close(course);
-    } else if head == b',' {
-        take_comma(course);
-    } else if head == b':' {
-        set_expect(course, VALUE);
-    } else if expect == NAME || expect == FIRST_NAME {
-        take_name(course, flags, kept, t, found);
-    } else {
-        take_value(course, flags, kept, t, found);
-    }
-}
-
-// One lexeme more.
-fn step(
-    course: &mut Course,
-    flags: &mut Flags,
-    kept: &Kept,
-    t: Token,
-    length: usize,
-    found: &mut Found,
-) {
-    if t.state == END {
-        if expect_of(course) == NOTHING_MORE {
-            set_expect(course, STOPPED);
-        } else {
-            stop(course, found, length, ENDED);
+    // Whether it closes what is open.
+    fn closes(&self, head: u8) -> bool {
+        if self.innermost().is_list() {
+            return head == b']';
         }
-    } else if !may_stand(course, t.head) {
-        stop(course, found, t.first, BROKEN);
-    } else if t.state != WHOLE {
-        stop(course, found, t.stop, BROKEN);
-    } else {
-        take(course, flags, kept, t, found);
+        head == b'}'
     }
-}
 
-// By the tables of a version; the version that the file says is answered. The lexemes are counted: each has a byte at least.
-fn go_through(text: &[u8], version: usize, found: &mut Found) -> usize {
-    let mut course = [0; 144];
-    let mut flags = [false; 408];
-    let mut kept = [0; KEPT];
-    let mut at = 0;
-    let mut left = text.len();
-    set_version(&mut course, version);
-    while left > 0 && expect_of(&course) != STOPPED {
-        let t = next(text, at, &mut kept);
-        at = t.after;
-        left -= 1;
-        step(&mut course, &mut flags, &kept, t, text.len(), found);
+    // Whether a lexeme with this first byte may stand there.
+    fn may_stand(&self, head: u8) -> bool {
+        match self.expect {
+            Expect::Value => is_value(head),
+            Expect::FirstValue => is_value(head) || head == b']',
+            Expect::Name => head == b'"',
+            Expect::FirstName => head == b'"' || head == b'}',
+            Expect::Colon => head == b':',
+            Expect::After => head == b',' || self.closes(head),
+            Expect::NothingMore | Expect::Stopped => false,
+        }
     }
-    version_of(&course)
+
+    // Behind a comma: the next element of a list, or the next name.
+    fn take_comma(&mut self) {
+        self.expect = if self.innermost().is_list() {
+            Expect::Value
+        } else {
+            Expect::Name
+        };
+    }
+
+    // A lexeme that may stand there.
+    fn take(&mut self, kept: &Kept, token: Token) {
+        match token.head {
+            b']' | b'}' => {
+                self.take_close();
+                self.close();
+            }
+            b',' => self.take_comma(),
+            b':' => self.expect = Expect::Value,
+            _ => match self.expect {
+                Expect::Name | Expect::FirstName => self.take_name(kept, token),
+                _ => self.take_value(kept, token),
+            },
+        }
+    }
+
+    // One lexeme more.
+    fn step(&mut self, kept: &Kept, token: Token, length: usize) {
+        if token.state == END {
+            if self.expect == Expect::NothingMore {
+                self.expect = Expect::Stopped;
+            } else {
+                self.stop(length, Reason::Ended);
+            }
+        } else if !self.may_stand(token.head) {
+            self.stop(token.first, Reason::Broken);
+        } else if token.state != WHOLE {
+            self.stop(token.stop, Reason::Broken);
+        } else {
+            self.take(kept, token);
+        }
+    }
+
+    // By the tables of a version. The lexemes are counted: each has a byte at least.
+    fn through(text: &[u8], version: usize) -> Course {
+        let mut course = Course::by_version(version);
+        let mut kept = [0; KEPT];
+        let mut at = 0;
+        for _ in text {
+            if course.expect == Expect::Stopped {
+                break;
+            }
+            let token = next(text, at, &mut kept);
+            at = token.after;
+            course.step(&kept, token, text.len());
+        }
+        course
+    }
 }
 
 // The defects of a text. The version is looked for first, since the tables are those of the version, wherever it stands.
-pub fn find(text: &[u8], found: &mut Found) {
-    let mut none = [0; SLOTS];
-    let version = go_through(text, 0, &mut none);
-    go_through(text, version, found);
+pub fn find(text: &[u8]) -> Found<Reason> {
+    let version = Course::through(text, 0).version;
+    Course::through(text, version).found
 }

@@ -1,91 +1,34 @@
 // What is wrong with a lexeme where it stands, and what is open behind it.
-use crate::course::{
-    COLON, Course, FIRST_NAME, FIRST_VALUE, FREE, Flags, LIST, NAMED, RECORD, STOPPED, count_of,
-    count_one, depth_of, each_of, field_named_of, first_of, forget_all, go_behind, is_seen, open,
-    opened_of, own_of, pending_of, schema_of, see, set_expect, set_field_named, set_pending,
-    set_version, version_of,
-};
-use crate::reason::{
-    DEEP, HALF_A_RANGE, MISSING, OTHERWISE, OVER_LIST, OVER_TEXT, REPEATED, REQUIRED, TYPE,
-    UNKNOWN, is_of_field,
-};
-use file_members::kind::{HELD_SCHEMA, HELD_SNAPSHOT, NO_KIND, THE_FILE};
+use crate::course::{Course, DEEPEST, Expect, Opened};
+use crate::reason::Reason;
+use file_members::kind;
+use file_members::kind::{HELD_SNAPSHOT, NO_KIND, THE_FILE};
 use file_members::name::member;
-use file_members::seen::{FLAGS, lacks};
+use file_members::seen::lacks;
 use file_members::spot::{FIELD_NAME, FIELD_REQUIRED, FORMAT_VERSION, PARTITION_NAME};
-use file_members::standing::standing;
+use file_members::standing::{REQUIRED, standing};
 use file_members::value::fault_of;
 use file_members::want::{
     A_REF, THE_WHOLE_FILE, is_at_schema, item_of, named_of, passes_over, record_of, room_of,
     want_of,
 };
-use file_members::{kind, standing};
 use json_lex::text::Kept;
 use json_tokens::Token;
-use json_told::found::{Defect, Found, note};
-use std::num::{wrapping_add_usize, wrapping_sub_usize};
+use json_told::field::Member;
+use json_told::found::Defect;
 
-const NOT_PUBLISHED: usize = 28;
+pub const NOT_JSON: usize = 27;
 
-const OVER_CAPACITY: usize = 29;
+pub const NOT_PUBLISHED: usize = 28;
 
-const LACKING: usize = 30;
+pub const OVER_CAPACITY: usize = 29;
 
-const DEEPEST: usize = 16;
+pub const LACKING: usize = 30;
 
 // Texts have room for so many bytes: names of refs and of fields, and all others.
 const NAME_BYTES: usize = 32;
 
 const TEXT_BYTES: usize = 96;
-
-fn note_at(found: &mut Found, number: usize, place: usize, reason: usize, detail: usize) {
-    note(
-        found,
-        Defect {
-            number,
-            place,
-            at: place,
-            reason,
-            detail,
-        },
-    );
-}
-
-// What is wanted of the value that comes.
-fn wanted(course: &Course) -> usize {
-    if depth_of(course) == 0 {
-        return THE_WHOLE_FILE;
-    }
-    if opened_of(course) == LIST {
-        return each_of(course);
-    }
-    pending_of(course)
-}
-
-fn reason_of_field(want: usize) -> usize {
-    if want == FIELD_REQUIRED {
-        return REQUIRED;
-    }
-    TYPE
-}
-
-// A value that is not what is wanted: at its own place, or for a field at its schema.
-fn note_otherwise(course: &Course, found: &mut Found, want: usize, first: usize) {
-    if is_at_schema(want) {
-        note(
-            found,
-            Defect {
-                number: NOT_PUBLISHED,
-                place: schema_of(course),
-                at: first,
-                reason: reason_of_field(want),
-                detail: field_named_of(course),
-            },
-        );
-    } else {
-        note_at(found, NOT_PUBLISHED, first, OTHERWISE, want);
-    }
-}
 
 fn bytes_of(want: usize) -> usize {
     match want {
@@ -94,173 +37,201 @@ fn bytes_of(want: usize) -> usize {
     }
 }
 
-// A text, a number or a word.
-fn take_scalar(course: &mut Course, kept: &Kept, t: Token, want: usize, found: &mut Found) {
-    let number = fault_of(want, kept, t.head, t.len, t.integer, t.magnitude);
-    if number == OVER_CAPACITY {
-        note_at(found, number, t.first, OVER_TEXT, bytes_of(want));
-    } else if number != 0 {
-        note_otherwise(course, found, want, t.first);
+fn member_of(want: usize) -> Member {
+    if want == FIELD_REQUIRED {
+        return Member::Required;
     }
-    if want == FIELD_NAME {
-        set_field_named(course, t.first);
-    }
-    if want == FORMAT_VERSION && number == 0 && version_of(course) == 0 {
-        set_version(course, (t.magnitude % 4) as usize);
-    }
-    go_behind(course);
-}
-
-// One element more than there is room for shows that the list, or the refs, are too many.
-fn note_count(course: &Course, found: &mut Found) {
-    let room = room_of(own_of(course));
-    if room > 0 && count_of(course) > room {
-        note_at(found, OVER_CAPACITY, first_of(course), OVER_LIST, room);
-    }
-}
-
-fn take_list(course: &mut Course, first: usize, want: usize, found: &mut Found) {
-    let each = item_of(want);
-    if each == 0 && !passes_over(want) {
-        note_otherwise(course, found, want, first);
-    }
-    if each == 0 {
-        open(course, LIST, 0, 0, first, false);
-    } else {
-        open(course, LIST, want, each, first, false);
-    }
-    set_expect(course, FIRST_VALUE);
-}
-
-fn take_object(
-    course: &mut Course,
-    flags: &mut Flags,
-    first: usize,
-    want: usize,
-    found: &mut Found,
-) {
-    let record = record_of(want);
-    if named_of(want) != 0 {
-        open(course, NAMED, want, A_REF, first, false);
-    } else if record < NO_KIND {
-        open(course, RECORD, want, record, first, record == HELD_SCHEMA);
-    } else {
-        if !passes_over(want) {
-            note_otherwise(course, found, want, first);
-        }
-        open(course, FREE, 0, 0, first, false);
-    }
-    forget_all(course, flags);
-    set_expect(course, FIRST_NAME);
-}
-
-// A value begins, or is there whole.
-pub fn take_value(
-    course: &mut Course,
-    flags: &mut Flags,
-    kept: &Kept,
-    t: Token,
-    found: &mut Found,
-) {
-    let want = wanted(course);
-    if opened_of(course) == LIST {
-        count_one(course);
-        note_count(course, found);
-    }
-    if t.head != b'[' && t.head != b'{' {
-        take_scalar(course, kept, t, want, found);
-    } else if depth_of(course) >= DEEPEST {
-        note_at(found, OVER_CAPACITY, t.first, DEEP, 0);
-        set_expect(course, STOPPED);
-    } else if t.head == b'[' {
-        take_list(course, t.first, want, found);
-    } else {
-        take_object(course, flags, t.first, want, found);
-    }
+    Member::Type
 }
 
 // The position of a member among those of its record.
 fn position(record: usize, spot: usize) -> usize {
-    wrapping_sub_usize(spot, kind::first_of(record))
+    spot.wrapping_sub(kind::first_of(record))
 }
 
-// The name of a member. One that is unknown in the file itself is skipped; the value of one that is refused is not judged.
-fn take_member(course: &mut Course, flags: &mut Flags, kept: &Kept, t: Token, found: &mut Found) {
-    let record = each_of(course);
-    let version = version_of(course);
-    let spot = member(version, record, kept, t.len);
-    let at = position(record, spot);
-    set_pending(course, 0);
-    if spot == 0 {
-        if record != THE_FILE {
-            note_at(found, NOT_PUBLISHED, t.first, UNKNOWN, 0);
+impl Course {
+    pub fn note(&mut self, number: usize, place: usize, reason: Reason) {
+        self.found.note(Defect {
+            number,
+            place,
+            at: place,
+            reason,
+        });
+    }
+
+    // What is wanted of the value that comes.
+    fn wanted(&self) -> usize {
+        if self.depth() == 0 {
+            return THE_WHOLE_FILE;
         }
-    } else if is_seen(course, flags, at) {
-        note_at(found, NOT_PUBLISHED, t.first, REPEATED, 0);
-    } else {
-        see(course, flags, at);
-        set_pending(course, want_of(version, spot));
-    }
-}
-
-// The name of a ref is a text as the name of a field is.
-fn take_ref_name(course: &mut Course, kept: &Kept, t: Token, found: &mut Found) {
-    let number = fault_of(FIELD_NAME, kept, t.head, t.len, t.integer, t.magnitude);
-    if number == OVER_CAPACITY {
-        note_at(found, number, t.first, OVER_TEXT, NAME_BYTES);
-    } else if number != 0 {
-        note_at(found, number, t.first, OTHERWISE, FIELD_NAME);
-    }
-    count_one(course);
-    note_count(course, found);
-    set_pending(course, A_REF);
-}
-
-pub fn take_name(course: &mut Course, flags: &mut Flags, kept: &Kept, t: Token, found: &mut Found) {
-    let opened = opened_of(course);
-    if opened == RECORD {
-        take_member(course, flags, kept, t, found);
-    } else if opened == NAMED {
-        take_ref_name(course, kept, t, found);
-    } else {
-        set_pending(course, 0);
-    }
-    set_expect(course, COLON);
-}
-
-// The first member that a record must have and was not seen; 0 where every one was.
-fn first_lacking(course: &Course, flags: &Flags, record: usize) -> usize {
-    let version = version_of(course);
-    let first = kind::first_of(record);
-    let count = kind::count_of(record);
-    let mut i = 0;
-    while i < count {
-        let spot = wrapping_add_usize(first, i);
-        if standing(version, spot) == standing::REQUIRED && !is_seen(course, flags, i) {
-            return spot;
+        match self.innermost().opened {
+            Opened::List(each) => each,
+            _ => self.pending,
         }
-        i += 1;
     }
-    0
-}
 
-fn lacks_something(course: &Course, flags: &Flags, record: usize) -> bool {
-    let mut seen = [false; FLAGS];
-    let mut i = 0;
-    while i < FLAGS {
-        seen[i] = is_seen(course, flags, i);
-        i += 1;
+    // A value that is not what is wanted: at its own place, or for a field at its schema.
+    fn note_otherwise(&mut self, want: usize, first: usize) {
+        if is_at_schema(want) {
+            let level = *self.innermost();
+            self.found.note(Defect {
+                number: NOT_PUBLISHED,
+                place: level.schema,
+                at: first,
+                reason: Reason::OfField(member_of(want), level.field_named),
+            });
+        } else {
+            self.note(NOT_PUBLISHED, first, Reason::Otherwise(want));
+        }
     }
-    lacks(version_of(course), record, &seen)
-}
 
-// An object is closed: a record may lack a member.
-pub fn take_close(course: &Course, flags: &Flags, found: &mut Found) {
-    let record = each_of(course);
-    if opened_of(course) == RECORD && lacks_something(course, flags, record) {
-        let spot = first_lacking(course, flags, record);
-        let is_half = spot == 0 && record == HELD_SNAPSHOT;
-        let reason = if is_half { HALF_A_RANGE } else { MISSING };
-        note_at(found, LACKING, first_of(course), reason, spot);
+    // A text, a number or a word.
+    fn take_scalar(&mut self, kept: &Kept, token: Token, want: usize) {
+        let first = token.first;
+        let number = fault_of(
+            want,
+            kept,
+            token.head,
+            token.len,
+            token.integer,
+            token.magnitude,
+        );
+        if number == OVER_CAPACITY {
+            self.note(number, first, Reason::OverText(bytes_of(want)));
+        } else if number != 0 {
+            self.note_otherwise(want, first);
+        }
+        if want == FIELD_NAME {
+            self.name_field(first);
+        }
+        if want == FORMAT_VERSION && number == 0 && self.version == 0 {
+            self.version = (token.magnitude % 4) as usize;
+        }
+        self.go_behind();
+    }
+
+    // One element more. One more than there is room for shows that the list, or the refs, are too many.
+    fn count_element(&mut self) {
+        self.count_one();
+        let level = *self.innermost();
+        let room = room_of(level.own);
+        if room > 0 && level.count > room {
+            self.note(OVER_CAPACITY, level.first, Reason::OverList(room));
+        }
+    }
+
+    fn take_list(&mut self, first: usize, want: usize) {
+        let each = item_of(want);
+        if each == 0 && !passes_over(want) {
+            self.note_otherwise(want, first);
+        }
+        let own = if each == 0 { 0 } else { want };
+        self.open(Opened::List(each), own, first);
+        self.expect = Expect::FirstValue;
+    }
+
+    fn take_object(&mut self, first: usize, want: usize) {
+        let record = record_of(want);
+        if named_of(want) != 0 {
+            self.open(Opened::Named, want, first);
+        } else if record < NO_KIND {
+            self.open(Opened::Record(record), want, first);
+        } else {
+            if !passes_over(want) {
+                self.note_otherwise(want, first);
+            }
+            self.open(Opened::Free, 0, first);
+        }
+        self.expect = Expect::FirstName;
+    }
+
+    // A value begins, or is there whole.
+    pub fn take_value(&mut self, kept: &Kept, token: Token) {
+        let want = self.wanted();
+        if self.innermost().is_list() {
+            self.count_element();
+        }
+        if token.head != b'[' && token.head != b'{' {
+            self.take_scalar(kept, token, want);
+        } else if self.depth() >= DEEPEST {
+            self.note(OVER_CAPACITY, token.first, Reason::Deep);
+            self.expect = Expect::Stopped;
+        } else if token.head == b'[' {
+            self.take_list(token.first, want);
+        } else {
+            self.take_object(token.first, want);
+        }
+    }
+
+    // The name of a member. One that is unknown in the file itself is skipped; the value of one that is refused is not judged.
+    fn take_member(&mut self, kept: &Kept, token: Token, record: usize) {
+        let spot = member(self.version, record, kept, token.len);
+        let at = position(record, spot);
+        self.pending = 0;
+        if spot == 0 {
+            if record != THE_FILE {
+                self.note(NOT_PUBLISHED, token.first, Reason::Unknown);
+            }
+        } else if self.innermost().has_seen(at) {
+            self.note(NOT_PUBLISHED, token.first, Reason::Repeated);
+        } else {
+            self.see(at);
+            self.pending = want_of(self.version, spot);
+        }
+    }
+
+    // The name of a ref is a text as the name of a field is.
+    fn take_ref_name(&mut self, kept: &Kept, token: Token) {
+        let number = fault_of(
+            FIELD_NAME,
+            kept,
+            token.head,
+            token.len,
+            token.integer,
+            token.magnitude,
+        );
+        if number == OVER_CAPACITY {
+            self.note(number, token.first, Reason::OverText(NAME_BYTES));
+        } else if number != 0 {
+            self.note(number, token.first, Reason::Otherwise(FIELD_NAME));
+        }
+        self.count_element();
+        self.pending = A_REF;
+    }
+
+    pub fn take_name(&mut self, kept: &Kept, token: Token) {
+        match self.innermost().opened {
+            Opened::Record(record) => self.take_member(kept, token, record),
+            Opened::Named => self.take_ref_name(kept, token),
+            _ => self.pending = 0,
+        }
+        self.expect = Expect::Colon;
+    }
+
+    // Why a record lacks something: the first member that it must have and was not seen, or half a range.
+    fn why_lacking(&self, record: usize) -> Reason {
+        let first = kind::first_of(record);
+        let count = kind::count_of(record);
+        for i in 0..count {
+            let spot = first.wrapping_add(i);
+            if standing(self.version, spot) == REQUIRED && !self.innermost().has_seen(i) {
+                return Reason::Missing(spot);
+            }
+        }
+        if record == HELD_SNAPSHOT {
+            return Reason::HalfARange;
+        }
+        Reason::Missing(0)
+    }
+
+    // An object is closed: a record may lack a member.
+    pub fn take_close(&mut self) {
+        let level = *self.innermost();
+        if let Opened::Record(record) = level.opened {
+            if lacks(self.version, record, &level.seen) {
+                let reason = self.why_lacking(record);
+                self.note(LACKING, level.first, reason);
+            }
+        }
     }
 }

@@ -9,5 +9,6 @@ mod gone;
 mod judged;
 mod reason;
 mod told;
+mod words;
 
 pub use told::say_bad_file;

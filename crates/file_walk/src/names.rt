@@ -46,12 +46,10 @@ fn was_there(bytes: &[u8], places: &Places, count: usize, kept: &Kept, len: usiz
     requires { (count ≤ 128) × (len ≤ 96) }
     ensures { result ≡ is_one_of (names_at bytes.now places.now count) (front len kept.now) }
 {
-    let mut i = 0;
-    while i < count {
-        if is_again(bytes, places[i], kept, len) {
+    for place in &places[..count] {
+        if is_again(bytes, *place, kept, len) {
             return true;
         }
-        i += 1;
     }
     false
 }

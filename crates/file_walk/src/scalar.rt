@@ -1,6 +1,5 @@
 // A value that is no list and no object.
 ghost use Rattle.std.specs.Prelude.{◌≡◌, suc, ◌≤◌, ◌<◌, length};
-ghost use Rattle.json_rule.specs.Lexemes.{is_digit};
 ghost use Rattle.json_rule.specs.Defects.{stands_at};
 ghost use Rattle.json_tokens.specs.Tokens.{TokenAt};
 ghost use Rattle.file_cells.specs.Wants.{stands_at_schema};
@@ -11,53 +10,28 @@ use crate::cells::{Cells, put_value};
 use crate::seat::{MISSING, READ, Seat, refuse, stop};
 use file_members::value::fault_of;
 use file_members::want::is_at_schema;
+use json_lex::byte::is_digit;
 use json_lex::text::Kept;
 use json_tokens::{BROKEN, END, Token};
-
-fn begins_digit(head: u8) -> bool
-    ensures { result ≡ is_digit head }
-{
-    if head < b'0' {
-        return false;
-    }
-    head <= b'9'
-}
 
 fn begins_word(head: u8) -> bool
     ensures { result ≡ begins_word head }
 {
-    if head == b't' {
-        return true;
-    }
-    if head == b'f' {
-        return true;
-    }
-    head == b'n'
+    head == b't' || head == b'f' || head == b'n'
 }
 
 // Whether a byte begins a text, a number or a word.
+#[tactic(auto, unfolding(crate::specs::Walked::stands_alone))]
 fn stands_alone(head: u8) -> bool
     ensures { result ≡ stands_alone head }
 {
-    if head == b'"' {
-        return true;
-    }
-    if head == b'-' {
-        return true;
-    }
-    if begins_digit(head) {
-        return true;
-    }
-    begins_word(head)
+    head == b'"' || head == b'-' || is_digit(head) || begins_word(head)
 }
 
 fn begins_number(head: u8) -> bool
     ensures { result ≡ begins_number head }
 {
-    if head == b'-' {
-        return true;
-    }
-    begins_digit(head)
+    head == b'-' || is_digit(head)
 }
 
 // The magnitude of a whole number; 0 of everything else.

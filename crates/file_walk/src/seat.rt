@@ -16,6 +16,7 @@ pub struct Seat {
     pub spot: usize,
 }
 
+// Kept: a refusal is a number that is 0 where there is none, and a state is a number, as `said_by` of specs/Seats.antt and `told` of specs/Outcomes.antt read them.
 // Read whole.
 pub const READ: usize = 0;
 

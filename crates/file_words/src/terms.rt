@@ -2,7 +2,7 @@
 // leaves it out.
 ghost use Rattle.slot_bounds.specs.Counted.{Counted};
 
-use crate::option::{CLOCK, FILE, LIMIT, NONE, OFFICE, OPTIONS, TOLERANCE, place_behind};
+use crate::option::{Switch, has, place_behind, read_behind};
 use calendar::date::Timed;
 use calendar::text::time_of_text;
 use case_reader::limit_text::{LIMIT_TEXT, LimitText};
@@ -14,15 +14,15 @@ use records::run::{DEFAULT_TOLERANCE_MS, FIRST_OFFICE, RunTerms};
 use records::text::Text;
 use slot_bounds::store_byte;
 use std::rt::HostRuntime;
-use tokens::field::{Signed, signed_of};
+use tokens::field::signed_of;
 use tokens::token::token_of;
 
-// The terms, and the first option whose value is none; `OPTIONS` where every one is.
+// The terms, and the first option whose value is none.
 #[derive(Clone, Copy)]
 pub struct Asked {
     pub limit: LimitText,
     pub terms: RunTerms,
-    pub fault: usize,
+    pub fault: Option<Switch>,
 }
 
 fn time_at(rt: HostRuntime, line: &[u8], at: usize) -> Timed {
@@ -32,40 +32,33 @@ fn time_at(rt: HostRuntime, line: &[u8], at: usize) -> Timed {
 }
 
 // The moment behind an option; another one where the option is not there.
-pub fn time_behind(rt: HostRuntime, line: &[u8], option: usize, other: Time) -> Timed {
-    let at = place_behind(rt, line, option);
-    if at == NONE {
-        return Timed {
+pub fn time_behind(rt: HostRuntime, line: &[u8], option: Switch, other: Time) -> Timed {
+    match place_behind(rt, line, option) {
+        Some(at) => time_at(rt, line, at),
+        None => Timed {
             is_timed: true,
             time: other,
-        };
+        },
     }
-    time_at(rt, line, at)
 }
 
-fn number_at(rt: HostRuntime, line: &[u8], at: usize) -> Signed {
+fn number_at(rt: HostRuntime, line: &[u8], at: usize) -> Option<i64> {
     let mut word = io::buffer();
     let len = read_word(rt, line, at, &mut word);
     signed_of(token_of(&word[..len]))
 }
 
 // The number behind an option, likewise.
-pub fn number_behind(rt: HostRuntime, line: &[u8], option: usize, other: i64) -> Signed {
-    let at = place_behind(rt, line, option);
-    if at == NONE {
-        return Signed {
-            is_number: true,
-            number: other,
-        };
+pub fn number_behind(rt: HostRuntime, line: &[u8], option: Switch, other: i64) -> Option<i64> {
+    match place_behind(rt, line, option) {
+        Some(at) => number_at(rt, line, at),
+        None => Some(other),
     }
-    number_at(rt, line, at)
 }
 
 fn copy(slots: &mut [u8], text: &[u8]) {
-    let mut i = 0;
-    while i < text.len() {
-        store_byte(slots, i, text[i]);
-        i += 1;
+    for (i, &byte) in text.iter().enumerate() {
+        store_byte(slots, i, byte);
     }
 }
 
@@ -82,10 +75,8 @@ fn keep_bytes(text: &mut [u8], word: &[u8]) -> usize
     ensures { Counted result text.new }
 {
     let mut len: usize = 0;
-    let mut i = 0;
-    while i < word.len() {
-        len = keep_byte(text, len, word[i]);
-        i += 1;
+    for &byte in word {
+        len = keep_byte(text, len, byte);
     }
     len
 }
@@ -94,17 +85,16 @@ fn keep_bytes(text: &mut [u8], word: &[u8]) -> usize
 pub fn limit_of(rt: HostRuntime, line: &[u8]) -> LimitText {
     let mut word = io::buffer();
     let mut bytes = [0u8; LIMIT_TEXT];
-    let n = read_word(rt, line, place_behind(rt, line, LIMIT), &mut word);
+    let n = read_behind(rt, line, Switch::Limit, &mut word);
     let len = keep_bytes(&mut bytes, &word[..n]);
     LimitText { bytes, len }
 }
 
 fn file_of(rt: HostRuntime, line: &[u8]) -> Text {
-    let at = place_behind(rt, line, FILE);
-    if at == NONE {
-        return Text::blank();
+    match place_behind(rt, line, Switch::File) {
+        Some(at) => text_at(rt, line, at),
+        None => Text::blank(),
     }
-    text_at(rt, line, at)
 }
 
 // Of a number that no office has, one that no run takes.
@@ -116,31 +106,31 @@ fn office_of(number: i64) -> u8 {
     }
 }
 
-fn fault_of(is_clock: bool, is_tolerance: bool, office: u8) -> usize {
+fn fault_of(is_clock: bool, is_tolerance: bool, office: u8) -> Option<Switch> {
     if !is_clock {
-        return CLOCK;
+        return Some(Switch::Clock);
     }
     if !is_tolerance {
-        return TOLERANCE;
+        return Some(Switch::Tolerance);
     }
     if office == 0 {
-        return OFFICE;
+        return Some(Switch::Office);
     }
-    OPTIONS
+    None
 }
 
 // The clock is 0 where none is given: the command says whether it wants one.
 pub fn terms_of(rt: HostRuntime, line: &[u8]) -> Asked {
-    let clock = time_behind(rt, line, CLOCK, Time(0));
-    let tolerance = number_behind(rt, line, TOLERANCE, DEFAULT_TOLERANCE_MS);
-    let office = office_of(number_behind(rt, line, OFFICE, FIRST_OFFICE as i64).number);
-    let has_file = place_behind(rt, line, FILE) < NONE;
+    let clock = time_behind(rt, line, Switch::Clock, Time(0));
+    let tolerance = number_behind(rt, line, Switch::Tolerance, DEFAULT_TOLERANCE_MS);
+    let number = number_behind(rt, line, Switch::Office, FIRST_OFFICE as i64);
+    let office = office_of(number.unwrap_or(0));
+    let has_file = has(rt, line, Switch::File);
     let file = file_of(rt, line);
     let limit = limit_of(rt, line);
-    let clock_ms = clock.time;
     let terms = RunTerms {
-        clock_ms,
-        tolerance_ms: Age(tolerance.number),
+        clock_ms: clock.time,
+        tolerance_ms: Age(tolerance.unwrap_or(0)),
         has_file,
         file,
         office,
@@ -148,6 +138,6 @@ pub fn terms_of(rt: HostRuntime, line: &[u8]) -> Asked {
     Asked {
         limit,
         terms,
-        fault: fault_of(clock.is_timed, tolerance.is_number, office),
+        fault: fault_of(clock.is_timed, tolerance.is_some(), office),
     }
 }

@@ -10,7 +10,7 @@ use lib.Seq.{drop-cons, length-take-le, get_or-take}
 use Rattle.rules.specs.Words.{ascending}
 use Rattle.rules.proofs.Orders.{Ordered}
 use Rattle.rules.proofs.Tables.{by_key, ascending_two}
-use Rattle.formed.proofs.Scans.{Scanned, scan_start, scan_on}
+use Rattle.formed.proofs.Scans.{Scanned, scan_on}
 
 few : {A : Type 0} (below : A → A → Bool) (l : List A) → length l ≤ 1 → ascending below l ≡ true
 few below [] h = refl
@@ -26,9 +26,6 @@ pub record Ascended {A K : Type 0} (lt : K → K → Bool) (key : A → K) (l : 
   pub upto : Scanned (ascending_from (by_key lt key)) l 0 (i - 1) true ok
 
 module _ {A K : Type 0} {lt : K → K → Bool} {key : A → K} {l : List A} where
-  pub ascended_start : Ascended lt key l 1 true
-  ascended_start = record { after = omega arith; upto = scan_start }
-
   module _ {i : ℕ} {ok : Bool} (s : Ascended lt key l i ok) where
     pub ascended_on : Ordered lt → (d : A) {z : Bool} → i < length l → z ≡ lt (key (get_or l (i - 1) d)) (key (get_or l i d)) → Ascended lt key l (i + 1) (ok && z)
     ascended_on o d {z} k e =

@@ -1,6 +1,6 @@
 -- Tests joined in another order.
 use mathlib.Core.Path.{◌≡◌, refl, sym, ap, ◌∙◌}
-use mathlib.Core.Bool.{Bool, true, false, cond, ◌&&◌, and_assoc, and-false}
+use mathlib.Core.Bool.{Bool, true, false, ◌&&◌, and_assoc, and-false}
 use mathlib.Core.List.{List, [], ◌∷◌, map}
 use Rattle.rules.specs.Words.{all}
 use Rattle.rules.proofs.Checks.{and_all}
@@ -22,11 +22,6 @@ asked a b c e t h = h ∙ sym (rw (← and_assoc a b c, ← e, t))
 
 pub not_asked : (a b c : Bool) {ok : Bool} → ok ≡ (a && b) → ok ≡ false → false ≡ (a && (b && c))
 not_asked a b c e f = sym (rw (← and_assoc a b c, ← e, f))
-
--- of a record that fits, used or not, more is asked where it is used
-pub unfit : (used tidy formed blank : Bool) → cond used tidy blank ≡ false → false ≡ cond used (tidy && formed) blank
-unfit true tidy formed blank e = sym (rw e)
-unfit false tidy formed blank e = sym e
 
 -- any number of pairs of tests, taken apart
 pub apart : (a b : Bool) (l : List (Bool × Bool)) → and_all (a && b) (map (λ (x : Bool × Bool). x.0 && x.1) l) ≡ (and_all a (map (λ (x : Bool × Bool). x.0) l) && and_all b (map (λ (x : Bool × Bool). x.1) l))

@@ -2,9 +2,10 @@
 use Prim.Native.Nat.{ℕ, ◌+◌, ◌≤◌, ◌<◌}
 use native.Mathlib.Omega.{arith}
 use mathlib.Core.Path.{◌≡◌, refl, sym, ap, ◌∙◌}
-use mathlib.Core.Bool.{Bool, true, false, ◌&&◌, and-true, and-false}
+use mathlib.Core.Bool.{Bool, true, false, ◌&&◌, and_assoc, and-true}
 use mathlib.Core.List.{List, [], ◌∷◌, map}
-use borrow.Author.Tests.{le-leb, lt-leb, leb-true}
+use borrow.Author.Tests.{le-leb, lt-leb, leb-true, leb-false}
+use borrow.Table.Steps.{cases}
 use lib.Dec.{eqb, leb, eqb-suc-zero}
 use lib.ListN.{length, get_or, take, drop, length-map, get_or-map}
 use lib.Seq.{length-take-le, get_or-take}
@@ -50,6 +51,21 @@ module _ {A B : Type 0} (rd : A → B) where
     pub all_counted : (q : B → Bool) → n ≤ length items → all q (map rd (counted b items n)) ≡ all (λ (x : A). q (rd x)) (take n items)
     all_counted q h = rw (read_taken h) (all_read rd q (take n items))
 
+-- no more count than there is room for, and each of them passes: so it is of what is read of them
+module _ {A B : Type 0} (rd : A → B) (q : B → Bool) (b : A) (room n : ℕ) (items : List A) where
+  pub counted_read : {z : Bool} → length items ≡ room → z ≡ (leb n room && all (λ (x : A). q (rd x)) (take n items)) → z ≡ (leb (length (map rd (counted b items n))) room && all q (map rd (counted b items n)))
+  counted_read e h =
+      h
+      ∙ cases (leb n room)
+      (λ t. rw (t, few_enough rd b items n room (leb-true n room t), all_counted rd b items n q (omega (arith, e, leb-true n room t))))
+      (λ f. rw (f, too_many rd b items n room (leb-false n room f)))
+
+  -- first is what was found before
+  pub counted_after : (first : Bool) {z : Bool} → length items ≡ room → z ≡ (leb n room && all (λ (x : A). q (rd x)) (take n items))
+      → (first && z) ≡ (first && leb (length (map rd (counted b items n))) room && all q (map rd (counted b items n)))
+  counted_after first e h =
+      ap (λ (y : Bool). first && y) (counted_read e h) ∙ sym (and_assoc first (leb (length (map rd (counted b items n))) room) (all q (map rd (counted b items n))))
+
 -- ---- scanned
 
 -- one question of each counted slot, from an index on; first is what was found before, and ok what was found up to i
@@ -73,6 +89,3 @@ module _ {A B : Type 0} (rd : A → B) (q : B → Bool) (b : A) (room n : ℕ) (
   pub read_end : {i : ℕ} {ok : Bool} → Taken (λ (x : A). q (rd x)) n items 0 i first ok → n ≤ room → n ≤ i
       → ok ≡ (first && leb (length (map rd (counted b items n))) room && all q (map rd (counted b items n)))
   read_end s h k = taken_end s k ∙ sym (rw (few_enough rd b items n room h, and-true first, all_counted rd b items n q s.fits))
-
-  pub read_many : room < n → false ≡ (first && leb (length (map rd (counted b items n))) room && all q (map rd (counted b items n)))
-  read_many h = sym (rw (too_many rd b items n room h, and-false first))

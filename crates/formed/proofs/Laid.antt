@@ -10,7 +10,6 @@ use lib.ListN.{length, get_or, length-append, length-replicate, length-map, get_
 use lib.Seq.{drop-cons}
 use lib.Signed.{non_neg}
 use Rattle.records.specs.Blanks.{no_ref}
-use Rattle.records.specs.declared.snapshot.Snapshots.{Snapshots}
 use Rattle.records.specs.declared.reference.NamedRef.{NamedRef}
 use Rattle.records.specs.declared.reference.Refs.{Refs}
 use Rattle.records.specs.declared.schema.Schemas.{Schemas}
@@ -18,14 +17,14 @@ use Rattle.records.specs.declared.sort_order.SortOrders.{SortOrders}
 use Rattle.records.specs.declared.partition.PartitionSpecs.{PartitionSpecs}
 use Rattle.rules.specs.Words.{all, ascending}
 use Rattle.rules.specs.Register as plain
-use Rattle.rules.specs.Capacities.{snapshot_room, ref_room, name_room, schema_room, schema_field_room, sort_order_room, sort_field_room, spec_room, partition_field_room}
-use Rattle.rules.specs.WellFormed.{name_formed, snapshot_formed, reference_formed, owner_formed, ref_formed, schema_formed, sort_field_formed, offered_order_formed, order_formed, partition_field_formed, spec_formed, snapshot_below, schema_below, order_below, spec_below, snapshots_formed, refs_formed, schemas_formed, orders_formed, specs_formed}
-use Rattle.rules.specs.Blanks.{is_tidy_snapshots, is_blank_ref, is_tidy_ref, is_tidy_refs, is_tidy_schemas, is_tidy_sort_orders, is_tidy_partition_specs}
-use Rattle.rules.specs.Layout.{pad, read_name, read_snapshots, read_ref, laid_ref, read_refs, laid_refs, read_schemas, read_sort_orders, read_partition_specs}
+use Rattle.rules.specs.Capacities.{ref_room, name_room, schema_room, schema_field_room, sort_order_room, sort_field_room, spec_room, partition_field_room}
+use Rattle.rules.specs.WellFormed.{name_formed, reference_formed, owner_formed, ref_formed, schema_formed, sort_field_formed, offered_order_formed, order_formed, partition_field_formed, spec_formed, schema_below, order_below, spec_below, refs_formed, schemas_formed, orders_formed, specs_formed}
+use Rattle.rules.specs.Blanks.{is_blank_ref, is_tidy_ref, is_tidy_refs, is_tidy_schemas, is_tidy_sort_orders, is_tidy_partition_specs}
+use Rattle.rules.specs.Layout.{pad, read_name, read_ref, laid_ref, read_refs, laid_refs, read_schemas, read_sort_orders, read_partition_specs}
 use Rattle.rules.proofs.Checks.{both, and_left, and_right, parts, schema_tests, offered_of}
 use Rattle.rules.proofs.Tables.{all_then, all_at, log_formed, log_fits_lem, log_all}
-use Rattle.rules.proofs.Slots.Relaid.{table_back, blank_ref, back_snapshots, back_ref, back_schemas, back_sort_orders, back_partition_specs}
-use Rattle.tables.specs.Laid.{LaidName, LaidSnapshots, LaidRefs, LaidSchemas, LaidOrders, LaidSpecs}
+use Rattle.rules.proofs.Slots.Relaid.{table_back, blank_ref, back_ref, back_schemas, back_sort_orders, back_partition_specs}
+use Rattle.tables.specs.Laid.{LaidName, LaidRefs, LaidSchemas, LaidOrders, LaidSpecs}
 use Rattle.formed.proofs.Counted.{read_length, read_at}
 
 -- the order of refs is not asked: it is tested on names that are laid out

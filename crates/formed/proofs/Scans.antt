@@ -45,18 +45,3 @@ module _ {A : Type 0} (p : A → Bool) {l : List A} {from i : ℕ} {first ok : B
 
 pub with_slots : {A : Type 0} (p : A → Bool) (l : List A) (from room : ℕ) {z : Bool} → length l ≡ room → z ≡ all p (drop from l) → z ≡ rest_blank room p l from
 with_slots p l from room e h = h ∙ rw (eq-eqb (length l) room e)
-
-pub record Slotted {A : Type 0} (p : A → Bool) (room : ℕ) (l : List A) (from i : ℕ) (ok : Bool) : Type 0 where
-  pub fits : length l ≡ room
-  pub upto : Scanned (each p) l from i true ok
-
-module _ {A : Type 0} {p : A → Bool} {room : ℕ} {l : List A} {from : ℕ} where
-  pub slotted_start : length l ≡ room → Slotted p room l from from true
-  slotted_start e = record { fits = e; upto = scan_start }
-
-  module _ {i : ℕ} {ok : Bool} (s : Slotted p room l from i ok) where
-    pub slotted_on : (d : A) {z : Bool} → i < room → z ≡ p (get_or l i d) → Slotted p room l from (i + 1) (ok && z)
-    slotted_on d h e = record { fits = s.fits; upto = each_on p s.upto d (rw s.fits h) e }
-
-    pub slotted_end : room ≤ i → ok ≡ rest_blank room p l from
-    slotted_end h = with_slots p l from room s.fits (each_end p s.upto (rw s.fits h))

@@ -8,5 +8,6 @@ pub mod bounds;
 pub mod metadata;
 pub mod order;
 pub mod record;
+pub mod slot;
 pub mod slots;
 pub mod update;

@@ -14,7 +14,6 @@ use crate::slots::{
     metadata_log_formed, order_keys, refs_filled, schema_keys, snapshot_keys, snapshot_log_formed,
     spec_keys, statistics_keys,
 };
-use equality::ids::same_snapshot;
 use records::capacities::TEXT;
 use records::counters::SnapshotId;
 use records::metadata::{SingleFields, TableMetadata};
@@ -35,15 +34,12 @@ pub fn refs_formed(t: Refs) -> bool
 fn fields_formed(f: SingleFields) -> bool
     ensures { result ≡ (is_tidy_fields f && fields_formed (read_fields f)) }
 {
-    let v = f.format_version;
-    let l = f.location;
-    let n = l.len;
-    let s = f.last_sequence_number;
-    let h = f.has_current;
-    let c = f.current_snapshot_id;
-    let p = f.last_partition_id;
-    (text_fits(true, l) & (h | same_snapshot(c, SnapshotId(0))))
-        & ((1 <= v) & (v <= 3) & (n <= TEXT) & sequence_formed(s) & last_partition_formed(p))
+    (text_fits(true, f.location) & (f.has_current | (f.current_snapshot_id == SnapshotId(0))))
+        & ((1 <= f.format_version)
+            & (f.format_version <= 3)
+            & (f.location.len <= TEXT)
+            & sequence_formed(f.last_sequence_number)
+            & last_partition_formed(f.last_partition_id))
 }
 
 // Each ref names a snapshot that is among the keys.
@@ -52,19 +48,12 @@ pub fn refs_held(t: Refs, k: Keys) -> bool
     requires count_le_snapshot_room { k.count ≤ snapshot_room }
     ensures { result ≡ all (λ x. is_in (take k.count k.ids) x.reference.snapshot) (read_refs t) }
 {
-    let n = t.count;
-    let held = k.count;
-    let ids = k.ids;
-    let mut ok = true;
-    let mut i = 0;
-    while i < n {
-        let x = t.items[i];
-        let f = x.reference;
-        let y = snapshot_key(f.snapshot_id);
-        ok = ok & is_in(&ids[..held], y);
-        i += 1;
+    for x in &t.items[..t.count] {
+        if !is_in(&k.ids[..k.count], snapshot_key(x.reference.snapshot_id)) {
+            return false;
+        }
     }
-    ok
+    true
 }
 
 // A current snapshot is set exactly if there is a ref `main`, and `main` names it.
@@ -72,58 +61,50 @@ pub fn main_agrees(f: SingleFields, t: Refs) -> bool
     requires { LaidRefs t }
     ensures { result ≡ same_option eq_z (read_fields f).current (main_snapshot (read_refs t)) }
 {
-    let h = f.has_current;
-    let c = f.current_snapshot_id;
-    let n = t.count;
-    let mut i = 0;
-    while i < n {
-        let r = t.items[i];
-        let x = r.name;
-        if is_main_name(x) {
-            let g = r.reference;
-            let id = g.snapshot_id;
-            return h & same_snapshot(c, id);
+    for r in &t.items[..t.count] {
+        if is_main_name(r.name) {
+            return f.has_current & (f.current_snapshot_id == r.reference.snapshot_id);
         }
-        i += 1;
     }
-    !h
+    !f.has_current
 }
 
+// Each part is a local first: handed over straight from the metadata, it would be copied with all of it.
 pub fn is_formed(m: TableMetadata) -> bool
     ensures { result ≡ (is_tidy_metadata m && metadata_formed (read_metadata m)) }
 {
-    let f = m.fields;
-    let r = m.refs;
-    let l = m.snapshot_log;
-    let g = m.metadata_log;
+    let fields = m.fields;
+    let refs = m.refs;
+    let log = m.snapshot_log;
+    let files = m.metadata_log;
     let snapshots = m.snapshots;
     let schemas = m.schemas;
     let orders = m.sort_orders;
-    let files = m.statistics;
-    let others = m.partition_statistics;
+    let statistics = m.statistics;
+    let partition_statistics = m.partition_statistics;
     let specs = m.partition_specs;
-    let s = snapshot_keys(snapshots);
-    let c = schema_keys(schemas);
-    let o = order_keys(orders);
-    let p = statistics_keys(files);
-    let q = statistics_keys(others);
-    let u = spec_keys(specs);
-    let ok = s.formed
-        & refs_formed(r)
-        & snapshot_log_formed(l)
-        & metadata_log_formed(g)
-        & c.formed
-        & o.formed
-        & p.formed
-        & q.formed
-        & u.formed
-        & fields_formed(f);
+    let snapshot_ids = snapshot_keys(snapshots);
+    let schema_ids = schema_keys(schemas);
+    let order_ids = order_keys(orders);
+    let statistics_ids = statistics_keys(statistics);
+    let partition_ids = statistics_keys(partition_statistics);
+    let spec_ids = spec_keys(specs);
+    let ok = snapshot_ids.formed
+        & refs_formed(refs)
+        & snapshot_log_formed(log)
+        & metadata_log_formed(files)
+        & schema_ids.formed
+        & order_ids.formed
+        & statistics_ids.formed
+        & partition_ids.formed
+        & spec_ids.formed
+        & fields_formed(fields);
     if ok {
-        return refs_held(r, s)
-            & main_agrees(f, r)
-            & holds(c, schema_key(f.current_schema_id))
-            & holds(o, order_key(f.default_sort_order_id))
-            & holds(u, spec_key(f.default_spec_id));
+        return refs_held(refs, snapshot_ids)
+            & main_agrees(fields, refs)
+            & holds(schema_ids, schema_key(fields.current_schema_id))
+            & holds(order_ids, order_key(fields.default_sort_order_id))
+            & holds(spec_ids, spec_key(fields.default_spec_id));
     }
     false
 }

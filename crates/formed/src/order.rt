@@ -15,6 +15,7 @@ use search::{Key, is_in};
 use tables::names::name_is_below;
 
 // The keys of a table in its order, and zeros up to as many as the largest table has. It is `filled` if its slots passed, and `formed` if its keys ascend too.
+// Kept: `Found`, the contract of the public functions that make it, names the four fields, and the crate `faults` reads them.
 #[derive(Clone, Copy)]
 pub struct Keys {
     pub ids: [i64; SNAPSHOTS],
@@ -27,10 +28,8 @@ fn ascends(ids: &[i64]) -> bool
     ensures { result ≡ ascending lt_z ids.now }
 {
     let mut ok = true;
-    let mut i = 1;
-    while i < ids.len() {
-        ok = ok & (ids[i - 1] < ids[i]);
-        i += 1;
+    for i in 1..ids.len() {
+        ok &= ids[i - 1] < ids[i];
     }
     ok
 }
@@ -61,25 +60,16 @@ pub fn holds(k: Keys, key: Key) -> bool
     requires { k.count ≤ snapshot_room }
     ensures { result ≡ is_in (take k.count k.ids) key.0 }
 {
-    let n = k.count;
-    let ids = k.ids;
-    is_in(&ids[..n], key)
+    is_in(&k.ids[..k.count], key)
 }
 
 pub fn refs_ascend(t: Refs) -> bool
     requires { LaidRefs t }
     ensures { result ≡ ascending ref_below (read_refs t) }
 {
-    let n = t.count;
     let mut ok = true;
-    let mut i = 1;
-    while i < n {
-        let a = t.items[i - 1];
-        let b = t.items[i];
-        let x = a.name;
-        let y = b.name;
-        ok = ok & name_is_below(x, y);
-        i += 1;
+    for i in 1..t.count {
+        ok &= name_is_below(t.items[i - 1].name, t.items[i].name);
     }
     ok
 }

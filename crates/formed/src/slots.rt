@@ -1,5 +1,6 @@
-// The slots of tables and logs: the counted ones are tidy and well formed, and the rest are blank. The keys of a table are gathered on the way.
-ghost use Rattle.std.specs.Prelude.{◌≡◌, cond, ◌&&◌, leb, length};
+// The slots of tables and logs: the counted ones are tidy and well formed, and the rest are blank.
+// Kept: a function for each table, `snapshot_keys` to `statistics_keys`: the public contract of each, `Found`, says what is read of that table.
+ghost use Rattle.std.specs.Prelude.{◌≡◌, ◌&&◌, leb, length};
 ghost use Rattle.std.specs.Int.Signed.{non_neg};
 ghost use Rattle.rules.specs.Words.{all};
 ghost use Rattle.rules.specs.Capacities.{snapshot_room, ref_room, schema_room, sort_order_room, spec_room, statistics_room};
@@ -12,19 +13,14 @@ use crate::blanks::{
     name_fits, order_fits, reference_fits, schema_fits, snapshot_fits, spec_fits,
     statistics_file_fits, text_fits,
 };
-use crate::bounds::snapshot_id_formed;
-use crate::order::{Keys, told};
+use crate::order::Keys;
 use crate::record::{
     order_formed, owner_formed, reference_formed, schema_formed, snapshot_formed, spec_formed,
     statistics_file_formed,
 };
-use equality::number::same_time;
-use equality::whole::same_log_entry;
-use records::capacities::{
-    METADATA_LOG, NAME, PARTITION_SPECS, REFS, SCHEMAS, SNAPSHOT_LOG, SNAPSHOTS, SORT_ORDERS,
-    STATISTICS, TEXT,
-};
-use records::counters::Time;
+use crate::slot::{Keyed, Slot, keys, slots_fit};
+use records::capacities::{METADATA_LOG, NAME, REFS, SNAPSHOT_LOG, TEXT};
+use records::counters::{SnapshotId, Time};
 use records::metadata::{MetadataLog, MetadataLogEntry};
 use records::partition::{PartitionSpec, PartitionSpecs};
 use records::reference::{NamedRef, Refs};
@@ -32,223 +28,218 @@ use records::schema::{Schema, Schemas};
 use records::snapshot::{Snapshot, SnapshotLog, SnapshotLogEntry, Snapshots};
 use records::sort_order::{SortOrder, SortOrders};
 use records::statistics::{StatisticsFile, StatisticsFiles};
-use tables::keys::{order_key, schema_key, snapshot_key, spec_key};
 
-fn snapshot_slot(used: bool, s: Snapshot) -> bool
-    ensures { result ≡ cond used (is_tidy_snapshot s && snapshot_formed (read_snapshot s)) (is_blank_snapshot s) }
-{
-    if used {
-        return snapshot_fits(true, s) & snapshot_formed(s);
+// ---- snapshots
+
+impl Slot for Snapshot {
+    ghost used = { λ s. is_tidy_snapshot s && snapshot_formed (read_snapshot s) };
+
+    ghost blank = { is_blank_snapshot };
+
+    fn fits(&self, is_used: bool) -> bool {
+        if is_used {
+            return snapshot_fits(true, *self) & snapshot_formed(*self);
+        }
+        snapshot_fits(false, *self)
     }
-    snapshot_fits(false, s)
+}
+
+impl Keyed for Snapshot {
+    ghost key_of = { λ s. s.snapshot_id.0 };
+
+    fn key(&self) -> i64 {
+        self.snapshot_id.0
+    }
 }
 
 pub fn snapshot_keys(t: Snapshots) -> Keys
     ensures { Found (is_tidy_snapshots t) snapshot_room snapshot_formed (λ x. x.id) (read_snapshots t) result }
 {
-    let n = t.count;
-    let mut ids = [0i64; SNAPSHOTS];
-    let mut ok = n <= SNAPSHOTS;
-    let mut i = 0;
-    while i < SNAPSHOTS {
-        let x = t.items[i];
-        ok = ok & snapshot_slot(i < n, x);
-        let k = snapshot_key(x.snapshot_id);
-        let z = k.0;
-        ids[i] = z;
-        i += 1;
-    }
-    told(ok, n, ids)
+    keys(&t.items, t.count)
 }
 
-fn ref_slot(used: bool, r: NamedRef) -> bool
-    ensures { result ≡ cond used (is_tidy_ref r && ref_formed (read_ref r)) (is_blank_ref r) }
-{
-    let n = r.name;
-    let l = n.len;
-    let f = r.reference;
-    let o = r.owner;
-    if used {
-        return (name_fits(true, n) & reference_fits(true, f))
-            & ((l <= NAME) & reference_formed(f) & owner_formed(n, o));
+// ---- refs
+
+impl Slot for NamedRef {
+    ghost used = { λ r. is_tidy_ref r && ref_formed (read_ref r) };
+
+    ghost blank = { is_blank_ref };
+
+    fn fits(&self, is_used: bool) -> bool {
+        if is_used {
+            return (name_fits(true, self.name) & reference_fits(true, self.reference))
+                & ((self.name.len <= NAME)
+                    & reference_formed(self.reference)
+                    & owner_formed(self.name, self.owner));
+        }
+        name_fits(false, self.name) & reference_fits(false, self.reference) & (self.owner == 0)
     }
-    name_fits(false, n) & reference_fits(false, f) & (o == 0)
 }
 
 pub fn refs_filled(t: Refs) -> bool
     ensures { result ≡ (is_tidy_refs t && (leb (length (read_refs t)) ref_room && all ref_formed (read_refs t))) }
 {
-    let n = t.count;
-    let mut ok = n <= REFS;
-    let mut i = 0;
-    while i < REFS {
-        let x = t.items[i];
-        ok = ok & ref_slot(i < n, x);
-        i += 1;
-    }
-    ok
+    (t.count <= REFS) & slots_fit(&t.items, t.count)
 }
 
-fn log_slot(used: bool, e: SnapshotLogEntry) -> bool
-    ensures { result ≡ cond used (non_neg e.snapshot_id.0) (is_blank_log_entry e) }
-{
-    let id = e.snapshot_id;
-    if used {
-        return snapshot_id_formed(id);
+// ---- the logs
+
+impl Slot for SnapshotLogEntry {
+    ghost used = { λ e. non_neg e.snapshot_id.0 };
+
+    ghost blank = { is_blank_log_entry };
+
+    fn fits(&self, is_used: bool) -> bool {
+        if is_used {
+            return self.snapshot_id >= SnapshotId(0);
+        }
+        *self == SnapshotLogEntry::blank()
     }
-    same_log_entry(e, SnapshotLogEntry::blank())
 }
 
 pub fn snapshot_log_formed(t: SnapshotLog) -> bool
     ensures { result ≡ (is_tidy_snapshot_log t && snapshot_log_formed (read_snapshot_log t)) }
 {
-    let n = t.count;
-    let mut ok = n <= SNAPSHOT_LOG;
-    let mut i = 0;
-    while i < SNAPSHOT_LOG {
-        let x = t.items[i];
-        ok = ok & log_slot(i < n, x);
-        i += 1;
-    }
-    ok
+    (t.count <= SNAPSHOT_LOG) & slots_fit(&t.items, t.count)
 }
 
-fn file_slot(used: bool, e: MetadataLogEntry) -> bool
-    ensures { result ≡ cond used (is_tidy_metadata_log_entry e && file_name_formed (read_text e.metadata_file)) (is_blank_metadata_log_entry e) }
-{
-    let f = e.metadata_file;
-    let n = f.len;
-    let t = e.timestamp_ms;
-    if used {
-        return text_fits(true, f) & (n <= TEXT);
+impl Slot for MetadataLogEntry {
+    ghost used = { λ e. is_tidy_metadata_log_entry e && file_name_formed (read_text e.metadata_file) };
+
+    ghost blank = { is_blank_metadata_log_entry };
+
+    fn fits(&self, is_used: bool) -> bool {
+        if is_used {
+            return text_fits(true, self.metadata_file) & (self.metadata_file.len <= TEXT);
+        }
+        text_fits(false, self.metadata_file) & (self.timestamp_ms == Time(0))
     }
-    text_fits(false, f) & same_time(t, Time(0))
 }
 
 pub fn metadata_log_formed(t: MetadataLog) -> bool
     ensures { result ≡ (is_tidy_metadata_log t && metadata_log_formed (read_metadata_log t)) }
 {
-    let n = t.count;
-    let mut ok = n <= METADATA_LOG;
-    let mut i = 0;
-    while i < METADATA_LOG {
-        let x = t.items[i];
-        ok = ok & file_slot(i < n, x);
-        i += 1;
-    }
-    ok
+    (t.count <= METADATA_LOG) & slots_fit(&t.items, t.count)
 }
 
-fn schema_slot(used: bool, s: Schema) -> bool
-    ensures { result ≡ cond used (is_tidy_schema s && schema_formed (read_schema s)) (is_blank_schema s) }
-{
-    if !schema_fits(used, s) {
-        return false;
+// ---- schemas
+
+impl Slot for Schema {
+    ghost used = { λ s. is_tidy_schema s && schema_formed (read_schema s) };
+
+    ghost blank = { is_blank_schema };
+
+    fn fits(&self, is_used: bool) -> bool {
+        if !schema_fits(is_used, *self) {
+            return false;
+        }
+        if is_used {
+            return schema_formed(*self);
+        }
+        true
     }
-    if used {
-        return schema_formed(s);
+}
+
+impl Keyed for Schema {
+    ghost key_of = { λ s. s.schema_id.0 };
+
+    fn key(&self) -> i64 {
+        i64::from(self.schema_id.0)
     }
-    true
 }
 
 pub fn schema_keys(t: Schemas) -> Keys
     ensures { Found (is_tidy_schemas t) schema_room schema_formed (λ x. x.id) (read_schemas t) result }
 {
-    let n = t.count;
-    let mut ids = [0i64; SNAPSHOTS];
-    let mut ok = n <= SCHEMAS;
-    let mut i = 0;
-    while i < SCHEMAS {
-        let x = t.items[i];
-        ok = ok & schema_slot(i < n, x);
-        let k = schema_key(x.schema_id);
-        let z = k.0;
-        ids[i] = z;
-        i += 1;
-    }
-    told(ok, n, ids)
+    keys(&t.items, t.count)
 }
 
-fn order_slot(used: bool, o: SortOrder) -> bool
-    ensures { result ≡ cond used (is_tidy_sort_order o && order_formed (read_sort_order o)) (is_blank_sort_order o) }
-{
-    if used {
-        return order_fits(true, o) & order_formed(o);
+// ---- sort orders
+
+impl Slot for SortOrder {
+    ghost used = { λ o. is_tidy_sort_order o && order_formed (read_sort_order o) };
+
+    ghost blank = { is_blank_sort_order };
+
+    fn fits(&self, is_used: bool) -> bool {
+        if is_used {
+            return order_fits(true, *self) & order_formed(*self);
+        }
+        order_fits(false, *self)
     }
-    order_fits(false, o)
+}
+
+impl Keyed for SortOrder {
+    ghost key_of = { λ o. o.order_id.0 };
+
+    fn key(&self) -> i64 {
+        self.order_id.0
+    }
 }
 
 pub fn order_keys(t: SortOrders) -> Keys
     ensures { Found (is_tidy_sort_orders t) sort_order_room order_formed (λ x. x.id) (read_sort_orders t) result }
 {
-    let n = t.count;
-    let mut ids = [0i64; SNAPSHOTS];
-    let mut ok = n <= SORT_ORDERS;
-    let mut i = 0;
-    while i < SORT_ORDERS {
-        let x = t.items[i];
-        ok = ok & order_slot(i < n, x);
-        let k = order_key(x.order_id);
-        let z = k.0;
-        ids[i] = z;
-        i += 1;
-    }
-    told(ok, n, ids)
+    keys(&t.items, t.count)
 }
 
-fn spec_slot(used: bool, s: PartitionSpec) -> bool
-    ensures { result ≡ cond used (is_tidy_partition_spec s && spec_formed (read_partition_spec s)) (is_blank_partition_spec s) }
-{
-    if !spec_fits(used, s) {
-        return false;
+// ---- partition specs
+
+impl Slot for PartitionSpec {
+    ghost used = { λ s. is_tidy_partition_spec s && spec_formed (read_partition_spec s) };
+
+    ghost blank = { is_blank_partition_spec };
+
+    fn fits(&self, is_used: bool) -> bool {
+        if !spec_fits(is_used, *self) {
+            return false;
+        }
+        if is_used {
+            return spec_formed(*self);
+        }
+        true
     }
-    if used {
-        return spec_formed(s);
+}
+
+impl Keyed for PartitionSpec {
+    ghost key_of = { λ s. s.spec_id.0 };
+
+    fn key(&self) -> i64 {
+        i64::from(self.spec_id.0)
     }
-    true
 }
 
 pub fn spec_keys(t: PartitionSpecs) -> Keys
     ensures { Found (is_tidy_partition_specs t) spec_room spec_formed (λ x. x.id) (read_partition_specs t) result }
 {
-    let n = t.count;
-    let mut ids = [0i64; SNAPSHOTS];
-    let mut ok = n <= PARTITION_SPECS;
-    let mut i = 0;
-    while i < PARTITION_SPECS {
-        let x = t.items[i];
-        ok = ok & spec_slot(i < n, x);
-        let k = spec_key(x.spec_id);
-        let z = k.0;
-        ids[i] = z;
-        i += 1;
-    }
-    told(ok, n, ids)
+    keys(&t.items, t.count)
 }
 
-fn statistics_slot(used: bool, f: StatisticsFile) -> bool
-    ensures { result ≡ cond used (is_tidy_statistics_file f && statistics_file_formed (read_statistics_file f)) (is_blank_statistics_file f) }
-{
-    if used {
-        return statistics_file_fits(true, f) & statistics_file_formed(f);
+// ---- statistics files
+
+impl Slot for StatisticsFile {
+    ghost used = { λ f. is_tidy_statistics_file f && statistics_file_formed (read_statistics_file f) };
+
+    ghost blank = { is_blank_statistics_file };
+
+    fn fits(&self, is_used: bool) -> bool {
+        if is_used {
+            return statistics_file_fits(true, *self) & statistics_file_formed(*self);
+        }
+        statistics_file_fits(false, *self)
     }
-    statistics_file_fits(false, f)
+}
+
+impl Keyed for StatisticsFile {
+    ghost key_of = { λ f. f.snapshot_id.0 };
+
+    fn key(&self) -> i64 {
+        self.snapshot_id.0
+    }
 }
 
 pub fn statistics_keys(t: StatisticsFiles) -> Keys
     ensures { Found (is_tidy_statistics t) statistics_room statistics_file_formed (λ x. x.snapshot) (read_statistics t) result }
 {
-    let n = t.count;
-    let mut ids = [0i64; SNAPSHOTS];
-    let mut ok = n <= STATISTICS;
-    let mut i = 0;
-    while i < STATISTICS {
-        let x = t.items[i];
-        ok = ok & statistics_slot(i < n, x);
-        let k = snapshot_key(x.snapshot_id);
-        let z = k.0;
-        ids[i] = z;
-        i += 1;
-    }
-    told(ok, n, ids)
+    keys(&t.items, t.count)
 }

@@ -16,7 +16,6 @@ use crate::record::{
     offered_ids_formed, offered_order_formed, reference_formed, schema_ids_formed, snapshot_formed,
     snapshot_ids_formed, spec_ids_formed, statistics_file_formed,
 };
-use equality::ids::{same_order, same_schema, same_snapshot, same_spec};
 use records::capacities::{NAME, TEXT};
 use records::counters::{SchemaId, SnapshotId, SortOrderId, SpecId};
 use records::part::{
@@ -36,10 +35,8 @@ use records::update::{
 fn fields_fit(k: u8, p: FieldsPart) -> bool
     ensures { result ≡ is_tidy_fields_part k p }
 {
-    let uuid = p.uuid;
-    let version = p.format_version;
-    ((k == ASSIGN_UUID) | zeros_from(&uuid, 0))
-        & ((k == UPGRADE_FORMAT_VERSION) | (version == 0))
+    ((k == ASSIGN_UUID) | zeros_from(&p.uuid, 0))
+        & ((k == UPGRADE_FORMAT_VERSION) | (p.format_version == 0))
         & text_fits(k == SET_LOCATION, p.location)
 }
 
@@ -63,7 +60,7 @@ fn schemas_fit(k: u8, p: SchemasPart) -> bool
     ensures { result ≡ is_tidy_schemas_part k p }
 {
     ((k == ADD_SCHEMA) | schema_offer_is_blank(p.added))
-        & ((k == SET_CURRENT_SCHEMA) | same_schema(p.chosen, SchemaId(0)))
+        & ((k == SET_CURRENT_SCHEMA) | (p.chosen == SchemaId(0)))
         & schema_ids_fit(k == REMOVE_SCHEMAS, p.removed)
 }
 
@@ -71,7 +68,7 @@ fn sort_orders_fit(k: u8, p: SortOrdersPart) -> bool
     ensures { result ≡ is_tidy_sort_orders_part k p }
 {
     order_fits(k == ADD_SORT_ORDER, p.added)
-        & ((k == SET_DEFAULT_SORT_ORDER) | same_order(p.chosen, SortOrderId(0)))
+        & ((k == SET_DEFAULT_SORT_ORDER) | (p.chosen == SortOrderId(0)))
 }
 
 fn statistics_fit(k: u8, p: StatisticsPart) -> bool
@@ -82,14 +79,14 @@ fn statistics_fit(k: u8, p: StatisticsPart) -> bool
         p.file,
     ) & ((k == REMOVE_STATISTICS)
         | (k == REMOVE_PARTITION_STATISTICS)
-        | same_snapshot(p.removed, SnapshotId(0)))
+        | (p.removed == SnapshotId(0)))
 }
 
 fn partition_specs_fit(k: u8, p: PartitionSpecsPart) -> bool
     ensures { result ≡ is_tidy_partition_specs_part k p }
 {
     spec_offer_fits(k == ADD_PARTITION_SPEC, p.added)
-        & ((k == SET_DEFAULT_PARTITION_SPEC) | same_spec(p.chosen, SpecId(0)))
+        & ((k == SET_DEFAULT_PARTITION_SPEC) | (p.chosen == SpecId(0)))
         & spec_ids_fit(k == REMOVE_PARTITION_SPECS, p.removed)
 }
 

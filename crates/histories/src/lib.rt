@@ -4,6 +4,8 @@
 #![tactic(auto)]
 
 ghost use Rattle.std.specs.Prelude.{◌≡◌, cond, ◌&&◌, ◌≤◌, leb};
+ghost use Rattle.records.specs.declared.counters.SnapshotId as id_records;
+ghost use Rattle.records.specs.declared.update.TableUpdate as update_records;
 ghost use Rattle.rules.specs.Words.{all, any};
 ghost use Rattle.rules.specs.Capacities.{snapshot_log_room};
 ghost use Rattle.rules.specs.WellFormed.{holds_snapshot, metadata_formed};
@@ -14,7 +16,6 @@ ghost use Rattle.rules.specs.Layout.{read_snapshot_ids, read_snapshot_log, read_
 ghost use Rattle.rules.specs.Kinds.{read_update, read_updates};
 ghost use Rattle.tables.specs.Laid.{LaidSnapshots};
 
-use equality::ids::same_snapshot;
 use formed::update::is_tidy;
 use records::capacities::{REMOVALS, UPDATES};
 use records::counters::SnapshotId;
@@ -50,12 +51,10 @@ fn names_held(log: SnapshotLog, t: Snapshots) -> bool
 pub fn is_whole(m: TableMetadata) -> bool
     ensures { result ≡ (is_tidy_metadata m && metadata_formed (read_metadata m) && is_whole (read_metadata m)) }
 {
-    let log = m.snapshot_log;
-    let snapshots = m.snapshots;
     if !formed::metadata::is_formed(m) {
         return false;
     }
-    names_held(log, snapshots)
+    names_held(m.snapshot_log, m.snapshots)
 }
 
 // ---- a change log
@@ -64,21 +63,26 @@ pub fn is_whole(m: TableMetadata) -> bool
 fn with_slot(count: usize, slots: usize) -> usize
     ensures { result ≡ cond (leb count slots) count slots }
 {
-    if count <= slots {
-        return count;
-    }
-    slots
+    count.min(slots)
 }
 
 // The update adds the snapshot.
 fn is_addition(u: TableUpdate, id: SnapshotId) -> bool
     ensures { result ≡ is_addition id.0 (read_update u) }
 {
-    let kind = u.kind;
-    let s = u.snapshots.added;
-    let x = s.snapshot_id;
-    if kind == ADD_SNAPSHOT {
-        return is_tidy(u) & same_snapshot(x, id);
+    if u.kind == ADD_SNAPSHOT {
+        return is_tidy(u) & (u.snapshots.added.snapshot_id == id);
+    }
+    false
+}
+
+fn any_adds(updates: &[TableUpdate], id: SnapshotId) -> bool
+    ensures { result ≡ any (λ (u : update_records.TableUpdate). is_addition id.0 (read_update u)) updates.now }
+{
+    for u in updates {
+        if is_addition(*u, id) {
+            return true;
+        }
     }
     false
 }
@@ -86,42 +90,45 @@ fn is_addition(u: TableUpdate, id: SnapshotId) -> bool
 fn logs_addition(changes: UpdateList, id: SnapshotId) -> bool
     ensures { result ≡ logs_addition (read_updates changes) id.0 }
 {
-    let n = with_slot(changes.count, UPDATES);
-    let mut none = true;
-    let mut i = 0;
-    while i < n {
-        let u = changes.items[i];
-        none = none & !is_addition(u, id);
-        i += 1;
+    any_adds(&changes.items[..with_slot(changes.count, UPDATES)], id)
+}
+
+fn any_logged(changes: UpdateList, ids: &[SnapshotId]) -> bool
+    ensures { result ≡ any (λ (id : id_records.SnapshotId). logs_addition (read_updates changes) id.0) ids.now }
+{
+    for id in ids {
+        if logs_addition(changes, *id) {
+            return true;
+        }
     }
-    !none
+    false
 }
 
 // One of the ids is of a snapshot that the log adds. An id that is counted and has no slot reads as 0.
 fn any_is_added(changes: UpdateList, ids: SnapshotIds) -> bool
     ensures { result ≡ any (logs_addition (read_updates changes)) (read_snapshot_ids ids) }
 {
-    let count = ids.count;
-    let n = with_slot(count, REMOVALS);
-    let zero = logs_addition(changes, SnapshotId(0));
-    let mut none = true;
-    let mut i = 0;
-    while i < n {
-        let id = ids.items[i];
-        none = none & !logs_addition(changes, id);
-        i += 1;
-    }
-    !none | ((count > REMOVALS) & zero)
+    let held = any_logged(changes, &ids.items[..with_slot(ids.count, REMOVALS)]);
+    held | ((ids.count > REMOVALS) & logs_addition(changes, SnapshotId(0)))
 }
 
 // The update removes a snapshot that the log adds.
 fn removes_added(changes: UpdateList, u: TableUpdate) -> bool
     ensures { result ≡ any (logs_addition (read_updates changes)) (removed_ids (read_update u)) }
 {
-    let kind = u.kind;
-    let ids = u.snapshots.removed;
-    if kind == REMOVE_SNAPSHOTS {
-        return is_tidy(u) & any_is_added(changes, ids);
+    if u.kind == REMOVE_SNAPSHOTS {
+        return is_tidy(u) & any_is_added(changes, u.snapshots.removed);
+    }
+    false
+}
+
+fn any_removes(changes: UpdateList, updates: &[TableUpdate]) -> bool
+    ensures { result ≡ any (λ (u : update_records.TableUpdate). any (logs_addition (read_updates changes)) (removed_ids (read_update u))) updates.now }
+{
+    for u in updates {
+        if removes_added(changes, *u) {
+            return true;
+        }
     }
     false
 }
@@ -130,13 +137,5 @@ fn removes_added(changes: UpdateList, u: TableUpdate) -> bool
 pub fn removes_and_adds(changes: UpdateList) -> bool
     ensures { result ≡ removes_and_adds (read_updates changes) }
 {
-    let n = with_slot(changes.count, UPDATES);
-    let mut none = true;
-    let mut i = 0;
-    while i < n {
-        let u = changes.items[i];
-        none = none & !removes_added(changes, u);
-        i += 1;
-    }
-    !none
+    any_removes(changes, &changes.items[..with_slot(changes.count, UPDATES)])
 }

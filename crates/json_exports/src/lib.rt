@@ -3,7 +3,7 @@
 // What is told of it is how many updates it has, and the kind of the last.
 #![tactic(auto)]
 
-ghost use Rattle.std.specs.Prelude.{◌≤◌, ◌<◌};
+ghost use Rattle.std.specs.Prelude.{◌<◌};
 
 use file_export::export;
 use file_import::{Imported, import};
@@ -18,20 +18,6 @@ pub struct Read {
     pub count: u8,
     pub kind: u8,
     pub place: usize,
-}
-
-// Where the part ends that begins at a place: parts without a length are all that is left.
-fn part_end(len: usize, at: usize, part: usize) -> usize
-    requires { at < len }
-    ensures { (at < result) × (result ≤ len) }
-{
-    if part == 0 {
-        return len;
-    }
-    if len - at <= part {
-        return len;
-    }
-    at + part
 }
 
 // The place of the last of so many; 0 where there is none.
@@ -57,14 +43,13 @@ fn told(answer: Answer) -> Read {
     }
 }
 
+// Parts without a length are the whole text.
 #[unsafe(no_mangle)]
 pub extern "C" fn json_updates(text: &[u8], part: usize, offers: &mut [u8; OFFERS]) -> Read {
     let mut reader = start(offers);
-    let mut at: usize = 0;
-    while at < text.len() {
-        let next = part_end(text.len(), at, part);
-        reader = feed(reader, &text[at..next], offers);
-        at = next;
+    let size = if part == 0 { text.len() } else { part };
+    for piece in text.chunks(size.max(1)) {
+        reader = feed(reader, piece, offers);
     }
     told(end(reader, offers))
 }

@@ -1,4 +1,2 @@
-pub mod Bytes
 pub mod Kept
 pub mod Parts
-pub mod Room

@@ -10,14 +10,12 @@ pub use json_machine::Lexer;
 pub fn between() -> Lexer
     ensures { result ≡ between_lexemes }
 {
-    let text = text::blank();
-    let number = number::blank();
     Lexer {
         mode: BETWEEN,
         head: 0,
         first: 0,
-        text,
-        number,
+        text: text::blank(),
+        number: number::blank(),
     }
 }
 
@@ -29,6 +27,7 @@ pub fn head_of(l: Lexer) -> u8
 }
 
 // Whether the lexeme, a number that ends in this mode, is an integer below 2^64.
+#[tactic(auto, unfolding(json_machine::specs::Lexing::is_whole_number))]
 pub fn is_whole_number(l: Lexer) -> bool
     ensures { result ≡ is_whole_number l }
 {
@@ -42,42 +41,40 @@ pub fn is_whole_number(l: Lexer) -> bool
 fn beginning(byte: u8, at: usize) -> Lexer
     ensures { result ≡ beginningOf byte at }
 {
-    let text = text::blank();
-    let number = number::with_byte(number::blank(), byte);
     Lexer {
         mode: BETWEEN,
-        head: byte as u32,
+        head: u32::from(byte),
         first: at,
-        text,
-        number,
+        text: text::blank(),
+        number: number::with_byte(number::blank(), byte),
     }
 }
 
 // What is kept with one more byte that continues the lexeme, or begins one. The mode is still the one before that byte.
+#[tactic(auto, unfolding(json_machine::specs::Lexing::with_next))]
 pub fn with_next(l: Lexer, kept: &mut Kept, byte: u8, at: usize) -> Lexer
     ensures { reading result kept.new ≡ with_next byte at (reading l kept.old) }
 {
-    let mode = l.mode;
-    if mode == BETWEEN {
+    if l.mode == BETWEEN {
         return beginning(byte, at);
     }
-    let mut m = l;
-    if mode <= AFTER_F4 {
-        let text = text::with_byte(l.text, kept, mode, byte);
-        m.text = text;
-        return m;
+    if l.mode <= AFTER_F4 {
+        return Lexer {
+            text: text::with_byte(l.text, kept, l.mode, byte),
+            ..l
+        };
     }
-    if is_before_point(mode) {
-        let number = number::with_byte(l.number, byte);
-        m.number = number;
+    if is_before_point(l.mode) {
+        return Lexer {
+            number: number::with_byte(l.number, byte),
+            ..l
+        };
     }
-    m
+    l
 }
 
 pub fn in_mode(l: Lexer, mode: u32) -> Lexer
     ensures { result ≡ in_mode mode l }
 {
-    let mut m = l;
-    m.mode = mode;
-    m
+    Lexer { mode, ..l }
 }

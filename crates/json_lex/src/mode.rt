@@ -6,6 +6,7 @@ ghost use Rattle.json_machine.specs.Digest.{is_before_point};
 
 use crate::byte::{NO_ESCAPE, NO_HEX, escaped, hex_of, is_digit};
 
+// Kept: modes are numbers, and what a byte does to a lexeme too, as Modes, Digest and Lexing (crate `json_machine`) say them, and `mode-step` and `lexed` prove of them.
 // Between lexemes.
 pub const BETWEEN: u32 = 0;
 
@@ -95,14 +96,12 @@ fn begun_beside(byte: u8) -> u32
 }
 
 // The first byte of a lexeme, or a space. A byte that begins no value is a lexeme by itself.
+#[tactic(auto, unfolding(json_machine::specs::Modes::begun, json_rule::specs::Lexemes::is_space, json_rule::specs::Lexemes::is_digit))]
 pub fn begun(byte: u8) -> u32
     ensures { result ≡ begunOf byte }
 {
     match byte {
-        b' ' => BETWEEN,
-        b'\t' => BETWEEN,
-        b'\n' => BETWEEN,
-        b'\r' => BETWEEN,
+        b' ' | b'\t' | b'\n' | b'\r' => BETWEEN,
         b'"' => TEXT,
         b'-' => MINUS,
         b'0' => ZERO,
@@ -114,49 +113,33 @@ pub fn begun(byte: u8) -> u32
 }
 
 // The first byte of a character of two to four.
+#[tactic(auto, unfolding(json_machine::specs::Modes::in_wide))]
 fn in_wide(byte: u8) -> u32
     ensures { result ≡ in_wide byte }
 {
-    if byte < 0xC2 {
-        return BROKEN;
+    match byte {
+        0xC2..=0xDF => ONE_MORE,
+        0xE0 => AFTER_E0,
+        0xED => AFTER_ED,
+        0xE1..=0xEF => TWO_MORE,
+        0xF0 => AFTER_F0,
+        0xF1..=0xF3 => THREE_MORE,
+        0xF4 => AFTER_F4,
+        _ => BROKEN,
     }
-    if byte <= 0xDF {
-        return ONE_MORE;
-    }
-    if byte == 0xE0 {
-        return AFTER_E0;
-    }
-    if byte == 0xED {
-        return AFTER_ED;
-    }
-    if byte <= 0xEF {
-        return TWO_MORE;
-    }
-    if byte == 0xF0 {
-        return AFTER_F0;
-    }
-    if byte <= 0xF3 {
-        return THREE_MORE;
-    }
-    if byte == 0xF4 {
-        return AFTER_F4;
-    }
-    BROKEN
 }
 
 // A byte that is neither a quotation mark nor a backslash.
 fn in_character_begun(byte: u8) -> u32
     ensures { result ≡ cond (within 32 127 byte) text_mode (in_wide byte) }
 {
-    if byte < 32 {
-        return BROKEN;
+    match byte {
+        32..=127 => TEXT,
+        _ => in_wide(byte),
     }
-    if byte < 128 {
-        return TEXT;
-    }
-    in_wide(byte)
 }
 
+#[tactic(auto, unfolding(json_machine::specs::Modes::in_text))]
 fn in_text(byte: u8) -> u32
     ensures { result ≡ in_text byte }
 {
@@ -192,15 +175,13 @@ fn in_hex(next: u32, byte: u8) -> u32
 fn in_character(least: u8, most: u8, next: u32, byte: u8) -> u32
     ensures { result ≡ in_character least most next byte }
 {
-    if byte < least {
-        return BROKEN;
+    if least <= byte && byte <= most {
+        return next;
     }
-    if byte > most {
-        return BROKEN;
-    }
-    next
+    BROKEN
 }
 
+#[tactic(auto, unfolding(json_machine::specs::Modes::in_minus, json_rule::specs::Lexemes::is_digit))]
 fn in_minus(byte: u8) -> u32
     ensures { result ≡ in_minus byte }
 {
@@ -215,13 +196,13 @@ fn at_exponent(byte: u8) -> u32
     ensures { result ≡ at_exponent byte }
 {
     match byte {
-        b'e' => EXPONENT,
-        b'E' => EXPONENT,
+        b'e' | b'E' => EXPONENT,
         _ => ENDED,
     }
 }
 
 // Behind the leading zero or a digit: a point or an `e`, or the number has ended.
+#[tactic(auto, unfolding(json_machine::specs::Modes::in_zero))]
 fn in_zero(byte: u8) -> u32
     ensures { result ≡ in_zero byte }
 {
@@ -231,6 +212,7 @@ fn in_zero(byte: u8) -> u32
     at_exponent(byte)
 }
 
+#[tactic(auto, unfolding(json_machine::specs::Modes::in_digits))]
 fn in_digits(byte: u8) -> u32
     ensures { result ≡ in_digits byte }
 {
@@ -250,6 +232,7 @@ fn at_digit(next: u32, byte: u8) -> u32
     BROKEN
 }
 
+#[tactic(auto, unfolding(json_machine::specs::Modes::in_fraction))]
 fn in_fraction(byte: u8) -> u32
     ensures { result ≡ in_fraction byte }
 {
@@ -259,12 +242,12 @@ fn in_fraction(byte: u8) -> u32
     at_exponent(byte)
 }
 
+#[tactic(auto, unfolding(json_machine::specs::Modes::in_exponent))]
 fn in_exponent(byte: u8) -> u32
     ensures { result ≡ in_exponent byte }
 {
     match byte {
-        b'+' => SIGN,
-        b'-' => SIGN,
+        b'+' | b'-' => SIGN,
         _ => at_digit(POWER, byte),
     }
 }
@@ -288,6 +271,7 @@ fn in_word(letter: u8, next: u32, byte: u8) -> u32
 }
 
 // In a text.
+#[tactic(auto, unfolding(json_machine::specs::Modes::after_text))]
 fn after_text(mode: u32, byte: u8) -> u32
     ensures { result ≡ after_text mode byte }
 {
@@ -309,6 +293,7 @@ fn after_text(mode: u32, byte: u8) -> u32
 }
 
 // In a number.
+#[tactic(auto, unfolding(json_machine::specs::Modes::after_number))]
 fn after_number(mode: u32, byte: u8) -> u32
     ensures { result ≡ after_number mode byte }
 {
@@ -325,6 +310,7 @@ fn after_number(mode: u32, byte: u8) -> u32
 }
 
 // In a word, or behind a broken lexeme.
+#[tactic(auto, unfolding(json_machine::specs::Modes::after_word))]
 fn after_word(mode: u32, byte: u8) -> u32
     ensures { result ≡ after_word mode byte }
 {
@@ -343,6 +329,7 @@ fn after_word(mode: u32, byte: u8) -> u32
 }
 
 // The mode after a byte, or what the byte does to the lexeme.
+#[tactic(auto, unfolding(json_machine::specs::Modes::after_mode))]
 pub fn after(mode: u32, byte: u8) -> u32
     ensures { result ≡ after_mode mode byte }
 {
@@ -359,38 +346,27 @@ pub fn after(mode: u32, byte: u8) -> u32
 }
 
 // Whether a number may end in this mode.
+#[tactic(auto, unfolding(json_machine::specs::Modes::may_end))]
 pub fn may_end(mode: u32) -> bool
     ensures { result ≡ may_end mode }
 {
-    match mode {
-        ZERO => true,
-        DIGITS => true,
-        FRACTION => true,
-        POWER => true,
-        _ => false,
-    }
+    matches!(mode, ZERO | DIGITS | FRACTION | POWER)
 }
 
 // Whether a number that ends in this mode has neither fraction nor exponent.
+#[tactic(auto, unfolding(json_machine::specs::Modes::is_integer))]
 pub fn is_integer(mode: u32) -> bool
     ensures { result ≡ is_integer mode }
 {
-    match mode {
-        ZERO => true,
-        DIGITS => true,
-        _ => false,
-    }
+    matches!(mode, ZERO | DIGITS)
 }
 
 // Whether the next digit of a number stands before its point and its exponent.
+#[tactic(auto, unfolding(json_machine::specs::Digest::is_before_point))]
 pub fn is_before_point(mode: u32) -> bool
     ensures { result ≡ is_before_point mode }
 {
-    match mode {
-        MINUS => true,
-        DIGITS => true,
-        _ => false,
-    }
+    matches!(mode, MINUS | DIGITS)
 }
 
 // Whether the lexeme goes on, or none has begun.

@@ -21,28 +21,29 @@ fn has_room(magnitude: u64, digit: u64) -> bool
     magnitude <= (u64::MAX - digit) / 10
 }
 
+#[tactic(auto, unfolding(json_machine::specs::Digest::with_digit))]
 fn with_digit(n: Number, digit: u64) -> Number
     ensures { result ≡ with_digit n digit }
 {
-    let magnitude = n.magnitude;
     if n.over > 0 {
         return n;
     }
-    if has_room(magnitude, digit) {
+    if has_room(n.magnitude, digit) {
         return Number {
-            magnitude: magnitude * 10 + digit,
+            magnitude: n.magnitude * 10 + digit,
             over: 0,
         };
     }
-    Number { magnitude, over: 1 }
+    Number { over: 1, ..n }
 }
 
 // The number with one more byte before its point and its exponent: a digit, or the minus, which counts nothing.
+#[tactic(auto, unfolding(json_machine::specs::Digest::number_with, json_rule::specs::Lexemes::is_digit))]
 pub fn with_byte(n: Number, byte: u8) -> Number
     ensures { result ≡ number_with n byte }
 {
     if is_digit(byte) {
-        return with_digit(n, (byte - b'0') as u64);
+        return with_digit(n, u64::from(byte - b'0'));
     }
     n
 }

@@ -10,18 +10,15 @@ use crate::text::{KEPT, Kept};
 fn is_character(byte: u8) -> bool
     ensures { result ≡ within 32 127 byte }
 {
-    if byte < 32 {
-        return false;
-    }
-    byte <= 127
+    matches!(byte, 32..=127)
 }
 
+#[tactic(auto, unfolding(json_machine::specs::Digest::is_plain))]
 fn is_plain(byte: u8) -> bool
     ensures { result ≡ is_plain byte }
 {
     match byte {
-        b'"' => false,
-        b'\\' => false,
+        b'"' | b'\\' => false,
         _ => is_character(byte),
     }
 }
@@ -30,14 +27,13 @@ fn is_plain(byte: u8) -> bool
 pub fn plain_end(part: &[u8], from: usize) -> usize
     ensures { result ≡ from + plain_run (drop from part.now) }
 {
-    let mut i = from;
-    while i < part.len() {
-        if !is_plain(part[i]) {
-            return i;
+    let rest = part.get(from..).unwrap_or(&[]);
+    for (i, byte) in rest.iter().enumerate() {
+        if !is_plain(*byte) {
+            return from + i;
         }
-        i += 1;
     }
-    i
+    from + rest.len()
 }
 
 // How many bytes are kept, with those of a part from a place to an end.
@@ -45,12 +41,16 @@ pub fn keep_all(kept: &mut Kept, len: usize, part: &[u8], from: usize, end: usiz
     requires { end ≤ length part.now }
     ensures { Keeps kept.old len (slice from end part.now) result kept.new }
 {
-    let mut n = len;
-    let mut i = from;
-    while i < end && n < KEPT {
-        kept[n] = part[i];
-        n += 1;
-        i += 1;
+    if end <= from {
+        return len;
     }
-    n
+    let mut count = len;
+    for byte in &part[from..end] {
+        if count >= KEPT {
+            break;
+        }
+        kept[count] = *byte;
+        count += 1;
+    }
+    count
 }

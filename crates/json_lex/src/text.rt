@@ -75,15 +75,18 @@ fn keep_point(kept: &mut Kept, len: usize, point: u32) -> usize
 }
 
 // What comes next is no low half: one that waits for it stood without the other.
+#[tactic(auto, unfolding(json_machine::specs::Digest::settled))]
 pub fn settled(text: Text) -> Text
     ensures { result ≡ settled_of text }
 {
-    let mut t = text;
-    if t.high != 0 {
-        t.high = 0;
-        t.len = LONE;
+    if text.high == 0 {
+        return text;
     }
-    t
+    Text {
+        len: LONE,
+        high: 0,
+        ..text
+    }
 }
 
 // The character that both halves say.
@@ -93,39 +96,36 @@ fn paired(high: u32, low: u32) -> u32
     65536 + high % 1024 * 1024 + low % 1024
 }
 
+#[tactic(auto, unfolding(json_machine::specs::Digest::with_low))]
 fn with_low(text: Text, kept: &mut Kept, low: u32) -> Text
     ensures { held result kept.new ≡ with_low low (held text kept.old) }
 {
-    let mut t = text;
-    let high = t.high;
-    if high == 0 {
-        t.len = LONE;
-        return t;
+    if text.high == 0 {
+        return Text { len: LONE, ..text };
     }
-    t.len = keep_point(kept, t.len, paired(high, low));
-    t.high = 0;
-    t
+    Text {
+        len: keep_point(kept, text.len, paired(text.high, low)),
+        high: 0,
+        ..text
+    }
 }
 
+#[tactic(auto, unfolding(json_rule::specs::Values::is_high))]
 fn is_high(unit: u32) -> bool
     ensures { result ≡ is_high unit }
 {
-    if unit < 0xD800 {
-        return false;
-    }
-    unit <= 0xDBFF
+    matches!(unit, 0xD800..=0xDBFF)
 }
 
+#[tactic(auto, unfolding(json_rule::specs::Values::is_low))]
 fn is_low(unit: u32) -> bool
     ensures { result ≡ is_low unit }
 {
-    if unit < 0xDC00 {
-        return false;
-    }
-    unit <= 0xDFFF
+    matches!(unit, 0xDC00..=0xDFFF)
 }
 
 // The text with the unit that four hexadecimal digits say: half of a pair, or a character.
+#[tactic(auto, unfolding(json_machine::specs::Digest::with_unit))]
 fn with_unit(text: Text, kept: &mut Kept, unit: u32) -> Text
     requires { unit < 65536 }
     ensures { held result kept.new ≡ with_unit unit (held text kept.old) }
@@ -133,24 +133,31 @@ fn with_unit(text: Text, kept: &mut Kept, unit: u32) -> Text
     if is_low(unit) {
         return with_low(text, kept, unit);
     }
-    let mut t = settled(text);
+    let before = settled(text);
     if is_high(unit) {
-        t.high = unit;
-        return t;
+        return Text {
+            high: unit,
+            ..before
+        };
     }
-    t.len = keep_point(kept, t.len, unit);
-    t
+    Text {
+        len: keep_point(kept, before.len, unit),
+        ..before
+    }
 }
 
+#[tactic(auto, unfolding(json_machine::specs::Digest::keeping))]
 fn with_kept(text: Text, kept: &mut Kept, byte: u8) -> Text
     ensures { held result kept.new ≡ keeping (byte ∷ []) (held text kept.old) }
 {
-    let mut t = text;
-    t.len = keep(kept, t.len, byte);
-    t
+    Text {
+        len: keep(kept, text.len, byte),
+        ..text
+    }
 }
 
 // A byte of a text that stands for itself; the quote ends it, and a backslash waits for what follows.
+#[tactic(auto, unfolding(json_machine::specs::Digest::held_in_text))]
 fn in_text(text: Text, kept: &mut Kept, byte: u8) -> Text
     ensures { held result kept.new ≡ held_in_text byte (held text kept.old) }
 {
@@ -161,6 +168,7 @@ fn in_text(text: Text, kept: &mut Kept, byte: u8) -> Text
     }
 }
 
+#[tactic(auto, unfolding(json_machine::specs::Digest::held_in_escape))]
 fn in_escape(text: Text, kept: &mut Kept, byte: u8) -> Text
     ensures { held result kept.new ≡ held_in_escape byte (held text kept.old) }
 {
@@ -171,19 +179,20 @@ fn in_escape(text: Text, kept: &mut Kept, byte: u8) -> Text
 }
 
 // One more hexadecimal digit: the last says the unit.
+#[tactic(auto, unfolding(json_machine::specs::Digest::held_in_hex))]
 fn in_hex(text: Text, kept: &mut Kept, mode: u32, byte: u8) -> Text
     ensures { held result kept.new ≡ held_in_hex mode byte (held text kept.old) }
 {
-    let mut t = text;
-    let unit = t.unit % 4096 * 16 + hex_of(byte) % 16;
-    t.unit = unit;
+    let unit = text.unit % 4096 * 16 + hex_of(byte) % 16;
+    let said = Text { unit, ..text };
     if mode == ONE_HEX {
-        return with_unit(t, kept, unit);
+        return with_unit(said, kept, unit);
     }
-    t
+    said
 }
 
 // The text with one more byte that continues it, by the mode before that byte.
+#[tactic(auto, unfolding(json_machine::specs::Digest::held_after))]
 pub fn with_byte(text: Text, kept: &mut Kept, mode: u32, byte: u8) -> Text
     ensures { held result kept.new ≡ held_after mode byte (held text kept.old) }
 {

@@ -1,5 +1,5 @@
 -- Offers without a byte; a part, update by update; and the end of a text.
-use Prim.Native.Nat.{ℕ, zero, suc, ◌+◌, ◌-◌, ◌≤◌, ◌<◌}
+use Prim.Native.Nat.{ℕ, zero, suc}
 use mathlib.Core.Path.{◌≡◌, refl, sym, ap, ◌∙◌}
 use mathlib.Core.Bool.{Bool, true, false}
 use mathlib.Core.List.{List, [], ◌∷◌}
@@ -18,18 +18,6 @@ use Rattle.json_list.specs.Listing.{Work, work, listing, Worked, worked_to, work
 use Rattle.json_list.specs.States.{State, state, state_of, zeroing, no_offers, at_start, last_worked}
 
 -- ---- bytes that are 0
-
-module _ (n i : ℕ) (l : List ℕ) where
-  pub zeroing_more : i < n → zeroing (n - i) i l ≡ zeroing (n - (i + 1)) (i + 1) (set l i 0)
-  unfolding zeroing
-  zeroing_more h =
-      let e : n - i ≡ suc (n - (i + 1)) = omega arith in
-      let f : suc i ≡ i + 1 = omega arith in
-      ap (λ (k : ℕ). zeroing k i l) e ∙ ap (λ (k : ℕ). zeroing (n - (i + 1)) k (set l i 0)) f
-
-  pub zeroing_done : n ≤ i → zeroing (n - i) i l ≡ l
-  unfolding zeroing
-  zeroing_done h = let e : n - i ≡ 0 = omega arith in rw e
 
 -- where there are so many, all are
 zeroing_on : (n i : ℕ) (x : ℕ) (l : List ℕ) → zeroing n (suc i) (x ∷ l) ≡ x ∷ zeroing n i l

@@ -19,24 +19,18 @@ use json_store::update::update_of;
 use records::update::UpdateList;
 
 // The place of the last update of the list.
+#[tactic(auto, unfolding(json_store::specs::Puts::last_of))]
 pub fn place_of(judge: &Judge) -> usize
     ensures { result ≡ last_of (get_or judge.now 13 0) }
 {
-    let count = judge[UPDATES];
-    if count == 0 {
-        return 0;
-    }
-    count - 1
+    judge[UPDATES].saturating_sub(1)
 }
 
 // Whether an update was closed, and there is room for it.
 pub fn is_stored(done: usize, place: usize) -> bool
     ensures { result ≡ eqb done 2 && ltb place 64 }
 {
-    if done == UPDATE {
-        return place < records::capacities::UPDATES;
-    }
-    false
+    done == UPDATE && place < records::capacities::UPDATES
 }
 
 // A lexeme in which the text ends, if there is one: a number that may end there is whole. What it makes whole is told.

@@ -90,6 +90,7 @@ pub fn read_on(
 {
     let mut run = start;
     run.done = ANYTHING;
+    // Kept: a turn passes many bytes or, where a number ends before one, none; an iterator over the bytes would not say where reading stands.
     while run.at < part.len() && run.done != UPDATE {
         run = turn_on(run, part, before, kept, judge, numbers, texts);
     }

@@ -14,7 +14,6 @@ use json_store::numbers::{NUMBERS, Numbers};
 use json_store::offer::{Offers, append_offer};
 use json_store::texts::{TEXTS, Texts};
 use json_store::update::update_of;
-use records::capacities::OFFERS;
 use records::update::UpdateList;
 
 // A text has at most so many bytes: any behind them would not be read.
@@ -47,11 +46,7 @@ pub struct Answer {
 fn blank_offers(offers: &mut Offers)
     ensures { offers.new ≡ no_offers offers.old }
 {
-    let mut i = 0;
-    while i < OFFERS {
-        offers[i] = 0;
-        i += 1;
-    }
+    offers.fill(0);
 }
 
 // Before the first part.
@@ -78,11 +73,7 @@ pub fn start(offers: &mut Offers) -> Reader
 fn reach(before: usize, len: usize) -> usize
     ensures { (result ≡ min (18446744073709551615 - before) len) × (before + result < 18446744073709551616) }
 {
-    let room = MOST - before;
-    if len < room {
-        return len;
-    }
-    room
+    len.min(MOST - before)
 }
 
 // One part of the text.
@@ -99,6 +90,7 @@ pub fn feed(reader: Reader, part: &[u8], offers: &mut Offers) -> Reader
     let mut offered = reader.offered;
     let lexer = reader.lexer;
     let mut run = run_of(lexer, lexer.mode, 0, ANYTHING);
+    // Kept: the place goes from update to update, not from byte to byte.
     while run.at < n {
         run = read_on(
             run,

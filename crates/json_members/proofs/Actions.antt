@@ -1,26 +1,25 @@
 -- The kind that a word stands for is that of the action that the rule lists under it, and its row is the rule's.
 use Prim.Native.Nat.{ℕ, ◌≤◌}
 use mathlib.Core.Path.{◌≡◌, refl, sym, ap, subst, ◌∙◌}
-use mathlib.Core.Bool.{Bool, true, false, not, cond, ◌&&◌, ◌||◌, true≢false}
+use mathlib.Core.Bool.{Bool, true, false, not, cond, true≢false}
 use mathlib.Core.List.{List, [], ◌∷◌, map}
 use mathlib.Core.Option.{Option, none, some}
 use native.Mathlib.Omega.{arith}
-use borrow.Author.Tests.{eqb-true, lt-ltb, le-ltb, lt-leb, ltb-true, ltb-false, leb-true, not-false}
+use borrow.Author.Tests.{eqb-true, le-ltb, ltb-true, leb-true, not-false}
 use borrow.Table.Steps.{cases}
 use lib.Dec.{eqb, leb, ltb}
 use lib.ListN.{length}
-use Rattle.rules.specs.Words.{is_some, some_with, all, any, first, same_bytes, pair_up}
+use Rattle.rules.specs.Words.{all, any, first, same_bytes, pair_up}
 use Rattle.json_rule.specs.Lexemes.{Lexeme, quote}
 use Rattle.json_rule.specs.Values.{text_of}
-use Rattle.json_rule.specs.Members.{is_one_of}
-use Rattle.json_rule.specs.Shapes.{AnUpdate, Action, actions, action_name}
-use Rattle.json_rule.specs.Defects.{not_published, row_named, listed_action, is_foreign, required_names}
+use Rattle.json_rule.specs.Shapes.{AnUpdate, Action, actions}
+use Rattle.json_rule.specs.Defects.{not_published, listed_action, is_foreign, required_names}
 use Rattle.json_members.specs.Kept.{front, TextKept}
-use Rattle.json_members.specs.Words.{Entry, entry, number_of, kinds, action_words}
-use Rattle.json_members.specs.Spots.{beside, row_at, shape_at, name_at, spots_of, names_of, row_found, member_named}
-use Rattle.json_members.specs.Rows.{action_in, action_at, span, spans, span_of, through, is_foreign_at}
+use Rattle.json_members.specs.Words.{entry, number_of, kinds, action_words}
+use Rattle.json_members.specs.Spots.{row_at, shape_at, name_at, spots_of, names_of, member_named}
+use Rattle.json_members.specs.Rows.{action_in, action_at, span_of, through, is_foreign_at}
 use Rattle.json_members.specs.Faults.{fault_of, text_fault}
-use Rattle.json_members.proofs.Cases.{Every, done, ◌&◌, is_key, beside_other, by_keys}
+use Rattle.json_members.proofs.Cases.{done, ◌&◌, by_keys}
 use Rattle.json_members.proofs.Words.{no_word, ◌+++◌, is_word_of, by_words, number_told, none_longer}
 use Rattle.json_members.proofs.Kept.{told_of, kept_told}
 use Rattle.json_members.proofs.Names.{all_at, alike, alike_is, same_turned, row_named_lem, found}

@@ -1,12 +1,11 @@
 -- `bucket[N]`, byte by byte: brackets around digits.
-use Prim.Native.Nat.{ℕ, zero, suc, ◌+◌, ◌-◌, ◌*◌, ◌^◌, ◌≤◌, ◌<◌}
+use Prim.Native.Nat.{ℕ, suc, ◌+◌, ◌-◌, ◌*◌, ◌^◌, ◌≤◌, ◌<◌}
 use mathlib.Core.Path.{◌≡◌, refl, sym, ap, subst, ◌∙◌}
-use mathlib.Core.Bool.{Bool, true, false, not, cond, ◌&&◌, ◌||◌, true≢false}
+use mathlib.Core.Bool.{Bool, true, false, not, ◌&&◌, ◌||◌, true≢false}
 use mathlib.Core.List.{List, [], ◌∷◌, ◌++◌}
 use native.Mathlib.Nat.{pow-le-pow_right}
-use native.Mathlib.Numerals.{add-one}
 use native.Mathlib.Omega.{arith}
-use borrow.Author.Tests.{eqb-true, eqb-false, eq-eqb, ne_eqb, leb-true, leb-false, le-leb, lt-leb, not-true}
+use borrow.Author.Tests.{eqb-true, eqb-false, ne_eqb, leb-true, leb-false, le-leb, lt-leb}
 use borrow.Table.Steps.{cases}
 use lib.Dec.{eqb, leb}
 use lib.ListN.{length, get_or, take, drop, take-append-drop, length-append, length-drop, drop_of_length-le}
@@ -17,7 +16,7 @@ use Rattle.json_rule.specs.Letters.{bytes}
 use Rattle.json_rule.specs.Lexemes.{within, is_digit}
 use Rattle.json_rule.specs.Values.{digits_value}
 use Rattle.json_rule.specs.Defects.{bucket_start, bucket_digits, is_bucket}
-use Rattle.json_machine.proofs.Bounds.{from_least, to_most}
+use Rattle.json_machine.proofs.Bounds.{from_least}
 use Rattle.json_members.specs.Kept.{front}
 use Rattle.json_members.specs.Transforms.{most_buckets, between, is_bracketed}
 use Rattle.json_members.proofs.Words.{same_is, same_self}

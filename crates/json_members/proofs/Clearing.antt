@@ -4,8 +4,11 @@ use mathlib.Core.Path.{◌≡◌, refl, ap, ◌∙◌}
 use mathlib.Core.List.{List}
 use native.Mathlib.Numerals.{add-one}
 use native.Mathlib.Omega.{arith}
-use borrow.Author.Tests.{lt-ltb, le-ltb}
+use borrow.Author.Tests.{lt-ltb, le-ltb, ltb-true, ltb-false}
+use borrow.Table.Steps.{cases}
+use lib.Dec.{ltb}
 use lib.ListN.{set}
+use Rattle.std.proofs.Common.{min}
 use Rattle.json_members.specs.Slots.{spots_end, unmarking, clearing, forgetting}
 
 unmark_past : (spot : ℕ) (slots : List ℕ) → spots_end ≤ spot → unmarking spot slots ≡ slots
@@ -38,3 +41,7 @@ module _ (to spot : ℕ) (slots : List ℕ) where
   forget_more h k =
       let e : suc to - spot ≡ suc (suc to - (spot + 1)) = omega arith in
       rw (e, add-one spot) (ap (clearing (suc to - suc spot) (suc spot)) (unmark_on spot slots k))
+
+  -- from the last of both on nothing is left to do
+  pub forget_end : min to 63 < spot → forgetting spot to slots ≡ slots
+  forget_end h = cases (ltb to spot) (λ t. forget_done (ltb-true to spot t)) (λ f. forget_past (omega (arith, ltb-false to spot f)))

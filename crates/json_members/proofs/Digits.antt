@@ -1,9 +1,8 @@
 -- A number of at most ten digits, one digit after another.
-use Prim.Native.Nat.{ℕ, suc, ◌+◌, ◌-◌, ◌*◌, ◌^◌, ◌≤◌, ◌<◌}
-use mathlib.Core.Path.{◌≡◌, refl, sym, ap, ◌∙◌}
+use Prim.Native.Nat.{ℕ, ◌+◌, ◌-◌, ◌*◌, ◌^◌, ◌≤◌, ◌<◌}
+use mathlib.Core.Path.{◌≡◌, ◌∙◌}
 use mathlib.Core.Bool.{true, false, cond}
-use mathlib.Core.List.{List, [], ◌∷◌}
-use native.Mathlib.Nat.{pow-le-pow_right}
+use mathlib.Core.List.{List}
 use native.Mathlib.Numerals.{add-one}
 use native.Mathlib.Omega.{arith}
 use lib.ListN.{length, get_or, drop, drop_of_length-le}
@@ -13,7 +12,7 @@ use Rattle.json_rule.specs.Lexemes.{is_digit}
 use Rattle.json_rule.specs.Values.{digits_value}
 use Rattle.json_machine.proofs.Bounds.{from_least, to_most}
 use Rattle.json_members.specs.Kept.{front}
-use Rattle.json_members.proofs.Fronts.{front_length, front_at}
+use Rattle.json_members.proofs.Fronts.{front_at}
 
 -- what the number so far and the bytes after it say
 abbrev pub said_by : ℕ → List ℕ → ℕ
@@ -38,9 +37,6 @@ behind kept digits i h = front_at digits (drop 7 kept) i h ∙ get_or-drop 7 kep
 pub digit_small : (b : ℕ) → is_digit b ≡ true → (48 ≤ b) × (b ≤ 57)
 unfolding is_digit
 digit_small b e = (from_least 48 57 b e, to_most 48 57 b e)
-
-pub below_all : (i : ℕ) → i < 10 → 10 ^ i ≤ 1000000000
-below_all i h = pow-le-pow_right {n = 10} (omega arith) {i = i} {j = 9} (omega arith)
 
 pub below_next : (v i b : ℕ) → v < 10 ^ i → b ≤ 57 → v * 10 + (b - 48) < 10 ^ (i + 1)
 below_next v i b h g = rw (add-one i) (omega arith)

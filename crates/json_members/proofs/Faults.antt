@@ -1,33 +1,31 @@
 -- What is wrong with a value, by its first byte: a text, a number, or a word.
-use Prim.Native.Nat.{ℕ, zero, suc, ◌^◌, ◌≤◌, ◌<◌}
+use Prim.Native.Nat.{ℕ, ◌≤◌}
 use mathlib.Core.Path.{◌≡◌, refl, sym, ap, ◌∙◌}
-use mathlib.Core.Bool.{Bool, true, false, not, cond, ◌&&◌, ◌||◌, true≢false}
+use mathlib.Core.Bool.{Bool, true, false, cond, ◌&&◌, ◌||◌, true≢false}
 use mathlib.Core.List.{List, [], ◌∷◌}
 use mathlib.Core.Option.{Option, none, some}
 use native.Mathlib.Omega.{arith}
-use borrow.Author.Tests.{eqb-true, eq-eqb, ne_eqb, le-leb, lt-leb, leb-true, leb-false, ltb-true, ltb-false}
+use borrow.Author.Tests.{eqb-true, eq-eqb, ne_eqb}
 use borrow.Table.Steps.{cases}
 use lib.Dec.{eqb, leb, ltb}
 use lib.ListN.{length}
-use Rattle.rules.specs.Words.{all, any, some_with, same_bytes}
-use Rattle.rules.proofs.Checks.{and_left, and_right}
+use Rattle.rules.specs.Words.{all, some_with}
 use Rattle.json_rule.specs.Lexemes.{Lexeme, quote, minus, is_digit}
 use Rattle.json_rule.specs.Values.{text_of, whole_number_of}
 use Rattle.json_rule.specs.Tree.{Defect, over_capacity}
 use Rattle.json_rule.specs.Members.{is_one_of}
 use Rattle.json_rule.specs.Shapes.{Shape, Anything, TextUpTo, OneOf, NumberIn, No, AUuid, ATransform, ListUpTo, ARecord}
 use Rattle.json_rule.specs.Defects.{not_published, refused_at, unless, is_uuid, is_transform, is_number_in, is_no, text_defects, is_anything, scalar_defects}
-use Rattle.json_machine.proofs.Slots.{First}
 use Rattle.json_machine.specs.Digest.{lone_length}
 use Rattle.json_members.specs.Kept.{front, TextKept, NumberKept, LexemeKept}
 use Rattle.json_members.specs.Spots.{row_at, shape_at}
 use Rattle.json_members.specs.Widths.{width_of, has_number}
 use Rattle.json_members.specs.Faults.{Judged, number_in, fault_of, is_formed, text_fault, is_formed_at, form_fault_at, text_fault_at, fault_at}
-use Rattle.json_members.proofs.Cases.{is_key, all_below}
+use Rattle.json_members.proofs.Cases.{is_key}
 use Rattle.json_members.proofs.Tables.{only_spots, every_spot}
 use Rattle.json_members.proofs.Words.{longer}
 use Rattle.json_members.proofs.Widths.{are_fair, number_in_lem}
-use Rattle.json_members.proofs.Kept.{told_of, kept_told, length_told}
+use Rattle.json_members.proofs.Kept.{kept_told, length_told}
 use Rattle.json_members.proofs.Uuids.{uuid_length}
 use Rattle.json_members.proofs.Transforms.{transform_short}
 

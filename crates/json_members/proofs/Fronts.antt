@@ -1,11 +1,15 @@
 -- The first slots, one by one.
-use Prim.Native.Nat.{ℕ, zero, suc, ◌+◌, ◌≤◌, ◌<◌}
+use Prim.Native.Nat.{ℕ, zero, suc, ◌+◌, ◌-◌, ◌≤◌, ◌<◌}
 use mathlib.Core.Path.{◌≡◌, refl, ap, ◌∙◌}
 use mathlib.Core.List.{List, [], ◌∷◌}
 use native.Mathlib.Nat.{zero-add, suc-add}
 use native.Mathlib.Omega.{arith}
-use lib.ListN.{length, get_or, take, drop}
+use lib.Dec.{eqb}
+use lib.ListN.{length, get_or, take, drop, length-drop}
 use lib.Seq.{drop-nil}
+use borrow.Table.Steps.{cases}
+use Rattle.std.specs.Cmp.Lexicographic.{pointwise}
+use Rattle.rules.specs.Words.{same_bytes}
 use Rattle.json_members.specs.Kept.{front}
 
 pub front_length : (n : ℕ) (slots : List ℕ) → length (front n slots) ≡ n
@@ -34,3 +38,22 @@ unfolding front
 front_drop zero n slots = rw (zero-add n)
 front_drop (suc k) n [] = rw (suc-add k n) (front_drop k n [] ∙ rw (drop-nil {A = ℕ} k))
 front_drop (suc k) n (b ∷ slots) = rw (suc-add k n) (front_drop k n slots)
+
+-- where there are so many, they are the bytes themselves
+pub front_whole : (n : ℕ) (slots : List ℕ) → n ≤ length slots → take n slots ≡ front n slots
+unfolding front
+front_whole zero slots h = refl
+front_whole (suc n) [] h = absurd (omega arith)
+front_whole (suc n) (b ∷ slots) h = ap (λ (l : List ℕ). b ∷ l) (front_whole n slots (omega arith))
+
+pub front_part : (from n : ℕ) (slots : List ℕ) → from + n ≤ length slots → take (from + n - from) (drop from slots) ≡ front n (drop from slots)
+front_part from n slots h =
+    let e : from + n - from ≡ n = omega arith in
+    ap (λ (m : ℕ). take m (drop from slots)) e ∙ front_whole n (drop from slots) (omega (arith, length-drop from slots))
+
+-- they are equal to a word, or not
+pub same_told : (xs ys : List ℕ) → pointwise eqb xs ys ≡ same_bytes xs ys
+same_told [] [] = refl
+same_told [] (y ∷ ys) = refl
+same_told (x ∷ xs) [] = refl
+same_told (x ∷ xs) (y ∷ ys) = cases (eqb x y) (λ t. rw t (same_told xs ys)) (λ f. rw f)

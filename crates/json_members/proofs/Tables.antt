@@ -8,12 +8,12 @@ use borrow.Author.Tests.{eqb-true, leb-true, leb-false}
 use borrow.Table.Steps.{cases}
 use lib.Dec.{eqb, leb}
 use lib.ListN.{get_or-eq_default}
-use Rattle.rules.specs.Words.{is_some, any, same_bytes}
+use Rattle.rules.specs.Words.{is_some, same_bytes}
 use Rattle.json_rule.specs.Shapes.{Kind, AnUpdate, ASnapshot, ASchema, AField, AnOrder, ASortField, ASpec, APartitionField, Shape, OneOf, Row, rows_of}
 use Rattle.json_rule.specs.Defects.{Listing, listing_of, kind_of, is_anything}
 use Rattle.json_members.specs.Words.{Entry, entry, number_of}
 use Rattle.json_members.specs.Spots.{unnamed, spots, row_at, shape_at, name_at, spots_of, later_spots, ref_spots, names_of, members_of, member_named, items, item_at, room_in, value_at}
-use Rattle.json_members.proofs.Cases.{is_key, beside_other, all_below, all_below_lem, only_keys, Every, done, ◌&◌, by_keys}
+use Rattle.json_members.proofs.Cases.{is_key, beside_other, all_below, all_below_lem, only_keys, done, ◌&◌, by_keys}
 
 pub rows_are : (kind : Kind) → rows_of kind ≡ map row_at (spots_of kind)
 unfolding row_at

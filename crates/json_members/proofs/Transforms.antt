@@ -1,12 +1,12 @@
 -- The transform that a text is: one of four words, or a number of buckets.
 use Prim.Native.Nat.{ℕ, ◌-◌, ◌≤◌, ◌<◌}
 use mathlib.Core.Path.{◌≡◌, refl, sym, ap, ◌∙◌}
-use mathlib.Core.Bool.{Bool, true, false, not, cond, ◌&&◌, ◌||◌, true≢false}
-use mathlib.Core.List.{List, [], ◌∷◌}
+use mathlib.Core.Bool.{Bool, true, false, not, cond, ◌||◌, true≢false}
+use mathlib.Core.List.{List}
 use native.Mathlib.Omega.{arith}
-use borrow.Author.Tests.{eqb-true, eqb-false, ne_eqb, le-leb, lt-leb}
+use borrow.Author.Tests.{ne_eqb, le-leb, lt-leb}
 use borrow.Table.Steps.{cases}
-use lib.Dec.{eqb, leb}
+use lib.Dec.{eqb}
 use lib.ListN.{length, drop}
 use Rattle.rules.specs.Words.{all, keep, same_bytes}
 use Rattle.rules.specs.Partitions.{bucket}
@@ -14,7 +14,6 @@ use Rattle.json_rule.specs.Letters.{bytes}
 use Rattle.json_rule.specs.Lexemes.{is_digit}
 use Rattle.json_rule.specs.Values.{digits_value}
 use Rattle.json_rule.specs.Records.{transform_of}
-use Rattle.json_rule.specs.Members.{is_one_of}
 use Rattle.json_rule.specs.Defects.{plain_transforms, is_bucket, is_transform}
 use Rattle.json_members.specs.Kept.{front}
 use Rattle.json_members.specs.Words.{number_of, transform_words}

@@ -1,7 +1,7 @@
 -- A uuid byte by byte: at each place a digit or a hyphen, as the groups of the rule say.
 use Prim.Native.Nat.{ℕ, zero, suc, ◌+◌, ◌*◌, ◌%◌, ◌≤◌, ◌<◌}
 use mathlib.Core.Path.{◌≡◌, refl, sym, ap, ◌∙◌}
-use mathlib.Core.Bool.{Bool, true, false, not, cond, ◌&&◌, true≢false}
+use mathlib.Core.Bool.{Bool, true, false, not, ◌&&◌, true≢false}
 use mathlib.Core.List.{List, [], ◌∷◌, ◌++◌}
 use native.Mathlib.Omega.{arith}
 use native.Mathlib.Numerals.{add-one}
@@ -20,8 +20,8 @@ use Rattle.json_machine.specs.Digest.{hex_of}
 use Rattle.json_machine.proofs.Escapes.{hex_is, hex_small}
 use Rattle.json_members.specs.Kept.{front}
 use Rattle.json_members.specs.Uuids.{hyphen, hyphens, is_right_at, place_of, uuid_byte}
-use Rattle.json_members.proofs.Cases.{is_key, done, ◌&◌, all_below, all_below_lem, only_keys, by_keys}
-use Rattle.json_members.proofs.Fronts.{front_length, front_at}
+use Rattle.json_members.proofs.Cases.{is_key, done, ◌&◌, all_below_lem, only_keys, by_keys}
+use Rattle.json_members.proofs.Fronts.{front_at}
 
 -- ---- the form of some groups of digits: true where a digit stands, false where a hyphen does
 

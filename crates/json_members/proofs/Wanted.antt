@@ -1,15 +1,15 @@
 -- The spots that are wanted: the values of members and the elements of lists.
 use Prim.Native.Nat.{ℕ}
 use mathlib.Core.Path.{◌≡◌, refl, sym, ap, ◌∙◌}
-use mathlib.Core.Bool.{Bool, true, false, ◌||◌, true≢false}
-use mathlib.Core.List.{List, [], ◌∷◌}
+use mathlib.Core.Bool.{true, false, ◌||◌, true≢false}
+use mathlib.Core.List.{[], ◌∷◌}
 use borrow.Author.Tests.{eqb-true}
 use borrow.Table.Steps.{cases}
 use lib.Dec.{eqb}
 use Rattle.json_rule.specs.Shapes.{Shape, Anything, TextUpTo, OneOf, NumberIn, No, AUuid, ATransform, ListUpTo, ARecord, Row}
 use Rattle.json_rule.specs.Defects.{is_anything}
 use Rattle.json_members.specs.Spots.{row_at, shape_at, is_of_schema, items, item_at, value_at}
-use Rattle.json_members.proofs.Cases.{Every, done, ◌&◌, is_key, beside_other, by_keys}
+use Rattle.json_members.proofs.Cases.{done, ◌&◌, beside_other, by_keys}
 use Rattle.json_members.proofs.Tables.{only_rows}
 
 anything_is : (shape : Shape) → is_anything shape ≡ true → shape ≡ Anything

@@ -1,6 +1,6 @@
 -- A number of a sign and a magnitude is among those of a shape where the rule says so.
 use Prim.Native.Nat.{ℕ, zero, suc, ◌≤◌, ◌<◌, ◌^◌}
-use mathlib.Core.Path.{◌≡◌, refl, sym, ap, ◌∙◌}
+use mathlib.Core.Path.{◌≡◌, refl, sym, ◌∙◌}
 use mathlib.Core.Bool.{Bool, true, false, cond, ◌&&◌, true≢false}
 use native.Mathlib.Omega.{arith}
 use borrow.Author.Tests.{leb-true, lt-leb, ltb-true, ltb-false}
@@ -10,13 +10,13 @@ use lib.IntN.{ℤ, pos, negsuc}
 use lib.Signed.{le_z}
 use Rattle.rules.proofs.Checks.{and_left, and_right}
 use Rattle.json_rule.specs.Lexemes.{Lexeme, minus}
-use Rattle.json_rule.specs.Values.{negative, whole_number_of}
+use Rattle.json_rule.specs.Values.{negative}
 use Rattle.json_rule.specs.Records.{natural_of}
 use Rattle.json_rule.specs.Shapes.{Shape, Anything, TextUpTo, OneOf, NumberIn, No, AUuid, ATransform, ListUpTo, ARecord}
 use Rattle.json_rule.specs.Defects.{is_number_in}
 use Rattle.json_machine.proofs.Numbers.{signed_by}
 use Rattle.json_members.specs.Kept.{NumberKept}
-use Rattle.json_members.specs.Widths.{below_of, no_width, width_of, has_number}
+use Rattle.json_members.specs.Widths.{below_of, no_width, width_of}
 
 pub no_numbers : (shape : Shape) → (width_of shape).numbers ≡ false → width_of shape ≡ no_width
 no_numbers Anything e = refl

@@ -14,6 +14,7 @@ use json_lex::text::Kept;
 use records::partition::{BUCKET, DAY, IDENTITY, MONTH, YEAR};
 
 // A transform, or 0 where a text is none; and the number of a bucket, or 0 where it is none.
+// Kept: `transform_in` of Transforms (specs/) says both numbers, and `transform_of` answers them.
 #[derive(Clone, Copy)]
 pub struct Transform {
     pub kind: u8,
@@ -70,14 +71,11 @@ fn number_of(kept: &Kept, digits: usize) -> u64
     ensures { result ≡ cond (all is_digit (front digits (drop 7 kept.now))) (digits_value 0 (front digits (drop 7 kept.now))) 2147483648 }
 {
     let mut number: u64 = 0;
-    let mut i = 0;
-    while i < digits {
-        let byte = kept[FRONT + i];
-        if !is_digit(byte) {
+    for byte in &kept[FRONT..FRONT + digits] {
+        if !is_digit(*byte) {
             return MOST + 1;
         }
-        number = number * 10 + (byte - b'0') as u64;
-        i += 1;
+        number = number * 10 + u64::from(*byte - b'0');
     }
     number
 }

@@ -8,6 +8,7 @@ use crate::state::{FIELD, FIELDS, ITEMS, Judge, LIST, PASSED, RECORD, WANTED, WI
 use crate::{spot, state};
 
 // In which slot stands where a list or an object begins.
+#[tactic(auto, unfolding(crate::specs::Opening::slot_of))]
 fn slot_of(spot: usize) -> usize
     ensures { (result ≡ slot_of spot) × (result < 104) }
 {
@@ -29,6 +30,7 @@ pub fn first_of(judge: &Judge, spot: usize) -> usize
 }
 
 // The place at which a value is refused: its own, but that of the schema for the type of a field and for whether it is required.
+#[tactic(auto, unfolding(crate::specs::Opening::refused_in))]
 pub fn refused_at(judge: &Judge, spot: usize, first: usize) -> usize
     ensures { result ≡ refused_in judge.now spot first }
 {
@@ -39,6 +41,7 @@ pub fn refused_at(judge: &Judge, spot: usize, first: usize) -> usize
 }
 
 // In which slot stands how many elements a list has.
+#[tactic(auto, unfolding(crate::specs::Opening::count_slot))]
 fn count_slot(list: usize) -> usize
     ensures { (result ≡ count_slot list) × (result < 104) }
 {
@@ -49,6 +52,7 @@ fn count_slot(list: usize) -> usize
 }
 
 // Into the list or object that was wanted, which begins at a place.
+#[tactic(auto, unfolding(crate::specs::Opening::entering))]
 pub fn enter(judge: &mut Judge, first: usize)
     ensures { judge.new ≡ entering first judge.old }
 {
@@ -81,6 +85,7 @@ fn count_in(judge: &mut Judge, list: usize)
 }
 
 // A value begins: one more element, if a list that is judged is the innermost.
+#[tactic(auto, unfolding(crate::specs::Opening::counting))]
 pub fn count(judge: &mut Judge)
     ensures { judge.new ≡ counting judge.old }
 {

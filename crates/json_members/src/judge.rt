@@ -23,6 +23,7 @@ use json_lex::text::Kept;
 // ---- lists and objects
 
 // A bracket in what is passed over, or where no such list or object is wanted.
+#[tactic(auto, unfolding(crate::specs::Model::passing_in))]
 fn pass_in(judge: &mut Judge, first: usize)
     ensures { judge.new ≡ passing_in first judge.old }
 {
@@ -35,6 +36,7 @@ fn pass_in(judge: &mut Judge, first: usize)
     judge[PASSED] = with_one(judge[PASSED]);
 }
 
+#[tactic(auto, unfolding(crate::specs::Model::on_list))]
 fn on_list(judge: &mut Judge, first: usize)
     ensures { judge.new ≡ on_list first judge.old }
 {
@@ -49,6 +51,7 @@ fn on_list(judge: &mut Judge, first: usize)
     }
 }
 
+#[tactic(auto, unfolding(crate::specs::Model::on_object))]
 fn on_object(judge: &mut Judge, first: usize)
     ensures { judge.new ≡ on_object first judge.old }
 {
@@ -63,6 +66,7 @@ fn on_object(judge: &mut Judge, first: usize)
     }
 }
 
+#[tactic(auto, unfolding(crate::specs::Model::on_bracket))]
 fn on_bracket(judge: &mut Judge, head: u8, first: usize)
     ensures { judge.new ≡ on_bracket head first judge.old }
 {
@@ -81,6 +85,7 @@ fn on_bracket(judge: &mut Judge, head: u8, first: usize)
 // ---- texts, numbers and words
 
 // A name that was seen before the action is unknown if it stands in other rows only.
+#[tactic(auto, unfolding(crate::specs::Model::refusing_foreign))]
 fn refuse_foreign(judge: &mut Judge, row: Row, spot: usize)
     ensures { judge.new ≡ refusing_foreign row spot judge.old }
 {
@@ -98,14 +103,13 @@ fn know(judge: &mut Judge, kind: u8)
 {
     let row = row_of(kind);
     judge[KIND] = kind as usize;
-    let mut spot = ACTION;
-    while spot <= SPEC_IDS {
+    for spot in ACTION..=SPEC_IDS {
         refuse_foreign(judge, row, spot);
-        spot += 1;
     }
 }
 
 // The action of the open update.
+#[tactic(auto, unfolding(crate::specs::Model::on_action))]
 fn on_action(judge: &mut Judge, kept: &Kept, head: u8, first: usize, len: usize)
     ensures { judge.new ≡ on_action kept.now head first len judge.old }
 {
@@ -120,6 +124,7 @@ fn on_action(judge: &mut Judge, kept: &Kept, head: u8, first: usize, len: usize)
 }
 
 // A value where one is wanted that is no action: its spot, if it is right.
+#[tactic(auto, unfolding(crate::specs::Model::on_fault))]
 fn on_wanted(
     judge: &mut Judge,
     kept: &Kept,
@@ -141,6 +146,7 @@ fn on_wanted(
     ANYTHING
 }
 
+#[tactic(auto, unfolding(crate::specs::Model::on_scalar))]
 fn on_scalar(
     judge: &mut Judge,
     kept: &Kept,
@@ -165,6 +171,7 @@ fn on_scalar(
     on_wanted(judge, kept, wanted, head, first, len, integer, magnitude)
 }
 
+#[tactic(auto, unfolding(json_rule::specs::Lexemes::is_digit, crate::specs::Model::is_scalar))]
 fn is_scalar(head: u8) -> bool
     ensures { result ≡ is_scalar head }
 {
@@ -174,6 +181,7 @@ fn is_scalar(head: u8) -> bool
     }
 }
 
+#[tactic(auto, unfolding(crate::specs::Model::on_bare, crate::specs::Model::on_value))]
 fn on_value(
     judge: &mut Judge,
     kept: &Kept,
@@ -216,6 +224,7 @@ fn known(judge: &Judge, kept: &Kept, len: usize) -> usize
 }
 
 // A name that is known: it is refused where it stands in other rows only. Its value is judged all the same: what is wrong with that stands behind the name.
+#[tactic(auto, unfolding(crate::specs::Model::on_known))]
 fn on_known(judge: &mut Judge, spot: usize, first: usize)
     ensures { judge.new ≡ on_known spot first judge.old }
 {
@@ -225,6 +234,7 @@ fn on_known(judge: &mut Judge, spot: usize, first: usize)
     }
 }
 
+#[tactic(auto, unfolding(crate::specs::Model::on_spot))]
 fn on_member(judge: &mut Judge, kept: &Kept, first: usize, len: usize)
     ensures { judge.new ≡ on_member kept.now first len judge.old }
 {
@@ -237,6 +247,7 @@ fn on_member(judge: &mut Judge, kept: &Kept, first: usize, len: usize)
     }
 }
 
+#[tactic(auto, unfolding(crate::specs::Model::on_name))]
 fn on_name(judge: &mut Judge, kept: &Kept, head: u8, first: usize, len: usize)
     ensures { judge.new ≡ on_name kept.now head first len judge.old }
 {
@@ -250,6 +261,7 @@ fn on_name(judge: &mut Judge, kept: &Kept, head: u8, first: usize, len: usize)
     }
 }
 
+#[tactic(auto, unfolding(crate::specs::Model::on_colon))]
 fn on_colon(judge: &mut Judge, head: u8, first: usize)
     ensures { judge.new ≡ on_colon head first judge.old }
 {
@@ -263,6 +275,7 @@ fn on_colon(judge: &mut Judge, head: u8, first: usize)
 // ---- ends
 
 // A list or an object that is judged is closed: its spot.
+#[tactic(auto, unfolding(crate::specs::Model::leaving))]
 fn leave(judge: &mut Judge) -> usize
     ensures { after judge.new result ≡ leaving judge.old }
 {
@@ -275,6 +288,7 @@ fn leave(judge: &mut Judge) -> usize
     spot
 }
 
+#[tactic(auto, unfolding(crate::specs::Model::on_close))]
 fn on_close(judge: &mut Judge) -> usize
     ensures { after judge.new result ≡ on_close judge.old }
 {
@@ -289,6 +303,7 @@ fn on_close(judge: &mut Judge) -> usize
 }
 
 // What follows a comma: a name in an object, an element in a list.
+#[tactic(auto, unfolding(crate::specs::Model::on_next))]
 fn on_next(judge: &mut Judge)
     ensures { judge.new ≡ on_next judge.old }
 {
@@ -302,6 +317,7 @@ fn on_next(judge: &mut Judge)
     }
 }
 
+#[tactic(auto, unfolding(crate::specs::Model::on_comma))]
 fn on_comma(judge: &mut Judge, head: u8, first: usize)
     ensures { judge.new ≡ on_comma head first judge.old }
 {
@@ -319,6 +335,7 @@ fn on_comma(judge: &mut Judge, head: u8, first: usize)
 // ---- all
 
 // One more whole lexeme. What it makes whole is told: the spot of a right value, or of a list or an object that is closed.
+#[tactic(auto, unfolding(crate::specs::Model::on_expected, crate::specs::Model::taking))]
 pub fn take(
     judge: &mut Judge,
     kept: &Kept,
@@ -345,6 +362,7 @@ pub fn take(
 }
 
 // A lexeme that a byte broke, or the end of the input. One that may not begin here is refused at its first byte.
+#[tactic(auto, unfolding(crate::specs::Model::taking_broken))]
 pub fn take_broken(judge: &mut Judge, head: u8, first: usize, place: usize)
     ensures { judge.new ≡ taking_broken head first place judge.old }
 {
@@ -360,6 +378,7 @@ pub fn take_broken(judge: &mut Judge, head: u8, first: usize, place: usize)
 }
 
 // The end of the input, between lexemes: the list must be closed there.
+#[tactic(auto, unfolding(crate::specs::Model::taking_end))]
 pub fn take_end(judge: &mut Judge, len: usize)
     ensures { judge.new ≡ taking_end len judge.old }
 {

@@ -14,6 +14,7 @@ use records::update::{
     UPGRADE_FORMAT_VERSION,
 };
 
+// Kept: kinds are the numbers of the records, as Words of specs/ says them.
 // What is told of a text that is none of them: kinds and types count from 1, directions and places for nulls from 0.
 pub const NO_KIND: u8 = 0;
 

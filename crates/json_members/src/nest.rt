@@ -2,6 +2,7 @@
 ghost use Rattle.std.specs.Prelude.{◌≡◌};
 ghost use Rattle.json_members.specs.Nesting.{is_full, is_outside, is_in_object, with_list, with_object, with_one, closes_list, closes_object, closes_at, may_begin};
 
+// Kept: these are numbers, as Nesting of specs/ says them of a slot of the judge.
 // What may come next: a value; one, or the end of a list; a name; one, or the end of an object; a colon; a comma, or the end; nothing.
 pub const VALUE: usize = 0;
 
@@ -59,6 +60,7 @@ pub fn with_one(passed: usize) -> usize
     passed % FULL + 1
 }
 
+#[tactic(auto, unfolding(crate::specs::Nesting::closes_list))]
 fn closes_list(expect: usize, kinds: usize) -> bool
     ensures { result ≡ closes_list expect kinds }
 {
@@ -74,6 +76,7 @@ fn closes_list(expect: usize, kinds: usize) -> bool
     !is_in_object(kinds)
 }
 
+#[tactic(auto, unfolding(crate::specs::Nesting::closes_object))]
 fn closes_object(expect: usize, kinds: usize) -> bool
     ensures { result ≡ closes_object expect kinds }
 {
@@ -90,6 +93,7 @@ fn closes_object(expect: usize, kinds: usize) -> bool
 }
 
 // Whether a byte closes the innermost list or object: at once behind its first bracket, or behind a value.
+#[tactic(auto, unfolding(crate::specs::Nesting::closes_at))]
 pub fn closes(expect: usize, kinds: usize, head: u8) -> bool
     ensures { result ≡ closes_at expect kinds head }
 {
@@ -101,6 +105,7 @@ pub fn closes(expect: usize, kinds: usize, head: u8) -> bool
 }
 
 // Whether a text, a number or a word that begins with this byte may come next.
+#[tactic(auto, unfolding(crate::specs::Nesting::may_begin))]
 pub fn may_begin(expect: usize, head: u8) -> bool
     ensures { result ≡ may_begin expect head }
 {

@@ -5,6 +5,7 @@ ghost use Rattle.json_members.specs.Refusing.{sooner_in, refusing, stopping};
 use crate::nest::STOPPED;
 use crate::state::{EXPECT, Judge, NUMBER, PLACE};
 
+// Kept: refusals are numbers, 0 where there is none, as Refusing, Faults and Model of specs/ say them; they are what is answered.
 // Not JSON.
 pub const NOT_JSON: usize = 27;
 
@@ -15,6 +16,7 @@ pub const NOT_PUBLISHED: usize = 28;
 pub const OVER_CAPACITY: usize = 29;
 
 // Whether a refusal comes before the least so far.
+#[tactic(auto, unfolding(crate::specs::Refusing::sooner_in))]
 fn is_sooner(judge: &Judge, number: usize, place: usize) -> bool
     ensures { result ≡ sooner_in judge.now number place }
 {
@@ -28,6 +30,7 @@ fn is_sooner(judge: &Judge, number: usize, place: usize) -> bool
 }
 
 // One more refusal.
+#[tactic(auto, unfolding(crate::specs::Refusing::refusing))]
 pub fn refuse(judge: &mut Judge, number: usize, place: usize)
     ensures { judge.new ≡ refusing number place judge.old }
 {
@@ -38,6 +41,7 @@ pub fn refuse(judge: &mut Judge, number: usize, place: usize)
 }
 
 // Reading ends at a refusal: what encloses this place lacks nothing.
+#[tactic(auto, unfolding(crate::specs::Refusing::stopping))]
 pub fn stop(judge: &mut Judge, number: usize, place: usize)
     ensures { judge.new ≡ stopping number place judge.old }
 {

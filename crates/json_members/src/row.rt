@@ -51,6 +51,7 @@ const EVERY_ROW: Row = Row {
 };
 
 // The row of a kind. That of no kind has every member of an update and requires none.
+#[tactic(auto, unfolding(crate::specs::Rows::span_of))]
 pub fn row_of(kind: u8) -> Row
     ensures { result ≡ span_of kind }
 {
@@ -75,6 +76,7 @@ pub fn row_of(kind: u8) -> Row
 }
 
 // Whether a member of an update stands in another row only. The action stands in every row.
+#[tactic(auto, unfolding(crate::specs::Rows::is_foreign_at))]
 pub fn is_foreign(row: Row, spot: usize) -> bool
     ensures { result ≡ is_foreign_at row spot }
 {

@@ -20,6 +20,7 @@ fn open_update(judge: &mut Judge)
 }
 
 // An object is opened: none of its members was seen.
+#[tactic(auto, unfolding(crate::specs::Marks::opening))]
 pub fn open(judge: &mut Judge, object: usize)
     ensures { judge.new ≡ opening object judge.old }
 {
@@ -40,12 +41,10 @@ pub fn open(judge: &mut Judge, object: usize)
 fn lacks_any(judge: &Judge, from: usize, to: usize) -> bool
     ensures { result ≡ lacks_any from to judge.now }
 {
-    let mut spot = from;
-    while spot <= to {
+    for spot in from..=to {
         if !is_seen(judge, spot) {
             return true;
         }
-        spot += 1;
     }
     false
 }
@@ -92,6 +91,7 @@ fn partition_field_lacks(judge: &Judge) -> bool
 }
 
 // An object is closed: whether it lacks a member that it must have. A list lacks none.
+#[tactic(auto, unfolding(crate::specs::Marks::lacks_in))]
 pub fn lacks(judge: &Judge, object: usize) -> bool
     ensures { result ≡ lacks_in object judge.now }
 {

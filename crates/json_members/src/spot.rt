@@ -5,6 +5,7 @@ ghost use Rattle.rules.specs.Words.{is_some};
 ghost use Rattle.json_rule.specs.Defects.{listing_of, kind_of};
 ghost use Rattle.json_members.specs.Spots.{shape_at, item_at, room_in, value_at, around_at};
 
+// Kept: spots are numbers, as Spots of specs/ counts them and the slots of the judge hold them.
 // Any JSON, passed over; or no spot.
 pub const ANYTHING: usize = 0;
 
@@ -132,6 +133,7 @@ pub const PARTITION_TRANSFORM: usize = 57;
 pub const SPOTS: usize = 64;
 
 // What the elements of a list are; `ANYTHING` where the spot is no list.
+#[tactic(auto, unfolding(crate::specs::Spots::item_at))]
 pub fn item_of(spot: usize) -> usize
     ensures { result ≡ item_at spot }
 {
@@ -189,6 +191,7 @@ pub fn value_of(member: usize) -> usize
 }
 
 // In which list or object one stands.
+#[tactic(auto, unfolding(crate::specs::Spots::around_at))]
 pub fn around(spot: usize) -> usize
     ensures { result ≡ around_at spot }
 {

@@ -4,6 +4,7 @@ ghost use Rattle.json_members.specs.Slots.{start_slots, kind_in, seen_in, named_
 
 use crate::spot::{SPEC_IDS, SPOTS};
 
+// Kept: a slot is a number of the one array, as Slots of specs/ and the functions and theorems over it say.
 pub const SLOTS: usize = 104;
 
 pub type Judge = [usize; SLOTS];
@@ -67,6 +68,7 @@ pub fn kind_of(judge: &Judge) -> u8
     (judge[KIND] % 256) as u8
 }
 
+#[tactic(auto, unfolding(crate::specs::Slots::seen_in))]
 pub fn is_seen(judge: &Judge, spot: usize) -> bool
     ensures { result ≡ seen_in judge.now spot }
 {
@@ -77,6 +79,7 @@ pub fn is_seen(judge: &Judge, spot: usize) -> bool
 }
 
 // The place of the name of an update's member.
+#[tactic(auto, unfolding(crate::specs::Slots::named_in))]
 pub fn named_at(judge: &Judge, spot: usize) -> usize
     ensures { result ≡ named_in judge.now spot }
 {
@@ -87,6 +90,7 @@ pub fn named_at(judge: &Judge, spot: usize) -> usize
 }
 
 // A member's name was seen at a place.
+#[tactic(auto, unfolding(crate::specs::Slots::marking, crate::specs::Slots::placing))]
 pub fn see(judge: &mut Judge, spot: usize, place: usize)
     ensures { judge.new ≡ seeing spot place judge.old }
 {
@@ -102,9 +106,7 @@ pub fn see(judge: &mut Judge, spot: usize, place: usize)
 pub fn forget(judge: &mut Judge, from: usize, to: usize)
     ensures { judge.new ≡ forgetting from to judge.old }
 {
-    let mut spot = from;
-    while spot <= to && spot < SPOTS {
+    for spot in from..=to.min(SPOTS - 1) {
         judge[SEEN + spot] = 0;
-        spot += 1;
     }
 }

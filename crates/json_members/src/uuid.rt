@@ -25,17 +25,16 @@ pub fn is_uuid(kept: &Kept, len: usize) -> bool
     if len != LENGTH {
         return false;
     }
-    let mut i = 0;
-    while i < LENGTH {
-        if !is_right_at(i, kept[i]) {
+    for (i, byte) in kept[..LENGTH].iter().enumerate() {
+        if !is_right_at(i, *byte) {
             return false;
         }
-        i += 1;
     }
     true
 }
 
 // Where the two digits of a byte of a uuid stand: behind the hyphens that come before them.
+#[tactic(auto, unfolding(crate::specs::Uuids::place_of))]
 fn place_of(byte: usize) -> usize
     requires { byte < 16 }
     ensures { result ≡ place_of byte }

@@ -59,6 +59,7 @@ fn is_formed(spot: usize, kept: &Kept, len: usize) -> bool
 }
 
 // A text with a lone half of a pair has no UTF-8, so it is none that is published.
+#[tactic(auto, unfolding(crate::specs::Faults::form_fault_at))]
 fn text_fault(spot: usize, kept: &Kept, len: usize) -> usize
     ensures { result ≡ text_fault_at spot kept.now len }
 {
@@ -82,6 +83,7 @@ fn number_fault(spot: usize, negative: bool, integer: bool, magnitude: u64) -> u
 }
 
 // What is wrong with a whole text, number or word at a spot.
+#[tactic(auto, unfolding(crate::specs::Faults::fault_at))]
 pub fn fault_of(
     spot: usize,
     kept: &Kept,

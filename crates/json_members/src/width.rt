@@ -11,6 +11,7 @@ use crate::spot::{
     SORT_SOURCE_ID, SPEC_ID, TIMESTAMP_MS,
 };
 
+// Kept: `width_of` of Widths (specs/) says the flag and the numbers, and the function here answers them.
 // The largest number, and how far below 0 the least lies; `numbers` is false where the spot holds none.
 #[derive(Clone, Copy)]
 pub struct Width {

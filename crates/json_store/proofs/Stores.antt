@@ -1,12 +1,13 @@
 -- A run of stores: what stands where it was stored, and beside it.
 use Prim.Native.Nat.{ℕ, zero, suc, ◌+◌, ◌-◌, ◌≤◌, ◌<◌}
 use mathlib.Core.Path.{◌≡◌, refl, sym, ap, ◌∙◌}
-use mathlib.Core.List.{List, [], ◌∷◌, ◌++◌, append-nil}
+use mathlib.Core.List.{List, [], ◌∷◌, ◌++◌, append-nil, append_assoc}
 use native.Mathlib.Nat.{add-zero, zero-add, add-suc, suc-add, add_assoc, sub-zero, zero-sub, sub_self, suc-sub-suc}
 use native.Mathlib.Numerals.{add-one}
 use native.Mathlib.Omega.{arith}
 use lib.ListN.{length, get_or, take, drop, set, replicate, length-set, length-drop, length-replicate, drop_of_length-le}
-use lib.Seq.{sets, sets-eq, drop-cons, get_or-set_same, get_or-set_other, length-take-le, get_or-drop, get_or-take, ext_get_or}
+use borrow.Rule.Slice.PartMut.{put_mid}
+use lib.Seq.{drop-drop, sets, sets-eq, drop-cons, get_or-set_same, get_or-set_other, length-take-le, get_or-drop, get_or-take, ext_get_or}
 use Rattle.rules.specs.Layout.{pad}
 use Rattle.json_members.specs.Kept.{front}
 use Rattle.json_members.proofs.Fronts.{front_length, front_at}
@@ -104,3 +105,17 @@ pub part_take : (place n : ℕ) (l : List ℕ) → place + n ≤ length l → pa
 part_take place n l h =
     ext_get_or 0 (part place n l) (take n (drop place l)) (part_length place n l ∙ sym (length-take-le n (drop place l) (omega (arith, length-drop place l))))
     (λ i hi. let h' : i < n = omega (arith, part_length place n l) in front_at n (drop place l) i h' ∙ sym (get_or-take n (drop place l) i 0 h'))
+
+-- ---- copies
+
+-- elements put in the place of as many are stored one after the other
+pub put_stored : {A : Type 0} (at n : ℕ) (l vs : List A) → length vs ≡ n → at + n ≤ length l → put_mid at n l vs ≡ sets l at vs
+put_stored {A} at n l vs e h =
+    let d : drop n (drop at l) ≡ drop (at + length vs) l = drop-drop n at l ∙ ap (λ (k : ℕ). drop (at + k) l) (sym e) in
+    ap (λ (r : List A). take at l ++ (vs ++ r)) d ∙ sym (sets-eq vs l at (omega arith) ∙ append_assoc (take at l) vs (drop (at + length vs) l))
+
+-- so many bytes from a place on, as they are cut out for a copy
+pub cut_part : (place n : ℕ) (l : List ℕ) → place + n ≤ length l → take (place + n - place) (drop place l) ≡ part place n l
+cut_part place n l h =
+    let e : place + n - place ≡ n = omega arith in
+    ap (λ (k : ℕ). take k (drop place l)) e ∙ sym (part_take place n l h)

@@ -14,7 +14,7 @@ use Rattle.records.specs.declared.text.Text.{Text}
 use Rattle.rules.specs.Layout.{pad, laid_text, laid_name}
 use Rattle.json_store.specs.Puts.{part}
 use Rattle.json_store.specs.Made.{text_in}
-use Rattle.json_store.proofs.Stores.{sets_on, stored_end, part_length, part_at}
+use Rattle.json_store.proofs.Stores.{sets_on, sets_pad, stored_end, part_length, part_at}
 
 -- so much of a text is not yet taken
 pub record Rest (texts : List ℕ) (place room n : ℕ) (bytes : List ℕ) (i : ℕ) : Type 0 where
@@ -38,17 +38,21 @@ module _ {texts : List ℕ} {place room n : ℕ} where
   rest_all {bytes} {i} x h =
       stored_end room 0 (part place n texts) bytes i (omega (arith, part_length place n texts, x.most)) (omega (arith, part_length place n texts)) x.stored
 
-abbrev length_in : ℕ → ℕ → List ℕ → ℕ
+abbrev pub length_in : ℕ → ℕ → List ℕ → ℕ
 length_in room place texts = cond (leb (get_or texts place 0) room) (get_or texts place 0) room
 
 pub length_small : (room place : ℕ) (texts : List ℕ) → length_in room place texts ≤ room
 length_small room place texts = cases (leb (get_or texts place 0) room) (λ t. rw t (leb-true _ room t)) (λ f. rw f (omega arith))
 
-module _ (texts bytes : List ℕ) (n i : ℕ) (done : n ≤ i) where
-  pub location_laid : n ≡ length_in 96 16 texts → Rest texts 17 96 n bytes i → ◌≡◌ {A = Text} (record { bytes = bytes; len = n }) (laid_text (text_in 96 16 texts))
+module _ (texts bytes : List ℕ) (n : ℕ) where
+  pub location_laid : n ≡ length_in 96 16 texts → bytes ≡ sets (replicate 96 0) 0 (part 17 n texts) → ◌≡◌ {A = Text} (record { bytes = bytes; len = n }) (laid_text (text_in 96 16 texts))
   unfolding laid_text text_in
-  location_laid e x = rw (rest_all x done, e, part_length 17 (length_in 96 16 texts) texts)
+  location_laid e x =
+      let padded = x ∙ sets_pad 96 0 (part 17 n texts) (omega (arith, part_length 17 n texts, length_small 96 16 texts)) in
+      rw (padded, e, part_length 17 (length_in 96 16 texts) texts)
 
-  pub name_laid : n ≡ length_in 32 113 texts → Rest texts 114 32 n bytes i → ◌≡◌ {A = Name} (record { bytes = bytes; len = n }) (laid_name (text_in 32 113 texts))
+  pub name_laid : n ≡ length_in 32 113 texts → bytes ≡ sets (replicate 32 0) 0 (part 114 n texts) → ◌≡◌ {A = Name} (record { bytes = bytes; len = n }) (laid_name (text_in 32 113 texts))
   unfolding laid_name text_in
-  name_laid e x = rw (rest_all x done, e, part_length 114 (length_in 32 113 texts) texts)
+  name_laid e x =
+      let padded = x ∙ sets_pad 32 0 (part 114 n texts) (omega (arith, part_length 114 n texts, length_small 32 113 texts)) in
+      rw (padded, e, part_length 114 (length_in 32 113 texts) texts)

@@ -32,6 +32,7 @@ pub struct Whole(pub i64);
 #[derive(Clone, Copy)]
 pub struct Narrow(pub i32);
 
+#[tactic(auto, unfolding(crate::specs::Numbers::put_number))]
 pub fn put(numbers: &mut Numbers, at: usize, negative: bool, magnitude: u64)
     ensures { numbers.new ≡ put_number at negative magnitude numbers.old }
 {
@@ -41,6 +42,7 @@ pub fn put(numbers: &mut Numbers, at: usize, negative: bool, magnitude: u64)
     }
 }
 
+#[tactic(auto, unfolding(crate::specs::Numbers::magnitude_at))]
 pub fn magnitude_at(numbers: &Numbers, at: usize) -> u64
     ensures { result ≡ magnitude_at numbers.now at }
 {
@@ -50,6 +52,7 @@ pub fn magnitude_at(numbers: &Numbers, at: usize) -> u64
     0
 }
 
+#[tactic(auto, unfolding(crate::specs::Numbers::negative_at))]
 pub fn is_negative_at(numbers: &Numbers, at: usize) -> bool
     ensures { result ≡ negative_at numbers.now at }
 {
@@ -60,6 +63,7 @@ pub fn is_negative_at(numbers: &Numbers, at: usize) -> bool
 }
 
 // A magnitude with its sign; 0 where it does not fit. What lies below 0 is counted from -1, as there is no magnitude of the lowest number.
+#[tactic(auto, unfolding(crate::specs::Numbers::signed_of))]
 pub fn signed(negative: bool, magnitude: u64) -> Whole
     ensures { result.0 ≡ signed_of negative magnitude }
 {
@@ -79,6 +83,7 @@ pub fn signed(negative: bool, magnitude: u64) -> Whole
     Whole(magnitude as i64)
 }
 
+#[tactic(auto, unfolding(crate::specs::Numbers::number_at))]
 pub fn number_at(numbers: &Numbers, at: usize) -> Whole
     ensures { result.0 ≡ number_at numbers.now at }
 {
@@ -86,6 +91,7 @@ pub fn number_at(numbers: &Numbers, at: usize) -> Whole
 }
 
 // Of 32 bits; 0 where it does not fit.
+// Kept: tried, `i32::try_from(whole.0).unwrap_or(0)`: that its bounds are those of `narrowed` (specs/Numbers) was left to show.
 pub fn narrowed(whole: Whole) -> Narrow
     ensures { result.0 ≡ narrowed_of whole.0 }
 {
@@ -106,6 +112,7 @@ pub fn narrow_at(numbers: &Numbers, at: usize) -> Narrow
 }
 
 // The lowest 32 bits; one below 0 is told by what it lacks to 2^32.
+#[tactic(auto, unfolding(crate::specs::Numbers::low_bits))]
 pub fn low_at(numbers: &Numbers, at: usize) -> u64
     ensures { result ≡ low_at numbers.now at }
 {
@@ -124,6 +131,7 @@ pub fn byte_at(numbers: &Numbers, at: usize) -> u8
 }
 
 // How many elements a list has, at most as many as there is room for.
+#[tactic(auto, unfolding(crate::specs::Numbers::count_at))]
 pub fn count_at(numbers: &Numbers, list: usize, room: usize) -> usize
     ensures { result ≡ count_at room numbers.now list }
 {

@@ -17,6 +17,7 @@ use records::update::{ADD_PARTITION_SPEC, ADD_SCHEMA};
 pub type Offers = [u8; OFFERS];
 
 // Where the offer of a kind stands among the texts.
+#[tactic(auto, unfolding(crate::specs::Parts::offer_at))]
 fn offer_at(kind: u8) -> usize
     ensures { result ≡ offer_at kind }
 {
@@ -40,11 +41,7 @@ fn copy_offer(offers: &mut Offers, place: usize, texts: &Texts, from: usize, len
     requires { (place + len ≤ 77824) × (from + len ≤ 1731) }
     ensures { offers.new ≡ sets offers.old place (part from len texts.now) }
 {
-    let mut i = 0;
-    while i < len {
-        offers[place + i] = texts[from + i];
-        i += 1;
-    }
+    offers[place..place + len].copy_from_slice(&texts[from..from + len]);
 }
 
 // The offer of the closed update from a place on, if there is room; and where the next begins.

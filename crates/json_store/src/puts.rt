@@ -28,6 +28,7 @@ use records::capacities::{
 
 // ---- values
 
+#[tactic(auto, unfolding(crate::specs::Puts::put_transform))]
 fn put_transform(numbers: &mut Numbers, kept: &Kept, len: usize)
     ensures { numbers.new ≡ put_transform kept.now len numbers.old }
 {
@@ -37,6 +38,7 @@ fn put_transform(numbers: &mut Numbers, kept: &Kept, len: usize)
 }
 
 // A word, as the number that a record has for it.
+#[tactic(auto, unfolding(crate::specs::Puts::put_word))]
 fn put_word(numbers: &mut Numbers, spot: usize, kept: &Kept, len: usize)
     ensures { numbers.new ≡ put_word spot kept.now len numbers.old }
 {
@@ -51,6 +53,7 @@ fn put_word(numbers: &mut Numbers, spot: usize, kept: &Kept, len: usize)
 }
 
 // A text at its spot.
+#[tactic(auto, unfolding(crate::specs::Puts::put_string))]
 fn put_string(numbers: &mut Numbers, texts: &mut Texts, spot: usize, kept: &Kept, len: usize)
     ensures { store numbers.new texts.new ≡ put_string spot kept.now len (store numbers.old texts.old) }
 {
@@ -64,6 +67,7 @@ fn put_string(numbers: &mut Numbers, texts: &mut Texts, spot: usize, kept: &Kept
 }
 
 // A right value at its spot.
+#[tactic(auto, unfolding(crate::specs::Puts::put_value))]
 fn put_value(
     numbers: &mut Numbers,
     texts: &mut Texts,
@@ -85,16 +89,15 @@ fn put_value(
 // ---- elements and fields
 
 // The place of the last of so many.
+#[tactic(auto, unfolding(crate::specs::Puts::last_of))]
 fn last_of(count: usize) -> usize
     ensures { result ≡ last_of count }
 {
-    if count == 0 {
-        return 0;
-    }
-    count - 1
+    count.saturating_sub(1)
 }
 
 // Where the elements of a list of ids stand, by the spot of an element.
+#[tactic(auto, unfolding(crate::specs::Puts::ids_at))]
 fn ids_at(item: usize) -> usize
     ensures { result ≡ ids_at item }
 {
@@ -122,6 +125,7 @@ fn put_field(numbers: &Numbers, texts: &mut Texts, i: usize)
 }
 
 // Its source, its direction, its place for nulls.
+#[tactic(auto, unfolding(crate::specs::Puts::put_sort_field))]
 fn put_sort_field(numbers: &mut Numbers, i: usize)
     ensures { numbers.new ≡ put_sort_field i numbers.old }
 {
@@ -132,6 +136,7 @@ fn put_sort_field(numbers: &mut Numbers, i: usize)
 }
 
 // The id of a partition field, and whether it is given.
+#[tactic(auto, unfolding(crate::specs::Puts::put_partition_id))]
 fn put_partition_id(numbers: &mut Numbers, given: bool, i: usize)
     ensures { numbers.new ≡ put_partition_id given i numbers.old }
 {
@@ -154,6 +159,7 @@ fn put_partition(numbers: &mut Numbers, texts: &mut Texts, given: bool, i: usize
 
 // ---- what is done: a right value, or a list or an object that was closed, by its spot
 
+#[tactic(auto, unfolding(crate::specs::Puts::is_silent, crate::specs::Puts::put_done_in))]
 pub fn put_done(
     done: usize,
     kept: &Kept,

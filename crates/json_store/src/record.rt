@@ -1,5 +1,6 @@
 // The records of an update, of what is held.
-ghost use Rattle.std.specs.Prelude.{◌≡◌, cond, ◌<◌, leb, get_or};
+ghost use Rattle.std.specs.Prelude.{◌≡◌, ◌+◌, cond, ◌<◌, ◌≤◌, leb, length, get_or};
+ghost use Rattle.std.proofs.lemmas.List.Edits.{sets};
 ghost use Rattle.rules.specs.Layout.{laid_text, laid_name, laid_snapshot, laid_snapshot_ids, laid_reference, laid_schema_offer, laid_schema_ids, laid_sort_field, laid_sort_order, laid_offered_id, laid_spec_offer, laid_spec_ids};
 ghost use Rattle.json_members.specs.Slots.{seen_in};
 ghost use Rattle.json_store.specs.Places.{uuid_at, location_at, ref_name_at};
@@ -20,7 +21,7 @@ use json_members::spot::{
 };
 use json_members::state::{Judge, is_seen};
 use records::capacities;
-use records::capacities::{NAME, PARTITION_FIELDS, REMOVALS, SORT_FIELDS, TEXT};
+use records::capacities::{PARTITION_FIELDS, REMOVALS, SORT_FIELDS};
 use records::counters::{
     Age, FieldId, MinSnapshots, RowId, SchemaId, SequenceNumber, SnapshotId, SortOrderId, SpecId,
     Time,
@@ -38,57 +39,34 @@ pub fn uuid(texts: &Texts) -> [u8; 16]
     ensures { result ≡ part uuid_at 16 texts.now }
 {
     let mut bytes = [0u8; 16];
-    let mut i = 0;
-    while i < 16 {
-        bytes[i] = texts[UUID_AT + i];
-        i += 1;
-    }
+    bytes.copy_from_slice(&texts[UUID_AT..UUID_AT + 16]);
     bytes
 }
 
-fn wide(byte: u8) -> usize
-    ensures { result ≡ byte }
+// The bytes of a text, at most as many as there is room for, and how many they are: its length stands in front of them.
+fn copy_text(texts: &Texts, at: usize, bytes: &mut [u8]) -> usize
+    requires { at + 1 + length bytes.old ≤ 1731 }
+    ensures len { result ≡ cond (leb (get_or texts.now at 0) (length bytes.old)) (get_or texts.now at 0) (length bytes.old) }
+    ensures after { bytes.new ≡ sets bytes.old 0 (part (at + 1) result texts.now) }
 {
-    byte as usize
-}
-
-// The length of a text, at most its room.
-fn length_at(texts: &Texts, at: usize, room: usize) -> usize
-    requires { at < 1731 }
-    ensures { result ≡ cond (leb (get_or texts.now at 0) room) (get_or texts.now at 0) room }
-{
-    let len = wide(texts[at]);
-    if len <= room {
-        return len;
-    }
-    room
+    let len = usize::from(texts[at]).min(bytes.len());
+    bytes[..len].copy_from_slice(&texts[at + 1..at + 1 + len]);
+    len
 }
 
 pub fn location(texts: &Texts) -> Text
     ensures { result ≡ laid_text (text_in 96 location_at texts.now) }
 {
-    let len = length_at(texts, LOCATION_AT, TEXT);
     let mut text = Text::blank();
-    let mut i = 0;
-    while i < len {
-        text.bytes[i] = texts[LOCATION_AT + 1 + i];
-        i += 1;
-    }
-    text.len = len;
+    text.len = copy_text(texts, LOCATION_AT, &mut text.bytes);
     text
 }
 
 pub fn name(texts: &Texts) -> Name
     ensures { result ≡ laid_name (text_in 32 ref_name_at texts.now) }
 {
-    let len = length_at(texts, REF_NAME_AT, NAME);
     let mut name = Name::blank();
-    let mut i = 0;
-    while i < len {
-        name.bytes[i] = texts[REF_NAME_AT + 1 + i];
-        i += 1;
-    }
-    name.len = len;
+    name.len = copy_text(texts, REF_NAME_AT, &mut name.bytes);
     name
 }
 
@@ -124,49 +102,37 @@ fn row_number(numbers: &Numbers, judge: &Judge, spot: usize) -> u64
 
 // ---- snapshots and refs
 
+#[tactic(auto, unfolding(rules::specs::Layout::laid_snapshot, crate::specs::Made::snapshot_in))]
 pub fn snapshot(numbers: &Numbers, judge: &Judge) -> Snapshot
     ensures { result ≡ laid_snapshot (snapshot_in judge.now numbers.now) }
 {
-    let id = number_at(numbers, SNAPSHOT_ID);
-    let has_parent = is_seen(judge, PARENT_SNAPSHOT_ID);
-    let parent = or_zero(numbers, judge, PARENT_SNAPSHOT_ID);
-    let sequence = or_zero(numbers, judge, SEQUENCE_NUMBER);
-    let time = number_at(numbers, TIMESTAMP_MS);
-    let has_rows = is_seen(judge, FIRST_ROW_ID);
-    let first = row_number(numbers, judge, FIRST_ROW_ID);
-    let added = row_number(numbers, judge, ADDED_ROWS);
     Snapshot {
-        snapshot_id: SnapshotId(id.0),
-        has_parent,
-        parent_snapshot_id: SnapshotId(parent.0),
-        sequence_number: SequenceNumber(sequence.0),
-        timestamp_ms: Time(time.0),
-        has_rows,
-        first_row_id: RowId(first),
-        added_rows: added,
+        snapshot_id: SnapshotId(number_at(numbers, SNAPSHOT_ID).0),
+        has_parent: is_seen(judge, PARENT_SNAPSHOT_ID),
+        parent_snapshot_id: SnapshotId(or_zero(numbers, judge, PARENT_SNAPSHOT_ID).0),
+        sequence_number: SequenceNumber(or_zero(numbers, judge, SEQUENCE_NUMBER).0),
+        timestamp_ms: Time(number_at(numbers, TIMESTAMP_MS).0),
+        has_rows: is_seen(judge, FIRST_ROW_ID),
+        first_row_id: RowId(row_number(numbers, judge, FIRST_ROW_ID)),
+        added_rows: row_number(numbers, judge, ADDED_ROWS),
     }
 }
 
+#[tactic(auto, unfolding(rules::specs::Layout::laid_reference, crate::specs::Made::reference_in))]
 pub fn reference(numbers: &Numbers, judge: &Judge) -> SnapshotReference
     ensures { result ≡ laid_reference (reference_in judge.now numbers.now) }
 {
-    let id = number_at(numbers, REF_SNAPSHOT_ID);
-    let kind = byte_at(numbers, REF_TYPE);
-    let has_min = is_seen(judge, MIN_SNAPSHOTS_TO_KEEP);
-    let min = or_zero_narrow(numbers, judge, MIN_SNAPSHOTS_TO_KEEP);
-    let has_age = is_seen(judge, MAX_SNAPSHOT_AGE_MS);
-    let age = or_zero(numbers, judge, MAX_SNAPSHOT_AGE_MS);
-    let has_ref_age = is_seen(judge, MAX_REF_AGE_MS);
-    let ref_age = or_zero(numbers, judge, MAX_REF_AGE_MS);
     SnapshotReference {
-        snapshot_id: SnapshotId(id.0),
-        kind,
-        has_min,
-        min_snapshots_to_keep: MinSnapshots(min.0),
-        has_age,
-        max_snapshot_age_ms: Age(age.0),
-        has_ref_age,
-        max_ref_age_ms: Age(ref_age.0),
+        snapshot_id: SnapshotId(number_at(numbers, REF_SNAPSHOT_ID).0),
+        kind: byte_at(numbers, REF_TYPE),
+        has_min: is_seen(judge, MIN_SNAPSHOTS_TO_KEEP),
+        min_snapshots_to_keep: MinSnapshots(
+            or_zero_narrow(numbers, judge, MIN_SNAPSHOTS_TO_KEEP).0,
+        ),
+        has_age: is_seen(judge, MAX_SNAPSHOT_AGE_MS),
+        max_snapshot_age_ms: Age(or_zero(numbers, judge, MAX_SNAPSHOT_AGE_MS).0),
+        has_ref_age: is_seen(judge, MAX_REF_AGE_MS),
+        max_ref_age_ms: Age(or_zero(numbers, judge, MAX_REF_AGE_MS).0),
     }
 }
 
@@ -177,12 +143,8 @@ pub fn snapshot_ids(numbers: &Numbers) -> SnapshotIds
 {
     let count = count_at(numbers, SNAPSHOT_IDS, REMOVALS);
     let mut ids = SnapshotIds::blank();
-    let mut i = 0;
-    while i < count {
-        let z = number_at(numbers, SNAPSHOT_IDS_AT + i);
-        let id = SnapshotId(z.0);
-        ids.items[i] = id;
-        i += 1;
+    for i in 0..count {
+        ids.items[i] = SnapshotId(number_at(numbers, SNAPSHOT_IDS_AT + i).0);
     }
     ids.count = count;
     ids
@@ -193,12 +155,8 @@ pub fn schema_ids(numbers: &Numbers) -> SchemaIds
 {
     let count = count_at(numbers, SCHEMA_IDS, REMOVALS);
     let mut ids = SchemaIds::blank();
-    let mut i = 0;
-    while i < count {
-        let z = narrow_at(numbers, SCHEMA_IDS_AT + i);
-        let id = SchemaId(z.0);
-        ids.items[i] = id;
-        i += 1;
+    for i in 0..count {
+        ids.items[i] = SchemaId(narrow_at(numbers, SCHEMA_IDS_AT + i).0);
     }
     ids.count = count;
     ids
@@ -209,12 +167,8 @@ pub fn spec_ids(numbers: &Numbers) -> SpecIds
 {
     let count = count_at(numbers, SPEC_IDS, REMOVALS);
     let mut ids = SpecIds::blank();
-    let mut i = 0;
-    while i < count {
-        let z = narrow_at(numbers, SPEC_IDS_AT + i);
-        let id = SpecId(z.0);
-        ids.items[i] = id;
-        i += 1;
+    for i in 0..count {
+        ids.items[i] = SpecId(narrow_at(numbers, SPEC_IDS_AT + i).0);
     }
     ids.count = count;
     ids
@@ -222,30 +176,27 @@ pub fn spec_ids(numbers: &Numbers) -> SpecIds
 
 // ---- schemas, sort orders and partition specs
 
+#[tactic(auto, unfolding(rules::specs::Layout::laid_schema_offer, crate::specs::Made::schema_offer_in))]
 pub fn schema_offer(numbers: &Numbers, judge: &Judge, place: usize) -> SchemaOffer
     ensures { result ≡ laid_schema_offer (schema_offer_in judge.now numbers.now place) }
 {
-    let id = or_zero_narrow(numbers, judge, SCHEMA_ID);
-    let count = count_at(numbers, SCHEMA_FIELDS, capacities::SCHEMA_FIELDS);
     SchemaOffer {
-        schema_id: SchemaId(id.0),
+        schema_id: SchemaId(or_zero_narrow(numbers, judge, SCHEMA_ID).0),
         at: place,
-        count,
+        count: count_at(numbers, SCHEMA_FIELDS, capacities::SCHEMA_FIELDS),
     }
 }
 
+#[tactic(auto, unfolding(rules::specs::Layout::laid_sort_field, crate::specs::Made::sort_field_in))]
 fn sort_field(numbers: &Numbers, i: usize) -> SortField
     requires { i < 8 }
     ensures { result ≡ laid_sort_field (sort_field_in numbers.now i) }
 {
     let at = SORTS_AT + i * 3;
-    let source = narrow_at(numbers, at);
-    let direction = byte_at(numbers, at + 1);
-    let nulls = byte_at(numbers, at + 2);
     SortField {
-        source_id: FieldId(source.0),
-        direction,
-        null_order: nulls,
+        source_id: FieldId(narrow_at(numbers, at).0),
+        direction: byte_at(numbers, at + 1),
+        null_order: byte_at(numbers, at + 2),
     }
 }
 
@@ -254,20 +205,16 @@ pub fn sort_order(numbers: &Numbers) -> SortOrder
 {
     let count = count_at(numbers, ORDER_FIELDS, SORT_FIELDS);
     let mut order = SortOrder::blank();
-    let mut i = 0;
-    while i < count {
-        let field = sort_field(numbers, i);
-        order.items[i] = field;
-        i += 1;
+    for i in 0..count {
+        order.items[i] = sort_field(numbers, i);
     }
-    let z = number_at(numbers, ORDER_ID);
-    let id = SortOrderId(z.0);
-    order.order_id = id;
+    order.order_id = SortOrderId(number_at(numbers, ORDER_ID).0);
     order.count = count;
     order
 }
 
 // The id of a partition field, if it is given.
+#[tactic(auto, unfolding(rules::specs::Layout::laid_offered_id, crate::specs::Made::partition_id_in))]
 fn offered_id(numbers: &Numbers, i: usize) -> OfferedId
     requires { i < 8 }
     ensures { result ≡ laid_offered_id (partition_id_in numbers.now i) }
@@ -275,10 +222,9 @@ fn offered_id(numbers: &Numbers, i: usize) -> OfferedId
     if magnitude_at(numbers, GIVEN_AT + i) != 1 {
         return OfferedId::blank();
     }
-    let z = narrow_at(numbers, PARTITION_IDS_AT + i);
     OfferedId {
         given: true,
-        id: FieldId(z.0),
+        id: FieldId(narrow_at(numbers, PARTITION_IDS_AT + i).0),
     }
 }
 
@@ -287,15 +233,10 @@ pub fn spec_offer(numbers: &Numbers, judge: &Judge, place: usize) -> SpecOffer
 {
     let count = count_at(numbers, SPEC_FIELDS, PARTITION_FIELDS);
     let mut offer = SpecOffer::blank();
-    let mut i = 0;
-    while i < count {
-        let id = offered_id(numbers, i);
-        offer.ids[i] = id;
-        i += 1;
+    for i in 0..count {
+        offer.ids[i] = offered_id(numbers, i);
     }
-    let z = or_zero_narrow(numbers, judge, SPEC_ID);
-    let id = SpecId(z.0);
-    offer.spec_id = id;
+    offer.spec_id = SpecId(or_zero_narrow(numbers, judge, SPEC_ID).0);
     offer.at = place;
     offer.count = count;
     offer

@@ -32,21 +32,16 @@ pub(crate) fn put_text(texts: &mut Texts, at: usize, room: usize, kept: &Kept, l
     ensures { texts.new ≡ put_text at room kept.now len texts.old }
 {
     texts[at] = (len % 256) as u8;
-    let mut i = 0;
-    while i < room {
-        let byte = if i < len { kept[i] } else { 0 };
-        texts[at + 1 + i] = byte;
-        i += 1;
-    }
+    let held = len.min(room);
+    texts[at + 1..at + 1 + held].copy_from_slice(&kept[..held]);
+    texts[at + 1 + held..at + 1 + room].fill(0);
 }
 
 pub(crate) fn put_uuid(texts: &mut Texts, kept: &Kept)
     ensures { texts.new ≡ put_uuid kept.now texts.old }
 {
-    let mut i = 0;
-    while i < 16 {
+    for i in 0..16 {
         texts[UUID_AT + i] = byte_of(kept, i);
-        i += 1;
     }
 }
 
@@ -66,9 +61,7 @@ pub(crate) fn copy_name(texts: &mut Texts, at: usize)
     requires { (179 ≤ at) × (at ≤ 1698) }
     ensures { texts.new ≡ sets texts.old at (part field_name_at 33 texts.old) }
 {
-    let mut i = 0;
-    while i <= NAME {
+    for i in 0..NAME + 1 {
         texts[at + i] = texts[FIELD_NAME_AT + i];
-        i += 1;
     }
 }

@@ -43,134 +43,117 @@ fn made_kind(kind: u8) -> u8
     0
 }
 
+#[tactic(auto, unfolding(crate::specs::Parts::fields_part_in))]
 fn fields_part(kind: u8, numbers: &Numbers, texts: &Texts) -> FieldsPart
     ensures { result ≡ fields_part_in kind numbers.now texts.now }
 {
-    let mut part = FieldsPart::blank();
     match kind {
-        ASSIGN_UUID => {
-            let bytes = uuid(texts);
-            part.uuid = bytes;
-            part
-        }
-        UPGRADE_FORMAT_VERSION => {
-            part.format_version = byte_at(numbers, FORMAT_VERSION);
-            part
-        }
-        SET_LOCATION => {
-            let text = location(texts);
-            part.location = text;
-            part
-        }
-        _ => part,
+        ASSIGN_UUID => FieldsPart {
+            uuid: uuid(texts),
+            ..FieldsPart::blank()
+        },
+        UPGRADE_FORMAT_VERSION => FieldsPart {
+            format_version: byte_at(numbers, FORMAT_VERSION),
+            ..FieldsPart::blank()
+        },
+        SET_LOCATION => FieldsPart {
+            location: location(texts),
+            ..FieldsPart::blank()
+        },
+        _ => FieldsPart::blank(),
     }
 }
 
+#[tactic(auto, unfolding(crate::specs::Parts::snapshots_part_in))]
 fn snapshots_part(kind: u8, judge: &Judge, numbers: &Numbers) -> SnapshotsPart
     ensures { result ≡ snapshots_part_in kind judge.now numbers.now }
 {
-    let mut part = SnapshotsPart::blank();
     match kind {
-        ADD_SNAPSHOT => {
-            let added = snapshot(numbers, judge);
-            part.added = added;
-            part
-        }
-        REMOVE_SNAPSHOTS => {
-            let ids = snapshot_ids(numbers);
-            part.removed = ids;
-            part
-        }
-        _ => part,
+        ADD_SNAPSHOT => SnapshotsPart {
+            added: snapshot(numbers, judge),
+            ..SnapshotsPart::blank()
+        },
+        REMOVE_SNAPSHOTS => SnapshotsPart {
+            removed: snapshot_ids(numbers),
+            ..SnapshotsPart::blank()
+        },
+        _ => SnapshotsPart::blank(),
     }
 }
 
+#[tactic(auto, unfolding(crate::specs::Parts::refs_part_in))]
 fn refs_part(kind: u8, judge: &Judge, numbers: &Numbers, texts: &Texts) -> RefsPart
     ensures { result ≡ refs_part_in kind judge.now numbers.now texts.now }
 {
     match kind {
-        SET_REF => {
-            let name = name(texts);
-            let reference = reference(numbers, judge);
-            RefsPart { name, reference }
-        }
-        REMOVE_REF => {
-            let mut part = RefsPart::blank();
-            let name = name(texts);
-            part.name = name;
-            part
-        }
+        SET_REF => RefsPart {
+            name: name(texts),
+            reference: reference(numbers, judge),
+        },
+        REMOVE_REF => RefsPart {
+            name: name(texts),
+            ..RefsPart::blank()
+        },
         _ => RefsPart::blank(),
     }
 }
 
+#[tactic(auto, unfolding(crate::specs::Parts::schemas_part_in))]
 fn schemas_part(kind: u8, place: usize, judge: &Judge, numbers: &Numbers) -> SchemasPart
     ensures { result ≡ schemas_part_in kind place judge.now numbers.now }
 {
-    let mut part = SchemasPart::blank();
     match kind {
-        ADD_SCHEMA => {
-            let offer = schema_offer(numbers, judge, place);
-            part.added = offer;
-            part
-        }
-        SET_CURRENT_SCHEMA => {
-            let z = narrow_at(numbers, CHOSEN_SCHEMA_ID);
-            let id = SchemaId(z.0);
-            part.chosen = id;
-            part
-        }
-        REMOVE_SCHEMAS => {
-            let ids = schema_ids(numbers);
-            part.removed = ids;
-            part
-        }
-        _ => part,
+        ADD_SCHEMA => SchemasPart {
+            added: schema_offer(numbers, judge, place),
+            ..SchemasPart::blank()
+        },
+        SET_CURRENT_SCHEMA => SchemasPart {
+            chosen: SchemaId(narrow_at(numbers, CHOSEN_SCHEMA_ID).0),
+            ..SchemasPart::blank()
+        },
+        REMOVE_SCHEMAS => SchemasPart {
+            removed: schema_ids(numbers),
+            ..SchemasPart::blank()
+        },
+        _ => SchemasPart::blank(),
     }
 }
 
+#[tactic(auto, unfolding(crate::specs::Parts::sort_orders_part_in))]
 fn sort_orders_part(kind: u8, numbers: &Numbers) -> SortOrdersPart
     ensures { result ≡ sort_orders_part_in kind numbers.now }
 {
-    let mut part = SortOrdersPart::blank();
     match kind {
-        ADD_SORT_ORDER => {
-            let order = sort_order(numbers);
-            part.added = order;
-            part
-        }
-        SET_DEFAULT_SORT_ORDER => {
-            let z = number_at(numbers, CHOSEN_ORDER_ID);
-            let id = SortOrderId(z.0);
-            part.chosen = id;
-            part
-        }
-        _ => part,
+        ADD_SORT_ORDER => SortOrdersPart {
+            added: sort_order(numbers),
+            ..SortOrdersPart::blank()
+        },
+        SET_DEFAULT_SORT_ORDER => SortOrdersPart {
+            chosen: SortOrderId(number_at(numbers, CHOSEN_ORDER_ID).0),
+            ..SortOrdersPart::blank()
+        },
+        _ => SortOrdersPart::blank(),
     }
 }
 
+#[tactic(auto, unfolding(crate::specs::Parts::specs_part_in))]
 fn specs_part(kind: u8, place: usize, judge: &Judge, numbers: &Numbers) -> PartitionSpecsPart
     ensures { result ≡ specs_part_in kind place judge.now numbers.now }
 {
-    let mut part = PartitionSpecsPart::blank();
     match kind {
-        ADD_PARTITION_SPEC => {
-            let offer = spec_offer(numbers, judge, place);
-            part.added = offer;
-            part
-        }
-        SET_DEFAULT_PARTITION_SPEC => {
-            let z = narrow_at(numbers, CHOSEN_SPEC_ID);
-            let id = SpecId(z.0);
-            part.chosen = id;
-            part
-        }
-        REMOVE_PARTITION_SPECS => {
-            let ids = spec_ids(numbers);
-            part.removed = ids;
-            part
-        }
-        _ => part,
+        ADD_PARTITION_SPEC => PartitionSpecsPart {
+            added: spec_offer(numbers, judge, place),
+            ..PartitionSpecsPart::blank()
+        },
+        SET_DEFAULT_PARTITION_SPEC => PartitionSpecsPart {
+            chosen: SpecId(narrow_at(numbers, CHOSEN_SPEC_ID).0),
+            ..PartitionSpecsPart::blank()
+        },
+        REMOVE_PARTITION_SPECS => PartitionSpecsPart {
+            removed: spec_ids(numbers),
+            ..PartitionSpecsPart::blank()
+        },
+        _ => PartitionSpecsPart::blank(),
     }
 }
 

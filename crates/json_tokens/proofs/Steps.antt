@@ -12,7 +12,6 @@ use lib.Dec.{eqb}
 use lib.ListN.{length, get_or, take, drop, length-drop, drop_of_length-le}
 use lib.Seq.{slice, take-nil, drop-cons, drop-drop, length-take-le}
 use Rattle.rules.specs.Words.{all}
-use Rattle.json_rule.specs.Lexemes.{is_space}
 use Rattle.json_machine.specs.Modes.{text_mode, after_f4_mode, whole, broken, ended, after_mode, may_end}
 use Rattle.json_machine.specs.declared.Text.{Text}
 use Rattle.json_machine.specs.Digest.{Held, held, keeping, settled_held, held_after, held_over, is_plain, plain_run}
@@ -20,48 +19,36 @@ use Rattle.json_machine.proofs.Bounds.{both, either_left}
 use Rattle.json_machine.proofs.Modes.{is_mode, kind_of, text_kind, is_next, mode_step}
 use Rattle.json_machine.proofs.Plain.{plain_mode, plain_over, plain_run_all, plain_run_within}
 use Rattle.json_tokens.specs.declared.token.Token.{Token}
-use Rattle.json_tokens.specs.Outcomes.{space_run, whole_state, broken_state, at_end, Outcome, outcome_of, outcome, answer, text_token, text_answer}
-
--- ---- spaces
-
-module _ (bs : List ℕ) (i : ℕ) where
-  pub run_stops : i < length bs → is_space (get_or bs i 0) ≡ false → space_run (drop i bs) ≡ 0
-  run_stops h e = rw (drop-cons bs i 0 h, e)
-
-  pub run_goes : i < length bs → is_space (get_or bs i 0) ≡ true → space_run (drop i bs) ≡ suc (space_run (drop (i + 1) bs))
-  run_goes h e = rw (drop-cons bs i 0 h, e, add-one)
-
-  pub run_ends : length bs ≤ i → space_run (drop i bs) ≡ 0
-  run_ends h = rw (drop_of_length-le bs h)
+use Rattle.json_tokens.specs.Outcomes.{whole_state, broken_state, at_end, Outcome, outcome_of, outcome, answer, text_token, text_answer}
 
 -- ---- a byte of a lexeme
 
-module _ {X : Type 0} (adds : ℕ → ℕ → X → X) (bs : List ℕ) (i m : ℕ) (x : X) where
-  -- what is left to read
+module _ {X : Type 0} (adds : ℕ → ℕ → X → X) (bs : List ℕ) (place i m : ℕ) (x : X) where
+  -- what is left to read, where the byte at `i` stands at a place
   abbrev pub ahead : Outcome X
-  ahead = outcome adds i m x (drop i bs)
+  ahead = outcome adds place m x (drop i bs)
 
-  pub at_last : length bs ≤ i → ahead ≡ outcome_of (at_end m) i m x
+  pub at_last : length bs ≤ i → ahead ≡ outcome_of (at_end m) place m x
   unfolding outcome
   at_last h = rw (drop_of_length-le bs h)
 
   module _ (h : i < length bs) (next : ℕ) (n : next ≡ after_mode m (get_or bs i 0)) where
-    pub step_broken : next ≡ broken → ahead ≡ outcome_of broken_state i m x
+    pub step_broken : next ≡ broken → ahead ≡ outcome_of broken_state place m x
     unfolding outcome
     step_broken e = rw (drop-cons bs i 0 h, sym n ∙ e)
 
-    pub step_ended : next ≡ ended → ahead ≡ outcome_of whole_state i m x
+    pub step_ended : next ≡ ended → ahead ≡ outcome_of whole_state place m x
     unfolding outcome
     step_ended e = rw (drop-cons bs i 0 h, sym n ∙ e)
 
     module _ (y : X) (a : y ≡ adds m (get_or bs i 0) x) where
-      pub step_whole : next ≡ whole → ahead ≡ outcome_of whole_state (i + 1) next y
+      pub step_whole : next ≡ whole → ahead ≡ outcome_of whole_state (place + 1) next y
       unfolding outcome
       step_whole e = rw (drop-cons bs i 0 h, ← n, e, a, add-one)
 
-      pub step_on : (next ≡ whole → ⊥) → (next ≡ broken → ⊥) → (next ≡ ended → ⊥) → ahead ≡ outcome adds (i + 1) next y (drop (i + 1) bs)
+      pub step_on : (next ≡ whole → ⊥) → (next ≡ broken → ⊥) → (next ≡ ended → ⊥) → ahead ≡ outcome adds (place + 1) next y (drop (i + 1) bs)
       unfolding outcome
-      step_on nw nb ne = rw (drop-cons bs i 0 h, ← n, ne_eqb next whole nw, ne_eqb next broken nb, ne_eqb next ended ne, a, add-one)
+      step_on nw nb ne = rw (drop-cons bs i 0 h, ← n, ne_eqb next whole nw, ne_eqb next broken nb, ne_eqb next ended ne, a, add-one place, add-one i)
 
 -- ---- a text
 
@@ -148,17 +135,17 @@ module _ (o : Outcome Held) (first : ℕ) (bs : List ℕ) (i m : ℕ) (t : Text)
   answered r state place k y after e a = ap (λ (x : Token). answer x after) a ∙ ap (text_answer first) (sym (inv.0 ∙ e))
 
   pub text_last : (r : Token) → length bs ≤ i → r ≡ text_token broken_state first i t.len → answer r slots ≡ text_answer first o
-  text_last r h a = answered r broken_state i m t slots (at_last held_after bs i m (held t slots) h ∙ rw (text_goes_on m inv.1)) a
+  text_last r h a = answered r broken_state i m t slots (at_last held_after bs i i m (held t slots) h ∙ rw (text_goes_on m inv.1)) a
 
   module _ (h : i < length bs) (next : ℕ) (n : next ≡ after_mode m (get_or bs i 0)) where
     pub text_broken : (r : Token) → next ≡ broken → r ≡ text_token broken_state first i t.len → answer r slots ≡ text_answer first o
-    text_broken r e a = answered r broken_state i m t slots (step_broken held_after bs i m (held t slots) h next n e) a
+    text_broken r e a = answered r broken_state i m t slots (step_broken held_after bs i i m (held t slots) h next n e) a
 
     module _ (y : Text) (after : List ℕ) (k : held y after ≡ held_after m (get_or bs i 0) (held t slots)) where
       pub text_whole : (r : Token) → next ≡ whole → r ≡ text_token whole_state first (i + 1) y.len → answer r after ≡ text_answer first o
-      text_whole r e a = answered r whole_state (i + 1) next y after (step_whole held_after bs i m (held t slots) h next n (held y after) k e) a
+      text_whole r e a = answered r whole_state (i + 1) next y after (step_whole held_after bs i i m (held t slots) h next n (held y after) k e) a
 
       pub text_on : (next ≡ whole → ⊥) → (next ≡ broken → ⊥) → (o ≡ outcome held_after (i + 1) next (held y after) (drop (i + 1) bs)) × InText next
       text_on nw nb =
           let x = inv.1 in
-          (inv.0 ∙ step_on held_after bs i m (held t slots) h next n (held y after) k nw nb (text_not_ended m x (get_or bs i 0) next n), text_next m x (get_or bs i 0) next n nw nb)
+          (inv.0 ∙ step_on held_after bs i i m (held t slots) h next n (held y after) k nw nb (text_not_ended m x (get_or bs i 0) next n), text_next m x (get_or bs i 0) next n nw nb)

@@ -4,6 +4,7 @@ ghost use Rattle.json_machine.specs.Modes.{is_integer};
 ghost use Rattle.json_machine.specs.Digest.{number_after};
 ghost use Rattle.json_tokens.specs.Outcomes.{at_end, outcome_of, bare_token, bare_from};
 
+use crate::space::bytes_from;
 use crate::token::{BROKEN, Token, WHOLE};
 use json_lex::mode::{after, is_before_point, is_integer, may_end};
 use json_lex::number::Number;
@@ -23,16 +24,12 @@ fn number_after(mode: u32, byte: u8, n: Number) -> Number
 fn is_whole_number(mode: u32, n: Number) -> bool
     ensures { result ≡ is_integer mode && eqb n.over 0 }
 {
-    if is_integer(mode) {
-        return n.over == 0;
-    }
-    false
+    is_integer(mode) && n.over == 0
 }
 
 fn bare_token(state: usize, head: u8, first: usize, at: usize, mode: u32, n: Number) -> Token
     ensures { result ≡ bare_token head first (outcome_of state at mode n) }
 {
-    let integer = is_whole_number(mode, n);
     Token {
         state,
         head,
@@ -40,7 +37,7 @@ fn bare_token(state: usize, head: u8, first: usize, at: usize, mode: u32, n: Num
         after: at,
         stop: at,
         len: 0,
-        integer,
+        integer: is_whole_number(mode, n),
         magnitude: n.magnitude,
     }
 }
@@ -61,22 +58,20 @@ pub fn read_bare(bytes: &[u8], head: u8, first: usize, from: usize, begun: u32) 
 {
     let mut mode = begun;
     let mut number = number::with_byte(number::blank(), head);
-    let mut i = from;
-    while i < bytes.len() {
-        let byte = bytes[i];
-        let next = after(mode, byte);
+    let rest = bytes_from(bytes, from);
+    for (i, byte) in rest.iter().enumerate() {
+        let next = after(mode, *byte);
         if next == mode::BROKEN {
-            return bare_token(BROKEN, head, first, i, mode, number);
+            return bare_token(BROKEN, head, first, from + i, mode, number);
         }
         if next == mode::ENDED {
-            return bare_token(WHOLE, head, first, i, mode, number);
+            return bare_token(WHOLE, head, first, from + i, mode, number);
         }
-        number = number_after(mode, byte, number);
+        number = number_after(mode, *byte, number);
         mode = next;
-        i += 1;
         if next == mode::WHOLE {
-            return bare_token(WHOLE, head, first, i, mode, number);
+            return bare_token(WHOLE, head, first, from + i + 1, mode, number);
         }
     }
-    bare_token(at_end(mode), head, first, i, mode, number)
+    bare_token(at_end(mode), head, first, from + rest.len(), mode, number)
 }

@@ -30,9 +30,11 @@ fn with_plain(text: Text, kept: &mut Kept, bytes: &[u8], from: usize, end: usize
     requires { end ≤ length bytes.now }
     ensures { held result kept.new ≡ keeping (slice from end bytes.now) (settled_held (held text kept.old)) }
 {
-    let mut t = settled(text);
-    t.len = keep_all(kept, t.len, bytes, from, end);
-    t
+    let before = settled(text);
+    Text {
+        len: keep_all(kept, before.len, bytes, from, end),
+        ..before
+    }
 }
 
 // The text that begins at `first`; its bytes from a place on.
@@ -42,6 +44,7 @@ pub fn read_text(bytes: &[u8], first: usize, from: usize, kept: &mut Kept) -> To
     let mut mode = TEXT;
     let mut text = text::blank();
     let mut i = from;
+    // Kept: the place goes by runs of plain bytes as well as by single bytes, so an iterator over the bytes would say less than the place does.
     while i < bytes.len() {
         if mode == TEXT {
             let end = plain_end(bytes, i);

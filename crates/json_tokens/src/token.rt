@@ -10,6 +10,7 @@ use json_lex::mode;
 use json_lex::mode::begun;
 use json_lex::text::Kept;
 
+// Kept: the three are numbers, as `TokenAt` of Tokens (specs/), which `next` ensures, says them of a token.
 // No lexeme comes any more.
 pub const END: usize = 0;
 

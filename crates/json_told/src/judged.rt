@@ -1,9 +1,7 @@
 // A text, gone through as a reader does: each lexeme is given to the judge, and where that refuses, the refusal is noted and taken back, so that the next
 // one is seen too.
-use crate::found::{Defect, FIELD_NAMED, Found, note};
-use crate::reason::{
-    BROKEN, ENDED, NO_DETAIL, OF_ANOTHER_ACTION, Why, is_of_field, seen_before, why_refused,
-};
+use crate::found::{Defect, Found};
+use crate::reason::{Before, Reason};
 use json_lex::lexer::{Lexer, between, head_of, in_mode, is_whole_number, with_next};
 use json_lex::mode;
 use json_lex::mode::{BETWEEN, STOPPED, after, begun, is_mode, may_end};
@@ -16,155 +14,152 @@ use json_members::state::{
     FIELD, Judge, NUMBER, PLACE, is_seen, kind_of, named_at, start as judging,
 };
 
-// Where the name of the open field stands; 0 as long as none was read.
-fn field_named_at(judge: &Judge, found: &Found) -> usize {
-    let at = found[FIELD_NAMED];
-    if at > judge[FIELD] { at } else { 0 }
+// How far a text was gone through: the open lexeme and its text, the judge, where the name of a field was read last, and what was found.
+#[derive(Drop)]
+struct Course {
+    lexer: Lexer,
+    kept: Kept,
+    judge: Judge,
+    field_named: Option<usize>,
+    found: Found<Reason>,
 }
 
-// A refusal by the judge is noted and taken back. A field is shown by the lexeme at fault, anything else by its own place.
-fn take_back(judge: &mut Judge, found: &mut Found, why: Why, first: usize) {
-    let number = judge[NUMBER];
-    let place = judge[PLACE];
-    let mut defect = Defect {
-        number,
-        place,
-        at: place,
-        reason: why.reason,
-        detail: why.detail,
-    };
-    if is_of_field(why.reason) {
-        defect.at = first;
-        defect.detail = field_named_at(judge, found);
+impl Course {
+    fn start() -> Course {
+        Course {
+            lexer: between(),
+            kept: [0; KEPT],
+            judge: judging(),
+            field_named: None,
+            found: Found::nothing(),
+        }
     }
-    if number != 0 {
-        judge[NUMBER] = 0;
-        note(found, defect);
-    }
-}
 
-// Names that stood before the action and stand in no row of it: the judge keeps the first of them.
-fn note_foreign(judge: &Judge, found: &mut Found) {
-    let row = row_of(kind_of(judge));
-    let mut spot = ACTION;
-    while spot <= SPEC_IDS {
-        if is_foreign(row, spot) && is_seen(judge, spot) {
-            let place = named_at(judge, spot);
-            note(
-                found,
-                Defect {
+    // Where the name of the open field stands, if it was read.
+    fn field(&self) -> Option<usize> {
+        match self.field_named {
+            Some(at) if at > self.judge[FIELD] => Some(at),
+            _ => None,
+        }
+    }
+
+    // A refusal by the judge is noted and taken back. A field is shown by the lexeme at fault, anything else by its own place.
+    fn take_back(&mut self, reason: Reason, first: usize) {
+        let number = self.judge[NUMBER];
+        let place = self.judge[PLACE];
+        let at = match reason {
+            Reason::OfField(_, _) => first,
+            _ => place,
+        };
+        if number != 0 {
+            self.judge[NUMBER] = 0;
+            self.found.note(Defect {
+                number,
+                place,
+                at,
+                reason,
+            });
+        }
+    }
+
+    // Names that stood before the action and stand in no row of it: the judge keeps the first of them.
+    fn note_foreign(&mut self) {
+        let row = row_of(kind_of(&self.judge));
+        for spot in ACTION..=SPEC_IDS {
+            if is_foreign(row, spot) && is_seen(&self.judge, spot) {
+                let place = named_at(&self.judge, spot);
+                self.found.note(Defect {
                     number: NOT_PUBLISHED,
                     place,
                     at: place,
-                    reason: OF_ANOTHER_ACTION,
-                    detail: NO_DETAIL,
-                },
-            );
+                    reason: Reason::OfAnotherAction,
+                });
+            }
         }
-        spot += 1;
     }
-}
 
-// A lexeme that is whole.
-fn whole(l: Lexer, kept: &Kept, judge: &mut Judge, found: &mut Found) -> Lexer {
-    let head = head_of(l);
-    let first = l.first;
-    let len = l.text.len;
-    let b = seen_before(judge, kept, head, len);
-    let done = take(
-        judge,
-        kept,
-        head,
-        first,
-        len,
-        is_whole_number(l),
-        l.number.magnitude,
-    );
-    if done == FIELD_NAME {
-        found[FIELD_NAMED] = first;
+    // The open lexeme is whole.
+    fn end_lexeme(&mut self) {
+        let l = self.lexer;
+        let head = head_of(l);
+        let first = l.first;
+        let len = l.text.len;
+        let before = Before::of(&self.judge, &self.kept, head, len);
+        let done = take(
+            &mut self.judge,
+            &self.kept,
+            head,
+            first,
+            len,
+            is_whole_number(l),
+            l.number.magnitude,
+        );
+        if done == FIELD_NAME {
+            self.field_named = Some(first);
+        }
+        let number = self.judge[NUMBER];
+        let is_here = self.judge[PLACE] == first;
+        let reason = before.why_refused(head, number, is_here, self.field());
+        if reason == Reason::OfAnotherAction && number != 0 {
+            self.note_foreign();
+        }
+        self.take_back(reason, first);
+        self.lexer = in_mode(l, BETWEEN);
     }
-    let why = why_refused(b, head, judge[NUMBER], judge[PLACE] == first);
-    if why.reason == OF_ANOTHER_ACTION && judge[NUMBER] != 0 {
-        note_foreign(judge, found);
-    }
-    take_back(judge, found, why, first);
-    in_mode(l, BETWEEN)
-}
 
-// A lexeme that a byte broke, or the end of the text.
-fn broken(l: Lexer, place: usize, judge: &mut Judge, found: &mut Found, reason: usize) -> Lexer {
-    let why = Why {
-        reason,
-        detail: NO_DETAIL,
-    };
-    take_broken(judge, head_of(l), l.first, place);
-    take_back(judge, found, why, place);
-    in_mode(l, STOPPED)
-}
+    // A byte, or the end of the text, broke the open lexeme.
+    fn break_lexeme(&mut self, place: usize, reason: Reason) {
+        let l = self.lexer;
+        take_broken(&mut self.judge, head_of(l), l.first, place);
+        self.take_back(reason, place);
+        self.lexer = in_mode(l, STOPPED);
+    }
 
-// What a byte does, by the mode after it.
-fn go_on(
-    l: Lexer,
-    next: u32,
-    byte: u8,
-    place: usize,
-    kept: &mut Kept,
-    judge: &mut Judge,
-    found: &mut Found,
-) -> Lexer {
-    if next == mode::BROKEN {
-        return broken(l, place, judge, found, BROKEN);
+    // What a byte does, by the mode after it.
+    fn go_on(&mut self, next: u32, byte: u8, place: usize) {
+        if next == mode::BROKEN {
+            self.break_lexeme(place, Reason::Broken);
+            return;
+        }
+        self.lexer = with_next(self.lexer, &mut self.kept, byte, place);
+        if is_mode(next) {
+            self.lexer = in_mode(self.lexer, next);
+        } else {
+            self.end_lexeme();
+        }
     }
-    let with_byte = with_next(l, kept, byte, place);
-    if is_mode(next) {
-        return in_mode(with_byte, next);
-    }
-    whole(with_byte, kept, judge, found)
-}
 
-// One more byte. It may show that a number ended before it, and then begins what follows.
-fn step(
-    l: Lexer,
-    byte: u8,
-    place: usize,
-    kept: &mut Kept,
-    judge: &mut Judge,
-    found: &mut Found,
-) -> Lexer {
-    let next = after(l.mode, byte);
-    if next == mode::ENDED {
-        let between = whole(l, kept, judge, found);
-        return go_on(between, begun(byte), byte, place, kept, judge, found);
+    // One more byte. It may show that a number ended before it, and then begins what follows.
+    fn step(&mut self, byte: u8, place: usize) {
+        let next = after(self.lexer.mode, byte);
+        if next == mode::ENDED {
+            self.end_lexeme();
+            self.go_on(begun(byte), byte, place);
+        } else {
+            self.go_on(next, byte, place);
+        }
     }
-    go_on(l, next, byte, place, kept, judge, found)
-}
 
-// The end of the text: a number may end there.
-fn finish(l: Lexer, len: usize, kept: &Kept, judge: &mut Judge, found: &mut Found) {
-    let why = Why {
-        reason: ENDED,
-        detail: NO_DETAIL,
-    };
-    if may_end(l.mode) {
-        whole(l, kept, judge, found);
-    } else if l.mode != BETWEEN {
-        broken(l, len, judge, found, ENDED);
+    // The end of the text: a number may end there.
+    fn finish(&mut self, len: usize) {
+        if may_end(self.lexer.mode) {
+            self.end_lexeme();
+        } else if self.lexer.mode != BETWEEN {
+            self.break_lexeme(len, Reason::Ended);
+        }
+        take_end(&mut self.judge, len);
+        self.take_back(Reason::Ended, len);
     }
-    take_end(judge, len);
-    take_back(judge, found, why, len);
 }
 
 // The defects of a text. Of one that goes on behind what is held, those that show up to there.
-pub fn find(text: &[u8], is_whole: bool, found: &mut Found) {
-    let mut kept = [0; KEPT];
-    let mut judge = judging();
-    let mut l = between();
-    let mut at = 0;
-    while at < text.len() {
-        l = step(l, text[at], at, &mut kept, &mut judge, found);
-        at += 1;
+pub fn find(text: &[u8], is_whole: bool) -> Found<Reason> {
+    let mut course = Course::start();
+    for (at, &byte) in text.iter().enumerate() {
+        course.step(byte, at);
     }
     if is_whole {
-        finish(l, at, &kept, &mut judge, found);
+        course.finish(text.len());
     }
+    course.found
 }

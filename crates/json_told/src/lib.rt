@@ -3,8 +3,10 @@
 // Nothing is refused here, and nothing is judged: the defects are those that the judge of the crate `json_members` notes, lexeme by lexeme.
 #![tactic(auto)]
 
+pub mod field;
 pub mod found;
 mod judged;
 pub mod path;
 mod reason;
 pub mod told;
+mod words;

@@ -1,156 +1,135 @@
-// Why a lexeme is refused, by what the judge wanted before it. A reason is a line of `told`; the detail is a part of the table there, which has four for
-// each spot: the value that is published there, the members that an object must have, the capacity, and the members that an update must have of which this is
-// the last.
+// Why a lexeme is refused, by what the judge wanted before it.
+use crate::field::Member;
 use json_lex::text::Kept;
 use json_members::name::member_of;
 use json_members::nest::{FIRST_NAME, NAME, closes};
 use json_members::refusal::{NOT_JSON, OVER_CAPACITY};
 use json_members::row::row_of;
-use json_members::spot::{ACTION, ANYTHING, FIELD_REQUIRED, FIELD_TYPE, SPOTS, UPDATE};
+use json_members::spot::{ACTION, ANYTHING, FIELD_REQUIRED, FIELD_TYPE, UPDATE};
 use json_members::state::{EXPECT, Judge, KINDS, WANTED, WITHIN, is_seen, kind_of};
 
-pub const BROKEN: usize = 0;
-
-pub const ENDED: usize = 1;
-
-const UNLISTED: usize = 2;
-
-const UNKNOWN: usize = 3;
-
-const REPEATED: usize = 4;
-
-pub const OF_ANOTHER_ACTION: usize = 5;
-
-const MISSING: usize = 6;
-
-const OTHERWISE: usize = 7;
-
-// Of a schema, for a field.
-pub const REQUIRED: usize = 8;
-
-pub const TYPE: usize = 9;
-
-const OVER: usize = 10;
-
-const DEEP: usize = 11;
-
-// Not seen in the part of the text that is held; three lines, for 27, 28 and 29.
-pub const UNSEEN: usize = 12;
-
-pub const NO_DETAIL: usize = 0;
-
-// The parts of a spot.
-const VALUE: usize = 0;
-
-const MEMBERS: usize = 1;
-
-const CAPACITY: usize = 2;
-
-const OF_UPDATE: usize = 3;
-
-#[derive(Clone, Copy)]
-pub struct Why {
-    pub reason: usize,
-    pub detail: usize,
+#[derive(Clone, Copy, PartialEq, Eq, Debug)]
+pub enum Reason {
+    Broken,
+    Ended,
+    Unlisted,
+    Unknown,
+    Repeated,
+    OfAnotherAction,
+    // The object that lacks a member, by its spot.
+    Missing(usize),
+    // The last member that an update must have.
+    MissingOfUpdate(usize),
+    // The spot of a value that is not what is published there.
+    Otherwise(usize),
+    // Of a schema, for a member of one of its fields, and where the name of that stands, if it was read.
+    OfField(Member, Option<usize>),
+    // The spot that has a capacity.
+    Over(usize),
+    Deep,
+    // Not seen in the part of the text that is held: the number.
+    Unseen(usize),
 }
 
-fn alone(reason: usize) -> Why {
-    Why {
-        reason,
-        detail: NO_DETAIL,
-    }
-}
-
-fn with_part(reason: usize, spot: usize, part: usize) -> Why {
-    Why {
-        reason,
-        detail: spot % SPOTS * 4 + part % 4,
-    }
+// What a lexeme would be; a name, why it is refused if it is.
+#[derive(Clone, Copy, PartialEq, Eq, Debug)]
+enum Lexeme {
+    End,
+    Name(Reason),
+    Value,
 }
 
 // What is seen before the judge takes a lexeme: which value is wanted, in which list or object, the last member that the open update must have, and what the
 // lexeme would be there.
-#[derive(Clone, Copy)]
+#[derive(Clone, Copy, PartialEq, Eq, Debug)]
 pub struct Before {
-    pub wanted: usize,
-    pub within: usize,
-    pub must: usize,
-    pub is_end: bool,
-    pub is_name: bool,
-    pub named: usize,
+    wanted: usize,
+    within: usize,
+    must: usize,
+    lexeme: Lexeme,
 }
 
 // Why a name is refused, if it is.
-fn why_named(judge: &Judge, kept: &Kept, len: usize) -> usize {
+fn why_named(judge: &Judge, kept: &Kept, len: usize) -> Reason {
     let spot = member_of(judge[WITHIN], kept, len);
     if spot == ANYTHING {
-        return UNKNOWN;
+        return Reason::Unknown;
     }
     if is_seen(judge, spot) {
-        return REPEATED;
+        return Reason::Repeated;
     }
-    OF_ANOTHER_ACTION
+    Reason::OfAnotherAction
 }
 
-pub fn seen_before(judge: &Judge, kept: &Kept, head: u8, len: usize) -> Before {
+fn lexeme_of(judge: &Judge, kept: &Kept, head: u8, len: usize) -> Lexeme {
     let expect = judge[EXPECT];
-    let row = row_of(kind_of(judge));
-    Before {
-        wanted: judge[WANTED],
-        within: judge[WITHIN],
-        must: row.must,
-        is_end: closes(expect, judge[KINDS], head),
-        is_name: expect == NAME || expect == FIRST_NAME,
-        named: why_named(judge, kept, len),
+    if closes(expect, judge[KINDS], head) {
+        return Lexeme::End;
+    }
+    match expect {
+        NAME | FIRST_NAME => Lexeme::Name(why_named(judge, kept, len)),
+        _ => Lexeme::Value,
     }
 }
 
-// Over a capacity: a list at its bracket, a text where it stands; or a bracket too many.
-fn why_over(b: Before, head: u8, is_here: bool) -> Why {
-    if !is_here {
-        return with_part(OVER, b.within, CAPACITY);
+impl Before {
+    pub fn of(judge: &Judge, kept: &Kept, head: u8, len: usize) -> Before {
+        Before {
+            wanted: judge[WANTED],
+            within: judge[WITHIN],
+            must: row_of(kind_of(judge)).must,
+            lexeme: lexeme_of(judge, kept, head, len),
+        }
     }
-    if head == b'"' {
-        return with_part(OVER, b.wanted, CAPACITY);
+
+    // Over a capacity: a list at its bracket, a text where it stands; or a bracket too many.
+    fn why_over(self, head: u8, is_here: bool) -> Reason {
+        if !is_here {
+            return Reason::Over(self.within);
+        }
+        if head == b'"' {
+            return Reason::Over(self.wanted);
+        }
+        Reason::Deep
     }
-    alone(DEEP)
-}
 
-// A value that is not as it is published. An action may refuse a name that stands before it.
-fn why_value(b: Before, is_here: bool) -> Why {
-    let wanted = b.wanted;
-    let by_action = if is_here { UNLISTED } else { OF_ANOTHER_ACTION };
-    match wanted {
-        FIELD_REQUIRED => alone(REQUIRED),
-        FIELD_TYPE => alone(TYPE),
-        ACTION => alone(by_action),
-        _ => with_part(OTHERWISE, wanted, VALUE),
+    // A value that is not as it is published. An action may refuse a name that stands before it.
+    fn why_value(self, is_here: bool, field: Option<usize>) -> Reason {
+        match self.wanted {
+            FIELD_REQUIRED => Reason::OfField(Member::Required, field),
+            FIELD_TYPE => Reason::OfField(Member::Type, field),
+            ACTION => if is_here {
+                Reason::Unlisted
+            } else {
+                Reason::OfAnotherAction
+            },
+            _ => Reason::Otherwise(self.wanted),
+        }
     }
-}
 
-fn why_missing(b: Before) -> Why {
-    if b.within == UPDATE {
-        return with_part(MISSING, b.must, OF_UPDATE);
+    fn why_missing(self) -> Reason {
+        if self.within == UPDATE {
+            return Reason::MissingOfUpdate(self.must);
+        }
+        Reason::Missing(self.within)
     }
-    with_part(MISSING, b.within, MEMBERS)
-}
 
-// Whether it is a field for which its schema is refused.
-pub fn is_of_field(reason: usize) -> bool {
-    reason == REQUIRED || reason == TYPE
-}
-
-// Why a lexeme is refused with this number: at its own place, or at one before it.
-pub fn why_refused(b: Before, head: u8, number: usize, is_here: bool) -> Why {
-    if number == NOT_JSON {
-        alone(BROKEN)
-    } else if number == OVER_CAPACITY {
-        why_over(b, head, is_here)
-    } else if b.is_end {
-        why_missing(b)
-    } else if b.is_name {
-        alone(b.named)
-    } else {
-        why_value(b, is_here)
+    // Why a lexeme is refused with this number: at its own place, or at one before it. The name of the open field stands at a place, if it was read.
+    pub fn why_refused(
+        self,
+        head: u8,
+        number: usize,
+        is_here: bool,
+        field: Option<usize>,
+    ) -> Reason {
+        match number {
+            NOT_JSON => Reason::Broken,
+            OVER_CAPACITY => self.why_over(head, is_here),
+            _ => match self.lexeme {
+                Lexeme::End => self.why_missing(),
+                Lexeme::Name(why) => why,
+                Lexeme::Value => self.why_value(is_here, field),
+            },
+        }
     }
 }

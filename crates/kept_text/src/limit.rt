@@ -6,23 +6,19 @@ ghost use Rattle.kept_text.specs.LimitText.{is_spare, is_zero, keep_byte};
 fn is_zero(text: &[u8]) -> bool
     ensures { result ≡ is_zero text.now }
 {
-    if text.len() == 1 {
-        return text[0] == b'0';
+    match text {
+        [digit] => *digit == b'0',
+        [sign, digit] => *sign == b'+' && *digit == b'0',
+        _ => false,
     }
-    if text.len() == 2 {
-        return text[0] == b'+' && text[1] == b'0';
-    }
-    false
 }
 
 // A zero after a first zero changes no number.
+#[tactic(auto, unfolding(crate::specs::LimitText::is_spare))]
 fn is_spare(text: &[u8], byte: u8) -> bool
     ensures { result ≡ is_spare text.now byte }
 {
-    if byte == b'0' {
-        return is_zero(text);
-    }
-    false
+    byte == b'0' && is_zero(text)
 }
 
 // How many bytes are kept, with one more. Where all slots are used, and there are 23 or more, the text has a byte that is no digit, or

@@ -1,5 +1,5 @@
 -- What can be carried, then what fits.
-use Prim.Native.Nat.{ℕ, ◌^◌, ◌≤◌, ◌<◌}
+use Prim.Native.Nat.{ℕ, ◌≤◌, ◌<◌}
 use native.Mathlib.Omega.{arith}
 use mathlib.Core.Path.{◌≡◌, refl, sym, ap, ◌∙◌}
 use mathlib.Core.Bool.{Bool, true, false, cond, ◌&&◌}
@@ -16,29 +16,14 @@ use Rattle.rules.specs.Layout.{counted}
 use Rattle.rules.specs.Kinds.{read_update, read_updates}
 use Rattle.rules.proofs.Slots.Relaid.{length_counted}
 use Rattle.file_rule.specs.Export.{not_shown, short_buffer}
-use Rattle.file_text.specs.Puts.{Puts, past}
 use Rattle.file_writer.specs.declared.Exported.{Exported}
 use Rattle.file_writer.specs.Answer.{fits}
-use Rattle.file_writer.proofs.Written.{too_long, short_enough, put_whole}
 use Rattle.log_rule.specs.LogText.{log_text, is_carried_update, is_carried, log_number, log_written}
 use Rattle.log_writer.specs.Answer.{put_answer, put_bytes, log_answer, log_bytes}
 
 module _ (t : UpdateList) (offers buffer : List ℕ) where
   abbrev text : List ℕ
   text = log_text (read_updates t) offers
-
-  module _ {r : ℕ} (e : r ≡ past 0 (length text)) where
-    pub short : length buffer < r → (record { number = short_buffer; length = 0 } ≡ put_answer t offers buffer) × (buffer ≡ put_bytes t offers buffer)
-    unfolding put_answer put_bytes
-    short h = rw (too_long text buffer e h) (refl, refl)
-
-    pub written : {n : ℕ} {after : List ℕ} → Puts buffer 0 text n after → r ≤ length buffer → length buffer < 2 ^ 63
-        → (record { number = accepted; length = n } ≡ put_answer t offers buffer) × (after ≡ put_bytes t offers buffer)
-    unfolding put_answer put_bytes
-    written x h k =
-        let s : length text ≤ length buffer = short_enough text buffer e h k in
-        let w = put_whole text x s k in
-        rw (le-leb (length text) (length buffer) s) (ap (λ (i : ℕ). record { number = accepted; length = i }) w.0, w.1)
 
   pub not_carried : is_carried (read_updates t) offers ≡ false → (record { number = not_shown; length = 0 } ≡ log_answer t offers buffer) × (buffer ≡ log_bytes t offers buffer)
   unfolding log_number log_written log_answer log_bytes

@@ -7,7 +7,7 @@ ghost use Rattle.rules.specs.Kinds.{read_kind, read_update, read_updates};
 ghost use Rattle.log_rule.specs.LogText.{sent_in, sent_texts, is_carried_update, is_carried};
 
 use file_shown::character::{name_is_utf8, text_is_utf8};
-use file_shown::table::{schema_named, spec_named};
+use file_shown::table::{all_items, schema_named, spec_named};
 use formed::update::is_formed;
 use records::capacities::UPDATES;
 use records::partition::SpecOffer;
@@ -37,8 +37,7 @@ fn spec_carried(o: SpecOffer, offers: &[u8]) -> bool
 fn kind_carried(u: TableUpdate, offers: &[u8]) -> bool
     ensures { result ≡ some_with sent_texts (sent_in offers.now (read_kind u)) }
 {
-    let k = u.kind;
-    match k {
+    match u.kind {
         ASSIGN_UUID => true,
         UPGRADE_FORMAT_VERSION => true,
         SET_LOCATION => text_is_utf8(u.fields.location),
@@ -67,20 +66,13 @@ fn update_carried(u: TableUpdate, offers: &[u8]) -> bool
 pub fn is_carried(t: UpdateList, offers: &[u8]) -> bool
     ensures { result ≡ is_carried (read_updates t) offers.now }
 {
-    let n = t.count;
-    if n > UPDATES {
+    if t.count > UPDATES {
         return false;
     }
-    let none = TableUpdate::blank();
-    let mut ok = true;
-    let mut i = 0;
-    while i < n {
-        let mut x = none;
-        if i < UPDATES {
-            x = t.items[i];
-        }
-        ok = ok & update_carried(x, offers);
-        i += 1;
-    }
-    ok
+    all_items(
+        &t.items,
+        t.count,
+        TableUpdate::blank(),
+        |u| update_carried(*u, offers),
+    )
 }

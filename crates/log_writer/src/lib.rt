@@ -8,45 +8,25 @@ mod log;
 mod spec;
 mod update;
 
-ghost use Rattle.std.specs.Prelude.{true, ◌≡◌, length};
+ghost use Rattle.std.specs.Prelude.{true, ◌≡◌};
 ghost use Rattle.rules.specs.Kinds.{read_updates};
 ghost use Rattle.log_rule.specs.Held.{log_fits};
-ghost use Rattle.log_rule.specs.LogText.{log_text};
-ghost use Rattle.file_text.specs.Puts.{past};
 ghost use Rattle.log_writer.specs.Answer.{put_answer, put_bytes, log_answer, log_bytes};
 
 use crate::carried::is_carried;
 use crate::log::put_log;
-use file_writer::Exported;
-use records::replies::{ACCEPTED, BUFFER_TOO_SHORT};
+use file_writer::{Exported, write_text};
 use records::update::UpdateList;
 
 const NOT_CARRIED: u8 = 38;
 
-// How long the text is, up to 2^64 - 1: it is put into a buffer that does not matter.
-fn length_of(updates: UpdateList, offers: &[u8]) -> usize
-    ensures { result ≡ past 0 (length (log_text (read_updates updates) offers.now)) }
-{
-    let mut none = [0u8; 1];
-    put_log(&mut none, updates, offers)
-}
-
 // A log that can be written.
+#[tactic(auto, unfolding(crate::specs::Answer::put_answer, crate::specs::Answer::put_bytes))]
 fn write(updates: UpdateList, offers: &[u8], buffer: &mut [u8]) -> Exported
     ensures value { result ≡ put_answer updates offers.now buffer.old }
     ensures buffer_after { buffer.new ≡ put_bytes updates offers.now buffer.old }
 {
-    if buffer.len() < length_of(updates, offers) {
-        return Exported {
-            number: BUFFER_TOO_SHORT,
-            length: 0,
-        };
-    }
-    let length = put_log(buffer, updates, offers);
-    Exported {
-        number: ACCEPTED,
-        length,
-    }
+    write_text(buffer, |bytes| put_log(bytes, updates, offers))
 }
 
 // The first bytes of the buffer are the text, and the rest stays as it was. The numbers of the updates have the bits of their types, whatever is answered: so

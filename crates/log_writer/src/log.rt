@@ -8,9 +8,9 @@ use crate::update::{
     put_remove_schemas, put_remove_snapshots, put_remove_specs, put_set_current_schema,
     put_set_default_order, put_set_default_spec, put_set_location, put_set_ref, put_upgrade,
 };
-use file_text::bytes::{put, put_if};
+use file_text::bytes::put;
+use file_text::list::put_items;
 use formed::update::is_tidy;
-use records::capacities::UPDATES;
 use records::update::{
     ADD_PARTITION_SPEC, ADD_SCHEMA, ADD_SNAPSHOT, ADD_SORT_ORDER, ASSIGN_UUID,
     REMOVE_PARTITION_SPECS, REMOVE_REF, REMOVE_SCHEMAS, REMOVE_SNAPSHOTS, SET_CURRENT_SCHEMA,
@@ -22,8 +22,7 @@ use records::update::{
 fn put_kind(buffer: &mut [u8], at: usize, u: TableUpdate, offers: &[u8]) -> usize
     ensures { Puts buffer.old at (update_text offers.now (read_kind u)) result buffer.new }
 {
-    let k = u.kind;
-    match k {
+    match u.kind {
         ASSIGN_UUID => put_assign_uuid(buffer, at, u.fields),
         UPGRADE_FORMAT_VERSION => put_upgrade(buffer, at, u.fields.format_version),
         SET_LOCATION => put_set_location(buffer, at, u.fields.location),
@@ -55,18 +54,14 @@ fn put_update(buffer: &mut [u8], at: usize, u: TableUpdate, offers: &[u8]) -> us
 pub fn put_log(buffer: &mut [u8], t: UpdateList, offers: &[u8]) -> usize
     ensures { Puts buffer.old 0 (log_text (read_updates t) offers.now) result buffer.new }
 {
-    let n = t.count;
-    let none = TableUpdate::blank();
-    let mut to = put(buffer, 0, b"[");
-    let mut i = 0;
-    while i < n {
-        let mut x = none;
-        if i < UPDATES {
-            x = t.items[i];
-        }
-        to = put_if(buffer, to, i > 0, b",");
-        to = put_update(buffer, to, x, offers);
-        i += 1;
-    }
-    put(buffer, to, b"]")
+    let at = put(buffer, 0, b"[");
+    let at = put_items(
+        buffer,
+        at,
+        &t.items,
+        t.count,
+        TableUpdate::blank(),
+        |buffer, at, u| { put_update(buffer, at, u, offers) },
+    );
+    put(buffer, at, b"]")
 }

@@ -6,10 +6,10 @@ ghost use Rattle.file_text.specs.Puts.{Puts};
 
 use file_tables::number::{of_field, of_spec};
 use file_tables::record::put_transform;
-use file_text::bytes::{put, put_if};
+use file_text::bytes::put;
+use file_text::list::put_items;
 use file_text::numbers::put_number;
 use file_text::texts::put_name;
-use records::capacities::PARTITION_FIELDS;
 use records::partition::{PartitionField, PartitionSpec};
 
 fn put_field(buffer: &mut [u8], at: usize, f: PartitionField) -> usize
@@ -32,20 +32,14 @@ fn put_field(buffer: &mut [u8], at: usize, f: PartitionField) -> usize
 fn put_fields(buffer: &mut [u8], at: usize, t: PartitionSpec) -> usize
     ensures { Puts buffer.old at (items partition_text (read_partition_spec t).fields) result buffer.new }
 {
-    let n = t.count;
-    let none = PartitionField::blank();
-    let mut to = at;
-    let mut i = 0;
-    while i < n {
-        let mut x = none;
-        if i < PARTITION_FIELDS {
-            x = t.items[i];
-        }
-        to = put_if(buffer, to, i > 0, b",");
-        to = put_field(buffer, to, x);
-        i += 1;
-    }
-    to
+    put_items(
+        buffer,
+        at,
+        &t.items,
+        t.count,
+        PartitionField::blank(),
+        put_field,
+    )
 }
 
 pub fn put_spec(buffer: &mut [u8], at: usize, s: PartitionSpec) -> usize

@@ -30,8 +30,12 @@ const NEWEST: u8 = 3;
 pub fn put_assign_uuid(buffer: &mut [u8], at: usize, p: FieldsPart) -> usize
     ensures { Puts buffer.old at (plain_text (AssignUuid p.uuid)) result buffer.new }
 {
-    let uuid = p.uuid;
-    let at = put_uuid(buffer, at, b"{\"action\":\"assign-uuid\",\"uuid\":", &uuid);
+    let at = put_uuid(
+        buffer,
+        at,
+        b"{\"action\":\"assign-uuid\",\"uuid\":",
+        &p.uuid,
+    );
     put(buffer, at, b"}")
 }
 

@@ -1,14 +1,14 @@
 // A list of updates, as a change log is, by the name of its file.
-use crate::metadata::read_end;
 use case_reader::update::read_updates;
 use file_words::file::is_json;
 use plaintext::fault::{say_fault, say_unopened};
 use records::capacities::OFFERS;
 use records::update::UpdateList;
 use std::rt::HostRuntime;
-use tokens::input::{Input, Place, close, is_good, start};
+use tokens::input::Input;
 use tokens::output::Output;
-use tokens::source::{Source, is_open, open};
+use tokens::source::Source;
+use tokens::token::read_end;
 
 // The number is 0 where there is a list.
 #[derive(Clone, Copy)]
@@ -17,7 +17,7 @@ pub struct Listed {
     pub list: UpdateList,
 }
 
-// The number of what could not be read: no refusal has it.
+// Kept: the number of what could not be read, which no refusal has: an Option of a list would be copied once more where it is taken out.
 const NO_LIST: u8 = 255;
 
 fn read_json(
@@ -25,12 +25,12 @@ fn read_json(
     name: &[u8],
     offers: &mut [u8; OFFERS],
     output: &mut Output,
-    end: &mut usize,
 ) -> Listed {
-    let answer = update_lists::file::read(&mut source, name, offers, output, end);
-    let number = answer.number;
-    let list = answer.list;
-    Listed { number, list }
+    let answer = update_lists::file::read(&mut source, name, offers, output);
+    Listed {
+        number: answer.number,
+        list: answer.list,
+    }
 }
 
 // A count and the updates, and nothing behind them.
@@ -39,19 +39,17 @@ fn read_case(
     name: &[u8],
     offers: &mut [u8],
     input: &mut Input,
-    place: &mut Place,
     output: &mut Output,
-    end: &mut usize,
 ) -> Listed {
-    *place = start(source);
-    let list = read_updates(input, place, offers);
-    read_end(input, place);
+    input.turn_to(source);
+    let list = read_updates(input, offers);
+    read_end(input);
     let mut number = 0;
-    if !is_good(place) {
-        say_fault(output, end, name, b"", place);
+    if !input.is_good() {
+        say_fault(output, name, b"", input);
         number = NO_LIST;
     }
-    close(place);
+    input.close();
     Listed { number, list }
 }
 
@@ -61,23 +59,18 @@ pub fn read(
     name: &[u8],
     offers: &mut [u8; OFFERS],
     input: &mut Input,
-    place: &mut Place,
     output: &mut Output,
-    end: &mut usize,
 ) -> Listed {
-    let source = open(rt, name);
-    let mut listed = Listed {
-        number: NO_LIST,
-        list: UpdateList::blank(),
-    };
-    if !is_open(&source) {
-        say_unopened(output, end, name);
-        return listed;
+    let source = Source::open(rt, name);
+    if !source.is_open() {
+        say_unopened(output, name);
+        return Listed {
+            number: NO_LIST,
+            list: UpdateList::blank(),
+        };
     }
     if is_json(rt, name) {
-        listed = read_json(source, name, offers, output, end);
-    } else {
-        listed = read_case(source, name, offers, input, place, output, end);
+        return read_json(source, name, offers, output);
     }
-    listed
+    read_case(source, name, offers, input, output)
 }

@@ -1,5 +1,5 @@
 // Metadata by the name of its file.
-use crate::whole::{NOT_OPENED, READ, ROOM, TOO_LONG, read_whole};
+use crate::whole::{ROOM, Unread, read_whole};
 use case_reader::metadata::read_metadata;
 use case_reader::more::{Given, read_tag};
 use case_reader::run::read_given;
@@ -10,14 +10,13 @@ use plaintext::fault::{say_fault, say_unopened};
 use plaintext::name::say_escaped;
 use plaintext::text::say;
 use records::metadata::TableMetadata;
-use slot_bounds::lent;
 use std::rt::HostRuntime;
-use tokens::field::is_unsigned;
-use tokens::input::{Input, Place, close, is_good, spoil, start};
+use tokens::field::unsigned_of;
+use tokens::input::Input;
 use tokens::output::Output;
-use tokens::source::{Source, is_open, open, standard};
-use tokens::token::read_token;
-use tokens::wanted::{END, UP_TO};
+use tokens::source::Source;
+use tokens::token::{Token, read_end, read_token};
+use tokens::wanted::Wanted;
 
 // The number is 0 where there is metadata. Skipped says how many members of a JSON file are not held; it is 0 of the case format.
 #[derive(Clone, Copy)]
@@ -28,110 +27,98 @@ pub struct Held {
     pub metadata: TableMetadata,
 }
 
-// The number of what could not be read: no refusal has it.
+// Kept: the number of what could not be read, which no refusal has: an Option of metadata would be copied once more where it is taken out, and two stand on
+// one stack.
 const NO_METADATA: u8 = 255;
 
 fn none() -> Held {
-    let metadata = TableMetadata::blank();
     Held {
         number: NO_METADATA,
         is_json: false,
         skipped: 0,
-        metadata,
+        metadata: TableMetadata::blank(),
     }
 }
 
-fn say_unread(output: &mut Output, end: &mut usize, name: &[u8], outcome: usize) {
-    if outcome == NOT_OPENED {
-        say_unopened(output, end, name);
-    } else if outcome == TOO_LONG {
-        say(output, end, b"bad input: ");
-        say_escaped(output, end, name, name.len());
-        say(output, end, b": a file of over 393216 bytes is not read\n");
-    } else {
-        say(output, end, b"bad input: ");
-        say_escaped(output, end, name, name.len());
-        say(output, end, b": the input could not be read\n");
+fn say_bad_input(output: &mut Output, name: &[u8], why: &[u8]) {
+    say(output, b"bad input: ");
+    say_escaped(output, name, name.len());
+    say(output, why);
+}
+
+fn say_unread(output: &mut Output, name: &[u8], unread: Unread) {
+    match unread {
+        Unread::NotOpened => say_unopened(output, name),
+        Unread::NotRead => say_bad_input(output, name, b": the input could not be read\n"),
+        Unread::TooLong => say_bad_input(
+            output,
+            name,
+            b": a file of over 393216 bytes is not read\n",
+        ),
     }
 }
 
 // The text is gone through by the import, and where that refuses it, once more to tell why.
-fn imported(name: &[u8], text: &[u8], output: &mut Output, end: &mut usize) -> Held {
+fn imported(name: &[u8], text: &[u8], output: &mut Output) -> Held {
     let imported = import(text);
-    let number = imported.number;
-    let metadata = imported.metadata;
-    if number != 0 {
-        say_bad_file(output, end, name, text, number as usize, imported.place);
+    if imported.number != 0 {
+        let number = imported.number as usize;
+        say_bad_file(output, name, text, number, imported.place);
     }
     Held {
-        number,
+        number: imported.number,
         is_json: true,
         skipped: imported.skipped,
-        metadata,
+        metadata: imported.metadata,
     }
 }
 
-fn read_json(rt: HostRuntime, name: &[u8], output: &mut Output, end: &mut usize) -> Held {
+fn read_json(rt: HostRuntime, name: &[u8], output: &mut Output) -> Held {
     let mut text = [0u8; ROOM];
-    let whole = read_whole(rt, name, &mut text);
-    if whole.outcome != READ {
-        say_unread(output, end, name, whole.outcome);
-        return none();
+    match read_whole(rt, name, &mut text) {
+        Ok(whole) => imported(name, whole, output),
+        Err(unread) => {
+            say_unread(output, name, unread);
+            none()
+        }
     }
-    let slots: &[u8] = &text;
-    let length = lent(slots, whole.length);
-    imported(name, &slots[..length], output, end)
 }
 
 // How many tags follow metadata: none where the input ends.
-fn read_count_of_tags(input: &mut Input, place: &mut Place) -> usize {
-    let token = read_token(input, place);
-    if !token.is_begun {
+fn read_count_of_tags(input: &mut Input) -> usize {
+    let token = read_token(input);
+    if token == Token::Blank {
         return 0;
     }
-    if is_unsigned(token, u64::MAX) {
-        return token.magnitude as usize;
+    if let Some(count) = unsigned_of(token, u64::MAX) {
+        return count as usize;
     }
-    spoil(place, UP_TO, u64::MAX);
+    input.spoil(Wanted::UpTo(u64::MAX));
     0
 }
 
 // Metadata, and the tables and owners that it is given behind a count, where there is one.
-fn read_given_metadata(input: &mut Input, place: &mut Place) -> TableMetadata {
-    let mut metadata = read_metadata(input, place);
-    let count = read_count_of_tags(input, place);
-    let mut last: u64 = 0;
-    let mut i = 0;
-    while i < count && is_good(place) {
-        i += 1;
-        last = read_tag(last, input, place);
-        metadata = read_given(Given::none().with(last), metadata, input, place);
+fn read_given_metadata(input: &mut Input) -> TableMetadata {
+    let mut metadata = read_metadata(input);
+    let count = read_count_of_tags(input);
+    let mut last = 0;
+    for _ in 0..count {
+        if !input.is_good() {
+            break;
+        }
+        last = read_tag(last, input);
+        metadata = read_given(Given::none().with(last), metadata, input);
     }
     metadata
 }
 
-// Nothing may follow.
-pub fn read_end(input: &mut Input, place: &mut Place) {
-    let rest = read_token(input, place);
-    if rest.is_begun {
-        spoil(place, END, 0);
-    }
-}
-
-fn read_open(
-    source: Source,
-    name: &[u8],
-    input: &mut Input,
-    place: &mut Place,
-    output: &mut Output,
-    end: &mut usize,
-) -> Held {
-    *place = start(source);
-    let metadata = read_given_metadata(input, place);
-    read_end(input, place);
+fn read_open(source: Source, name: &[u8], input: &mut Input, output: &mut Output) -> Held {
+    input.turn_to(source);
+    let metadata = read_given_metadata(input);
+    read_end(input);
     let mut number = 0;
-    if !is_good(place) {
-        say_fault(output, end, name, b"", place);
+    if !input.is_good() {
+        say_fault(output, name, b"", input);
         number = NO_METADATA;
     }
     Held {
@@ -142,46 +129,26 @@ fn read_open(
     }
 }
 
-fn read_case(
-    rt: HostRuntime,
-    name: &[u8],
-    input: &mut Input,
-    place: &mut Place,
-    output: &mut Output,
-    end: &mut usize,
-) -> Held {
-    let source = open(rt, name);
-    if !is_open(&source) {
-        say_unopened(output, end, name);
+fn read_case(rt: HostRuntime, name: &[u8], input: &mut Input, output: &mut Output) -> Held {
+    let source = Source::open(rt, name);
+    if !source.is_open() {
+        say_unopened(output, name);
         return none();
     }
-    let held = read_open(source, name, input, place, output, end);
-    close(place);
+    let held = read_open(source, name, input, output);
+    input.close();
     held
 }
 
 // Metadata in the case format on standard input.
-pub fn read_input(
-    rt: HostRuntime,
-    input: &mut Input,
-    place: &mut Place,
-    output: &mut Output,
-    end: &mut usize,
-) -> Held {
-    read_open(standard(rt), b"", input, place, output, end)
+pub fn read_input(rt: HostRuntime, input: &mut Input, output: &mut Output) -> Held {
+    read_open(Source::standard(rt), b"", input, output)
 }
 
 // The metadata, or what is wrong with it: that is said.
-pub fn read(
-    rt: HostRuntime,
-    name: &[u8],
-    input: &mut Input,
-    place: &mut Place,
-    output: &mut Output,
-    end: &mut usize,
-) -> Held {
+pub fn read(rt: HostRuntime, name: &[u8], input: &mut Input, output: &mut Output) -> Held {
     if is_json(rt, name) {
-        return read_json(rt, name, output, end);
+        return read_json(rt, name, output);
     }
-    read_case(rt, name, input, place, output, end)
+    read_case(rt, name, input, output)
 }

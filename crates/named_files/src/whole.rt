@@ -2,7 +2,7 @@
 ghost use Rattle.std.specs.Prelude.{◌≤◌, length};
 
 use std::rt::HostRuntime;
-use tokens::source::{Source, is_open, open, read};
+use tokens::source::Source;
 
 // The longest file that is read. What is exported here has at most 339,202 bytes.
 pub const LONGEST: usize = 393216;
@@ -10,31 +10,23 @@ pub const LONGEST: usize = 393216;
 // One slot more, so that a longer file is seen to be longer.
 pub const ROOM: usize = LONGEST + 1;
 
-// What became of a file, in the order of the words for it.
-pub const READ: usize = 0;
-
-pub const NOT_OPENED: usize = 1;
-
-pub const NOT_READ: usize = 2;
-
-pub const TOO_LONG: usize = 3;
-
-#[derive(Clone, Copy)]
-pub struct Whole {
-    pub outcome: usize,
-    pub length: usize,
+// Why a file is not read.
+#[derive(Clone, Copy, PartialEq, Eq, Debug)]
+pub enum Unread {
+    NotOpened,
+    NotRead,
+    TooLong,
 }
 
 // Why no more comes: the file is at its end, or could not be read on.
-fn outcome_at_end(source: &mut Source, length: usize) -> usize {
-    let mut next = [0u8; 1];
+fn read_end(source: &mut Source, length: usize) -> Result<(), Unread> {
     if length > LONGEST {
-        return TOO_LONG;
+        return Err(Unread::TooLong);
     }
-    if read(source, &mut next).is_failed {
-        return NOT_READ;
+    match source.read(&mut [0u8; 1]) {
+        Ok(_) => Ok(()),
+        Err(_) => Err(Unread::NotRead),
     }
-    READ
 }
 
 // Reads until the slots are full, the file ends or a read fails: how many bytes there are then.
@@ -42,25 +34,28 @@ fn fill(source: &mut Source, text: &mut [u8]) -> usize
     ensures { result ≤ length text.new }
 {
     let mut done = 0;
+    // Kept: what a read gives decides how far the next turn begins, so there is no index to count.
     while done < text.len() {
-        let got = read(source, &mut text[done..]);
-        if got.count == 0 {
+        let count = source.read(&mut text[done..]).unwrap_or(0);
+        if count == 0 {
             return done;
         }
-        done += got.count;
+        done += count;
     }
     done
 }
 
-pub fn read_whole(rt: HostRuntime, name: &[u8], text: &mut [u8]) -> Whole {
-    let mut source = open(rt, name);
-    if !is_open(&source) {
-        return Whole {
-            outcome: NOT_OPENED,
-            length: 0,
-        };
+// The bytes of the file, which stand at the start of the slots.
+pub fn read_whole<'a>(
+    rt: HostRuntime,
+    name: &[u8],
+    text: &'a mut [u8],
+) -> Result<&'a [u8], Unread> {
+    let mut source = Source::open(rt, name);
+    if !source.is_open() {
+        return Err(Unread::NotOpened);
     }
     let length = fill(&mut source, text);
-    let outcome = outcome_at_end(&mut source, length);
-    Whole { outcome, length }
+    read_end(&mut source, length)?;
+    Ok(&text[..length])
 }

@@ -1,5 +1,5 @@
 // Files that are made: each is new, and whole or not there at all. A text is written under a name of its own, that of the file and `.part`, and gets the name
-// of the file when all of it stands on the disk. Nothing is overwritten: a file that is there is refused, and stays as it was. Each outcome has a line.
+// of the file when all of it stands on the disk. Nothing is overwritten: a file that is there is refused, and stays as it was. What became of each is said in a line.
 // Several files that belong together are prepared first and placed then, so that one that can not be written keeps the others from being made.
 #![tactic(auto)]
 
@@ -7,7 +7,7 @@ ghost use Rattle.slot_bounds.specs.Counted.{Counted};
 
 use plaintext::name::say_escaped;
 use plaintext::number::say_count;
-use plaintext::text::{say, say_line};
+use plaintext::text::say;
 use slot_bounds::{lent, store_byte};
 use std::fs::{File, OpenOptions, remove_file, rename};
 use std::io::{Error, ErrorKind};
@@ -17,39 +17,28 @@ use std::rt::HostRuntime;
 use std::str::from_utf8;
 use tokens::output::Output;
 
-// What became of a text, in the order of the words for it.
-pub const WRITTEN: usize = 0;
-
-// Something has the name of the file.
-pub const TAKEN: usize = 1;
-
-// Something has the name of its part, as where a program was stopped before.
-pub const PART_TAKEN: usize = 2;
-
-// No file can be made there.
-pub const NOT_MADE: usize = 3;
-
-// A file was made, and the text did not go into it whole.
-pub const NOT_WRITTEN: usize = 4;
-
-// Another file that belongs to it could not be written.
-pub const DROPPED: usize = 5;
-
-// There is no text, since it was refused: the metadata is not well formed, or a file can not show it, or it has no room.
-pub const NOT_FORMED: usize = 6;
-
-pub const NOT_SHOWN: usize = 7;
-
-pub const NO_ROOM: usize = 8;
-
-// Nobody asked for the file: nothing is said of it.
-pub const NOT_ASKED: usize = 9;
+// Why there is no file.
+#[derive(Clone, Copy, PartialEq, Eq, Debug)]
+pub enum Unmade {
+    // Something has the name of the file.
+    Taken,
+    // Something has the name of its part, as where a program was stopped before.
+    PartTaken,
+    // No file can be made there.
+    NotMade,
+    // A file was made, and the text did not go into it whole.
+    NotWritten,
+    // Another file that belongs to it could not be written.
+    Dropped,
+    // There is no text, since it was refused: the metadata is not well formed, or a file can not show it, or it has no room.
+    NotFormed,
+    NotShown,
+    NoRoom,
+}
 
 fn copy(slots: &mut [u8], at: usize, text: &[u8]) {
-    let mut i = 0;
-    while i < text.len() {
-        store_byte(slots, wrapping_add_usize(at, i), text[i]);
-        i += 1;
+    for (i, &byte) in text.iter().enumerate() {
+        store_byte(slots, wrapping_add_usize(at, i), byte);
     }
 }
 
@@ -62,18 +51,17 @@ fn read_part_name(name: &[u8], slots: &mut [u8]) -> usize
     lent(slots, wrapping_add_usize(name.len(), 5))
 }
 
-// Why a file could not be made.
-fn why_unmade(error: Error, taken: usize) -> usize {
+fn why_unmade(error: Error, taken: Unmade) -> Unmade {
     if error.kind() == ErrorKind::AlreadyExists {
         return taken;
     }
-    NOT_MADE
+    Unmade::NotMade
 }
 
 // A new file of this name, open for writing, or why there is none. The system's library takes names that are UTF-8 alone.
-fn create(rt: HostRuntime, name: &[u8], taken: usize) -> Result<File, usize> {
+fn create(rt: HostRuntime, name: &[u8], taken: Unmade) -> Result<File, Unmade> {
     let Ok(path) = from_utf8(name) else {
-        return Err(NOT_MADE);
+        return Err(Unmade::NotMade);
     };
     let mut options = OpenOptions::new();
     options.write(true).create_new(true);
@@ -108,19 +96,15 @@ fn write_whole(file: File, text: &[u8]) -> bool {
 }
 
 // The text under the name of the part.
-pub fn prepare(rt: HostRuntime, name: &[u8], text: &[u8]) -> usize {
+pub fn prepare(rt: HostRuntime, name: &[u8], text: &[u8]) -> Result<(), Unmade> {
     let mut part = io::buffer();
     let len = read_part_name(name, &mut part);
-    match create(rt, &part[..len], PART_TAKEN) {
-        Ok(file) => {
-            if write_whole(file, text) {
-                return WRITTEN;
-            }
-            remove(rt, &part[..len]);
-            NOT_WRITTEN
-        }
-        Err(why) => why,
+    let file = create(rt, &part[..len], Unmade::PartTaken)?;
+    if !write_whole(file, text) {
+        remove(rt, &part[..len]);
+        return Err(Unmade::NotWritten);
     }
+    Ok(())
 }
 
 // What was prepared is not to be placed.
@@ -131,24 +115,21 @@ pub fn forget(rt: HostRuntime, name: &[u8]) {
 }
 
 // The name is taken first, by an empty file that nobody else can have made; the part then gets it.
-fn move_to(rt: HostRuntime, part: &[u8], name: &[u8]) -> usize {
-    match create(rt, name, TAKEN) {
-        Ok(_) => {}
-        Err(why) => {
-            remove(rt, part);
-            return why;
-        }
+fn move_to(rt: HostRuntime, part: &[u8], name: &[u8]) -> Result<(), Unmade> {
+    if let Err(why) = create(rt, name, Unmade::Taken) {
+        remove(rt, part);
+        return Err(why);
     }
-    if give_name(rt, part, name) {
-        return WRITTEN;
+    if !give_name(rt, part, name) {
+        remove(rt, name);
+        remove(rt, part);
+        return Err(Unmade::NotWritten);
     }
-    remove(rt, name);
-    remove(rt, part);
-    NOT_WRITTEN
+    Ok(())
 }
 
 // What was prepared becomes the file, or nothing is left of it.
-pub fn place(rt: HostRuntime, name: &[u8]) -> usize {
+pub fn place(rt: HostRuntime, name: &[u8]) -> Result<(), Unmade> {
     let mut part = io::buffer();
     let len = read_part_name(name, &mut part);
     move_to(rt, &part[..len], name)
@@ -159,40 +140,57 @@ pub fn take_back(rt: HostRuntime, name: &[u8]) {
     remove(rt, name);
 }
 
-pub fn write(rt: HostRuntime, name: &[u8], text: &[u8]) -> usize {
-    let outcome = prepare(rt, name, text);
-    if outcome == WRITTEN {
-        return place(rt, name);
-    }
-    outcome
+pub fn write(rt: HostRuntime, name: &[u8], text: &[u8]) -> Result<(), Unmade> {
+    prepare(rt, name, text)?;
+    place(rt, name)
 }
 
-// A line for each outcome.
-pub fn say_outcome(
-    output: &mut Output,
-    end: &mut usize,
-    name: &[u8],
-    outcome: usize,
-    length: usize,
-) {
-    let heads = b"written: \nnot written: \n";
-    let tails = b", bytes: \n\
-        : there is something of that name, and it stays as it was\n\
-        : there is something of that name and .part, as of a program that was stopped; take it away first\n\
-        : no file of that name can be made there\n\
-        : the text could not be written whole, and nothing of it is left\n\
-        : another file that belongs to it could not be written\n\
-        : refused 1: the metadata is not well formed\n\
-        : refused 38: a file can not show a sequence number at version 1, row ids below version 3, a ref of office 2, or a text that is not UTF-8\n\
-        : refused 25: the text is longer than there is room for\n";
-    if outcome == NOT_ASKED {
-        return;
+fn say_why(output: &mut Output, why: Unmade) {
+    match why {
+        Unmade::Taken => say(
+            output,
+            b"there is something of that name, and it stays as it was",
+        ),
+        Unmade::PartTaken => say(
+            output,
+            b"there is something of that name and .part, as of a program that was stopped; take it away first",
+        ),
+        Unmade::NotMade => say(output, b"no file of that name can be made there"),
+        Unmade::NotWritten => say(
+            output,
+            b"the text could not be written whole, and nothing of it is left",
+        ),
+        Unmade::Dropped => say(
+            output,
+            b"another file that belongs to it could not be written",
+        ),
+        Unmade::NotFormed => say(output, b"refused 1: the metadata is not well formed"),
+        Unmade::NotShown => say(
+            output,
+            b"refused 38: a file can not show a sequence number at version 1, row ids below version 3, a ref of office 2, or a text that is not UTF-8",
+        ),
+        Unmade::NoRoom => say(
+            output,
+            b"refused 25: the text is longer than there is room for",
+        ),
     }
-    say_line(output, end, heads, (outcome != WRITTEN) as usize);
-    say_escaped(output, end, name, name.len());
-    say_line(output, end, tails, outcome);
-    if outcome == WRITTEN {
-        say_count(output, end, length);
+}
+
+// What became of a text: how many bytes its file has, or why there is none.
+pub fn say_outcome(output: &mut Output, name: &[u8], made: Result<usize, Unmade>) {
+    match made {
+        Ok(length) => {
+            say(output, b"written: ");
+            say_escaped(output, name, name.len());
+            say(output, b", bytes: ");
+            say_count(output, length);
+        }
+        Err(why) => {
+            say(output, b"not written: ");
+            say_escaped(output, name, name.len());
+            say(output, b": ");
+            say_why(output, why);
+        }
     }
-    say(output, end, b"\n");
+    say(output, b"\n");
 }

@@ -1,10 +1,10 @@
 -- What the bytes of a field say from a place on. A number of at most 31 bits is a number of 32 with a sign. Those past a name are 0, so that all of them
 -- laid out are the name laid out.
-use Prim.Native.Nat.{ℕ, ◌+◌, ◌-◌, ◌≤◌, ◌<◌}
+use Prim.Native.Nat.{ℕ, ◌+◌, ◌≤◌, ◌<◌}
 use native.Mathlib.Omega.{arith}
 use mathlib.Core.Path.{◌≡◌, sym, ◌∙◌}
 use mathlib.Core.Bool.{Bool, true, false, ◌&&◌}
-use mathlib.Core.List.{List, append-nil}
+use mathlib.Core.List.{List}
 use borrow.Author.Tests.{leb-true, le-leb, lt-leb, eq-eqb}
 use lib.ListN.{length, drop, length-take, length-drop}
 use lib.Seq.{length-take-le, drop-drop}
@@ -16,7 +16,6 @@ use Rattle.rules.specs.Offers.{number_at, is_number_at, length_at, bytes_after, 
 use Rattle.rules.specs.Layout.{pad, laid_name}
 use Rattle.rules.proofs.Checks.{both, and_left, and_right}
 use Rattle.rules.proofs.Slots.Relaid.{zero, padded}
-use Rattle.offers.proofs.Filled.{Filled, filled_all}
 
 pub number_small : (at : ℕ) (bs : List ℕ) → is_number_at at bs ≡ true → number_at at bs ≤ largest_field_id
 number_small at bs t = leb-true _ _ t
@@ -45,11 +44,9 @@ module _ (at : ℕ) (bs : List ℕ) (t : (fits_at at bs && rest_zero_at at bs) �
     rest_blank_lem = both (eq-eqb (length (bytes_after at bs)) name_room (name_room_lem at bs h)) (and_right (fits_at at bs) _ t)
 
     -- all bytes are copied
-    pub copied : {bytes : List ℕ} {i : ℕ} → Filled name_room 0 (bytes_after at bs) bytes i → name_room ≤ i → record { bytes = bytes; len = length_at at bs } ≡ laid_name (name_at at bs)
+    pub copied : {bytes : List ℕ} → bytes ≡ bytes_after at bs → record { bytes = bytes; len = length_at at bs } ≡ laid_name (name_at at bs)
     unfolding laid_name
-    copied {bytes} f b =
-        let z : name_room - length (bytes_after at bs) ≡ 0 = omega (arith, name_room_lem at bs h) in
-        let a : bytes ≡ bytes_after at bs = filled_all f (omega (arith, name_room_lem at bs h)) ∙ rw z (append-nil (bytes_after at bs)) in
+    copied {bytes} a =
         let p : bytes_after at bs ≡ pad name_room 0 (name_at at bs) = padded 0 is_zero zero name_room (length_at at bs) (bytes_after at bs) rest_blank_lem name_short in
         let n : length_at at bs ≡ length (name_at at bs) = sym (length-take-le (length_at at bs) (bytes_after at bs) (omega (arith, name_room_lem at bs h, name_short))) in
         λ j. record { bytes = (a ∙ p) j; len = n j }

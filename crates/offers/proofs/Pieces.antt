@@ -3,9 +3,12 @@ use Prim.Native.Nat.{ℕ, zero, suc, ◌+◌, ◌*◌, ◌-◌, ◌≤◌, ◌<�
 use native.Mathlib.Omega.{arith}
 use native.Mathlib.Nat.{add_comm, zero-mul, suc-mul, mul-le-mul_right}
 use mathlib.Core.Path.{◌≡◌, refl, sym, ap, ◌∙◌}
+use mathlib.Core.Bool.{Bool, true, false}
 use mathlib.Core.List.{List, []}
-use lib.ListN.{length, get_or, take, drop, length-drop}
-use lib.Seq.{drop-drop, length-take-le}
+use native.Mathlib.Numerals.{add-one}
+use lib.ListN.{length, get_or, take, drop, length-drop, drop_of_length-le}
+use lib.Seq.{drop-drop, drop-cons, length-take-le}
+use Rattle.rules.specs.Words.{all}
 use Rattle.rules.specs.Offers.{pieces_of}
 
 pub pieces_length : (size n : ℕ) (bs : List ℕ) → length (pieces_of size n bs) ≡ n
@@ -37,3 +40,16 @@ module _ (size : ℕ) (bs : List ℕ) (at n i : ℕ) (h : at + n * size ≤ leng
 
   pub part_piece : part ≡ get_or (pieces_of size n (drop at bs)) i []
   part_piece = rw (between (at + i * size) size) (sym (pieces_at size n (drop at bs) i b ∙ ap (take size) (drop-drop (i * size) at bs)))
+
+-- ---- whether all of them pass, one after the other
+
+module _ (p : List ℕ → Bool) (l : List (List ℕ)) (i : ℕ) where
+  pub all_done : length l ≤ i → all p (drop i l) ≡ true
+  all_done h = rw (drop_of_length-le l {i = i} h)
+
+  module _ (h : i < length l) where
+    pub all_not : p (get_or l i []) ≡ false → all p (drop i l) ≡ false
+    all_not e = rw (drop-cons l i [] h, e)
+
+    pub all_further : p (get_or l i []) ≡ true → all p (drop i l) ≡ all p (drop (i + 1) l)
+    all_further e = rw (drop-cons l i [] h, e, add-one i)

@@ -27,6 +27,7 @@ use records::schema::{Schema, SchemaOffer};
 use records::update::{ADD_PARTITION_SPEC, ADD_SCHEMA, TableUpdate};
 
 // Whether an offer is well formed, and the schema that it offers.
+// Kept: `Offered` and `SpecOffered` (specs/), which `schema` and `spec` ensure, speak of the flag and of the blank behind it.
 #[derive(Clone, Copy)]
 pub struct OfferedSchema {
     pub formed: bool,
@@ -44,12 +45,7 @@ pub struct OfferedSpec {
 fn is_there(o: SchemaOffer, len: usize) -> bool
     ensures { result ≡ (leb o.count schema_field_room && leb (o.at + o.count * field_bytes) len) }
 {
-    let at = o.at;
-    let n = o.count;
-    if n > SCHEMA_FIELDS {
-        return false;
-    }
-    are_within(at, n * FIELD_BYTES, len)
+    o.count <= SCHEMA_FIELDS && are_within(o.at, o.count * FIELD_BYTES, len)
 }
 
 // The bytes of each field say one.
@@ -57,17 +53,13 @@ fn fields_tidy(o: SchemaOffer, bytes: &[u8]) -> bool
     requires { o.at + o.count * field_bytes ≤ length bytes.now }
     ensures { result ≡ all is_tidy_field (offered_fields bytes.now (read_schema_offer o)) }
 {
-    let at = o.at;
-    let n = o.count;
-    let mut ok = true;
-    let mut i = 0;
-    while i < n {
-        let from = at + i * FIELD_BYTES;
-        let end = from + FIELD_BYTES;
-        ok = ok & is_tidy_field(&bytes[from..end]);
-        i += 1;
+    for i in 0..o.count {
+        let from = o.at + i * FIELD_BYTES;
+        if !is_tidy_field(&bytes[from..from + FIELD_BYTES]) {
+            return false;
+        }
     }
-    ok
+    true
 }
 
 // The schema of an offer that is there and whose bytes say its fields.
@@ -77,21 +69,14 @@ fn schema_of(o: SchemaOffer, bytes: &[u8]) -> Schema
     requires o_value { all is_tidy_field (offered_fields bytes.now (read_schema_offer o)) ≡ true }
     ensures { result ≡ laid_schema (offered_schema bytes.now (read_schema_offer o)) }
 {
-    let id = o.schema_id;
-    let at = o.at;
-    let n = o.count;
-    let mut r = Schema::blank();
-    let mut i = 0;
-    while i < n {
-        let from = at + i * FIELD_BYTES;
-        let end = from + FIELD_BYTES;
-        let f = field_of(&bytes[from..end]);
-        r.items[i] = f;
-        i += 1;
+    let mut schema = Schema::blank();
+    for i in 0..o.count {
+        let from = o.at + i * FIELD_BYTES;
+        schema.items[i] = field_of(&bytes[from..from + FIELD_BYTES]);
     }
-    r.schema_id = id;
-    r.count = n;
-    r
+    schema.schema_id = o.schema_id;
+    schema.count = o.count;
+    schema
 }
 
 // What is answered of an offer that is not well formed.

@@ -68,13 +68,8 @@ pub fn name_at(bytes: &[u8], at: usize) -> Name
     requires bytes_value { (fits_at at bytes.now && rest_zero_at at bytes.now) ≡ true }
     ensures { result ≡ laid_name (name_at at bytes.now) }
 {
-    let first = at + 1;
-    let mut r = Name::blank();
-    let mut i = 0;
-    while i < NAME {
-        r.bytes[i] = bytes[first + i];
-        i += 1;
-    }
-    r.len = count(bytes[at]);
-    r
+    let mut name = Name::blank();
+    name.bytes.copy_from_slice(&bytes[at + 1..at + 1 + NAME]);
+    name.len = count(bytes[at]);
+    name
 }

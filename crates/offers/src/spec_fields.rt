@@ -14,12 +14,7 @@ use records::partition::{PartitionSpec, SpecOffer};
 pub fn are_there(o: SpecOffer, len: usize) -> bool
     ensures { result ≡ (leb o.count partition_field_room && leb (o.at + o.count * partition_bytes) len) }
 {
-    let at = o.at;
-    let n = o.count;
-    if n > PARTITION_FIELDS {
-        return false;
-    }
-    are_within(at, n * PARTITION_BYTES, len)
+    o.count <= PARTITION_FIELDS && are_within(o.at, o.count * PARTITION_BYTES, len)
 }
 
 // The bytes of each field say one.
@@ -27,17 +22,13 @@ pub fn are_tidy(o: SpecOffer, bytes: &[u8]) -> bool
     requires { o.at + o.count * partition_bytes ≤ length bytes.now }
     ensures { result ≡ all is_tidy_partition (partitions_of o.count (drop o.at bytes.now)) }
 {
-    let at = o.at;
-    let n = o.count;
-    let mut ok = true;
-    let mut i = 0;
-    while i < n {
-        let from = at + i * PARTITION_BYTES;
-        let end = from + PARTITION_BYTES;
-        ok = ok & is_tidy_partition(&bytes[from..end]);
-        i += 1;
+    for i in 0..o.count {
+        let from = o.at + i * PARTITION_BYTES;
+        if !is_tidy_partition(&bytes[from..from + PARTITION_BYTES]) {
+            return false;
+        }
     }
-    ok
+    true
 }
 
 // The spec of an offer that is there and whose bytes say its fields.
@@ -47,20 +38,12 @@ pub fn spec_of(o: SpecOffer, bytes: &[u8]) -> PartitionSpec
     requires bytes_value { all is_tidy_partition (partitions_of o.count (drop o.at bytes.now)) ≡ true }
     ensures { result ≡ laid_partition_spec (offered_spec bytes.now (read_spec_offer o)) }
 {
-    let id = o.spec_id;
-    let at = o.at;
-    let n = o.count;
-    let mut r = PartitionSpec::blank();
-    let mut i = 0;
-    while i < n {
-        let from = at + i * PARTITION_BYTES;
-        let end = from + PARTITION_BYTES;
-        let x = o.ids[i];
-        let f = partition_of(&bytes[from..end], x);
-        r.items[i] = f;
-        i += 1;
+    let mut spec = PartitionSpec::blank();
+    for (i, id) in o.ids[..o.count].iter().enumerate() {
+        let from = o.at + i * PARTITION_BYTES;
+        spec.items[i] = partition_of(&bytes[from..from + PARTITION_BYTES], *id);
     }
-    r.spec_id = id;
-    r.count = n;
-    r
+    spec.spec_id = o.spec_id;
+    spec.count = o.count;
+    spec
 }

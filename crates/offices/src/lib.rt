@@ -40,16 +40,13 @@ use tables::refs::find;
 pub fn is_shared(office: u8, refs: Refs) -> bool
     ensures { LaidRefs refs → result ≡ (is_second office || any (is_others_ref office) (read_refs refs)) }
 {
-    let n = refs.count;
     if office == SECOND_OFFICE {
         return true;
     }
-    let mut i = 0;
-    while (i < n) & (i < REFS) {
-        if refs.items[i].owner != office {
+    for held in &refs.items[..refs.count.min(REFS)] {
+        if held.owner != office {
             return true;
         }
-        i += 1;
     }
     false
 }
@@ -109,17 +106,15 @@ pub fn others_number(fits: bool) -> u8
     ensures { result ≡ cond fits others_to_change update_not_formed }
 {
     if fits {
-        return OTHERS_TO_CHANGE;
+        OTHERS_TO_CHANGE
+    } else {
+        UPDATE_NOT_FORMED
     }
-    UPDATE_NOT_FORMED
 }
 
 // How many of something in its change log a run's close is told: none of the second office's, whose close leaves the snapshot log as it is.
 pub fn closing(office: u8, count: usize) -> usize
     ensures { result ≡ cond (is_second office) 0 count }
 {
-    if office == SECOND_OFFICE {
-        return 0;
-    }
-    count
+    if office == SECOND_OFFICE { 0 } else { count }
 }

@@ -48,13 +48,7 @@ fn ref_reaches(office: u8, x: NamedRef, ids: &[i64], parents: &[i64], removed: S
     requires removed { LaidSnapshotIds removed }
     ensures { result ≡ ref_reaches office ids.now parents.now (read_snapshot_ids removed) (read_ref x) }
 {
-    let reference = x.reference;
-    let id = reference.snapshot_id;
-    let start = id.0;
-    if x.owner == office {
-        return false;
-    }
-    reach_meets(ids, parents, start, removed)
+    x.owner != office && reach_meets(ids, parents, x.reference.snapshot_id.0, removed)
 }
 
 // One walk for each ref of the other office.
@@ -72,13 +66,10 @@ pub fn refs_reach(
     requires removed { LaidSnapshotIds removed }
     ensures { result ≡ any (ref_reaches office ids.now parents.now (read_snapshot_ids removed)) (read_refs refs) }
 {
-    let n = refs.count;
-    let mut i = 0;
-    while i < n {
-        if ref_reaches(office, refs.items[i], ids, parents, removed) {
+    for held in &refs.items[..refs.count] {
+        if ref_reaches(office, *held, ids, parents, removed) {
             return true;
         }
-        i += 1;
     }
     false
 }

@@ -25,15 +25,10 @@ fn log_names(log: SnapshotLog, ids: &[i64], removed: SnapshotIds) -> bool
     requires laid_snapshot_ids { LaidSnapshotIds removed }
     ensures { result ≡ any (entry_names ids.now (read_snapshot_ids removed)) (read_snapshot_log log) }
 {
-    let n = log.count;
-    let mut i = 0;
-    while i < n {
-        let e = log.items[i];
-        let id = e.snapshot_id;
-        if has_snapshot(removed, id) & is_held(ids, id) {
+    for entry in &log.items[..log.count] {
+        if has_snapshot(removed, entry.snapshot_id) & is_held(ids, entry.snapshot_id) {
             return true;
         }
-        i += 1;
     }
     false
 }

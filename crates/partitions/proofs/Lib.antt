@@ -1,14 +1,11 @@
 -- What the proofs of several functions cite, here and in the crates above.
-pub mod Scans
+mod Lent
 mod Twice
 mod Smallest
-mod Changed
-pub mod Named
-mod Given
+mod Named
 pub mod Reused
-mod Collected
 mod Overwritten
 mod Numbered
-mod Sequence
-pub mod Free
+mod Offered
+mod Free
 pub mod Taken

@@ -1,20 +1,25 @@
--- The names of fields in tables that are laid out.
-use Prim.Native.Nat.{ℕ, ◌<◌}
-use mathlib.Core.Path.{◌≡◌, ap}
-use lib.ListN.{get_or}
+-- The names of fields that are laid out.
+use Rattle.std.proofs.Common.{◌≡◌, ap}
+use Rattle.records.specs.declared.text.Name.{Name}
 use Rattle.records.specs.declared.schema.SchemaField.{SchemaField}
-use Rattle.records.specs.declared.schema.Schema.{Schema}
 use Rattle.records.specs.declared.partition.PartitionField.{PartitionField}
-use Rattle.records.specs.declared.partition.PartitionSpec.{PartitionSpec}
+use Rattle.rules.specs.Words.{same_bytes}
 use Rattle.rules.specs.Layout.{read_name, laid_name, laid_schema_field, laid_partition_field}
-use Rattle.tables.proofs.Table.{element_back}
-use Rattle.tables.proofs.Each.{tidy_schema, tidy_partition_spec}
-use Rattle.tables.specs.Laid.{LaidSchema, LaidSpec}
+use Rattle.equality.specs.Same.{same_name}
+use Rattle.equality.proofs.Told.{names_alike}
+use Rattle.partitions.specs.Slots.{LaidColumn, LaidField}
 
-pub column_name : {s : Schema} → LaidSchema s → (i : ℕ) (d : SchemaField) → i < s.count → laid_name (read_name (get_or s.items i d).name) ≡ (get_or s.items i d).name
+pub column_name : {f : SchemaField} → LaidColumn f → laid_name (read_name f.name) ≡ f.name
 unfolding laid_schema_field
-column_name h i d b = ap (λ (f : SchemaField). f.name) (element_back (tidy_schema h) i d b)
+column_name h = ap (λ (f : SchemaField). f.name) h
 
-pub field_name_lem : {p : PartitionSpec} → LaidSpec p → (i : ℕ) (d : PartitionField) → i < p.count → laid_name (read_name (get_or p.items i d).name) ≡ (get_or p.items i d).name
+pub field_name : {f : PartitionField} → LaidField f → laid_name (read_name f.name) ≡ f.name
 unfolding laid_partition_field
-field_name_lem h i d b = ap (λ (f : PartitionField). f.name) (element_back (tidy_partition_spec h) i d b)
+field_name h = ap (λ (f : PartitionField). f.name) h
+
+-- a name beside that of a column or of a field
+pub column_named : (f : SchemaField) (n : Name) → LaidColumn f → laid_name (read_name n) ≡ n → same_name f.name n ≡ same_bytes (read_name f.name) (read_name n)
+column_named f n h e = names_alike f.name n (column_name h) e
+
+pub field_named : (f : PartitionField) (n : Name) → LaidField f → laid_name (read_name n) ≡ n → same_name f.name n ≡ same_bytes (read_name f.name) (read_name n)
+field_named f n h e = names_alike f.name n (field_name h) e

@@ -4,11 +4,11 @@ use native.Mathlib.Omega.{arith}
 use native.Mathlib.Numerals.{add-one}
 use mathlib.Core.Path.{◌≡◌, refl, sym, ap, ◌∙◌}
 use mathlib.Core.Bool.{Bool, true, false, ◌||◌, or-false}
-use mathlib.Core.List.{List, [], ◌∷◌, ◌++◌, map, append-nil}
+use mathlib.Core.List.{List, [], ◌∷◌, map}
 use mathlib.Core.Option.{Option, none, some}
 use lib.IntN.{ℤ, pos}
-use lib.ListN.{length, get_or, take, drop, set, drop_of_length-le}
-use lib.Seq.{take_all, drop-cons}
+use lib.ListN.{length, get_or, drop, set, length-map, drop_of_length-le}
+use lib.Seq.{drop-cons}
 use lib.Signed.{lt_z}
 use mir.Syntax.{w32}
 use mir.Val.{SFits}
@@ -24,12 +24,12 @@ use Rattle.rules.specs.SpecUpdates.{with_field_id, next_free, numbered, fresh_id
 use Rattle.rules.specs.Layout.{pad, read_partition_field, laid_partition_field, read_partition_spec, laid_partition_spec}
 use Rattle.rules.proofs.Slots.Reread.{reread_partition_spec}
 use Rattle.tables.specs.Laid.{LaidSpec}
-use Rattle.tables.proofs.Table.{read_length, within, rest}
+use Rattle.tables.proofs.Table.{read_length}
 use Rattle.tables.proofs.Each.{tidy_partition_spec}
-use Rattle.partitions.specs.Numbering.{reached, with_fresh}
-use Rattle.partitions.proofs.Overwritten.{overwritten, overwrite}
+use Rattle.partitions.specs.Numbering.{reached, with_fresh, IsNumbered}
+use Rattle.partitions.proofs.Overwritten.{overwritten, overwrite, overwritten_all}
 
-abbrev too_large : ℤ → Bool
+abbrev pub too_large : ℤ → Bool
 too_large = lt_z (pos largest_field_id)
 
 -- ---- one field
@@ -100,74 +100,78 @@ numbered_length taken n (f ∷ fs) = ap length (numbered_cons taken n f fs) ∙ 
 -- ---- the loop over the fields
 
 -- of the fields the first i have their ids, none of which is too large, and the next goes on from the number
-pub record Numbering (taken : List ℤ) (start : ℤ) (p : PartitionSpec) (number : ℤ) (items : List PartitionField) (i : ℕ) : Type 0 where
-  pub fits : p.count ≤ partition_field_room
-  pub sofar : i ≤ p.count
+pub record Numbering (taken : List ℤ) (start : ℤ) (fields : List PartitionField) (number : ℤ) (items : List PartitionField) (i : ℕ) : Type 0 where
   pub small : SFits w32 number
-  pub over : any too_large (fresh_ids taken start (read_partition_spec p).fields) ≡ any too_large (fresh_ids taken number (drop i (read_partition_spec p).fields))
-  pub left : drop i (numbered taken start (read_partition_spec p).fields) ≡ numbered taken number (drop i (read_partition_spec p).fields)
-  pub made : items ≡ overwritten laid_partition_field partition_field_room no_partition_field (numbered taken start (read_partition_spec p).fields) (read_partition_spec p).fields i
+  pub over : any too_large (fresh_ids taken start (map read_partition_field fields)) ≡ any too_large (fresh_ids taken number (map read_partition_field (drop i fields)))
+  pub left : drop i (numbered taken start (map read_partition_field fields)) ≡ numbered taken number (map read_partition_field (drop i fields))
+  pub made : items ≡ overwritten laid_partition_field partition_field_room no_partition_field (numbered taken start (map read_partition_field fields)) (map read_partition_field fields) i
 
-abbrev old : PartitionSpec → List plain.PartitionField
-old p = (read_partition_spec p).fields
+module _ (taken : List ℤ) (start : ℤ) (fields : List PartitionField) where
+  abbrev old : List plain.PartitionField
+  old = map read_partition_field fields
 
-abbrev new : List ℤ → ℤ → PartitionSpec → List plain.PartitionField
-new taken start p = numbered taken start (old p)
+  abbrev new : List plain.PartitionField
+  new = numbered taken start old
 
-module _ (taken : List ℤ) (start : ℤ) {p : PartitionSpec} (h : LaidSpec p) where
-  old_long : length (old p) ≡ p.count
-  old_long = read_length (tidy_partition_spec h)
+  old_long : length old ≡ length fields
+  old_long = length-map fields read_partition_field
 
-  new_long : length (new taken start p) ≡ p.count
-  new_long = numbered_length taken start (old p) ∙ old_long
+  new_long : length new ≡ length fields
+  new_long = numbered_length taken start old ∙ old_long
 
-  pub numbering_start : SFits w32 start → Numbering taken start p start p.items 0
-  numbering_start f = record { fits = within (tidy_partition_spec h); sofar = omega arith; small = f; over = refl; left = refl; made = (tidy_partition_spec h).slots }
-
-  module _ {number : ℤ} {items : List PartitionField} {i : ℕ} (d : PartitionField) (b : i < p.count) (s : Numbering taken start p number items i) where
+  module _ {number : ℤ} {items : List PartitionField} {i : ℕ} (d : PartitionField) (b : i < length fields) (s : Numbering taken start fields number items i) where
     abbrev here : plain.PartitionField
-    here = read_partition_field (get_or p.items i d)
+    here = read_partition_field (get_or fields i d)
 
-    over_here : any too_large (fresh_ids taken start (old p)) ≡ any too_large (fresh_ids taken number (here ∷ [])) || any too_large (fresh_ids taken (reached taken number here) (drop (i + 1) (old p)))
-    over_here = s.over ∙ ap (λ (l : List plain.PartitionField). any too_large (fresh_ids taken number l)) (rest (tidy_partition_spec h) i d b) ∙ fresh_cons taken number here (drop (i + 1) (old p))
+    rest : map read_partition_field (drop i fields) ≡ here ∷ map read_partition_field (drop (i + 1) fields)
+    rest = rw (add-one, drop-cons fields i d b)
+
+    over_here : any too_large (fresh_ids taken start old) ≡ any too_large (fresh_ids taken number (here ∷ [])) || any too_large (fresh_ids taken (reached taken number here) (map read_partition_field (drop (i + 1) fields)))
+    over_here = s.over ∙ ap (λ (l : List plain.PartitionField). any too_large (fresh_ids taken number l)) rest ∙ fresh_cons taken number here (map read_partition_field (drop (i + 1) fields))
 
     -- an id would be too large
-    pub numbering_over : any too_large (fresh_ids taken number (here ∷ [])) ≡ true → true ≡ any too_large (fresh_ids taken start (old p))
+    pub numbering_over : any too_large (fresh_ids taken number (here ∷ [])) ≡ true → true ≡ any too_large (fresh_ids taken start old)
     numbering_over e = sym (over_here ∙ rw e)
 
-    left_here_lem : get_or (new taken start p) i here ∷ drop (i + 1) (new taken start p) ≡ with_fresh taken number here ∷ numbered taken (reached taken number here) (drop (i + 1) (old p))
+    left_here_lem : get_or new i here ∷ drop (i + 1) new ≡ with_fresh taken number here ∷ numbered taken (reached taken number here) (map read_partition_field (drop (i + 1) fields))
     left_here_lem =
-        let c : drop i (new taken start p) ≡ get_or (new taken start p) i here ∷ drop (i + 1) (new taken start p) = rw add-one (drop-cons (new taken start p) i here (omega (arith, new_long))) in
-        sym c ∙ s.left ∙ ap (numbered taken number) (rest (tidy_partition_spec h) i d b) ∙ numbered_cons taken number here (drop (i + 1) (old p))
+        let c : drop i new ≡ get_or new i here ∷ drop (i + 1) new = rw add-one (drop-cons new i here (omega (arith, new_long))) in
+        sym c ∙ s.left ∙ ap (numbered taken number) rest ∙ numbered_cons taken number here (map read_partition_field (drop (i + 1) fields))
 
-    pub numbering_on : {x : PartitionField} {k : ℤ} → any too_large (fresh_ids taken number (here ∷ [])) ≡ false → k ≡ reached taken number here → SFits w32 k
-        → x ≡ laid_partition_field (with_fresh taken number here) → Numbering taken start p k (set items i x) (i + 1)
-    numbering_on {x} {k} e q f y =
-        let g : get_or (new taken start p) i here ≡ with_fresh taken number here = cc left_here_lem in
-        let r : drop (i + 1) (new taken start p) ≡ numbered taken (reached taken number here) (drop (i + 1) (old p)) = cc left_here_lem in
+    pub numbering_on : {x : PartitionField} {k : ℤ} → IsNumbered taken number here k x → Numbering taken start fields k (set items i x) (i + 1)
+    numbering_on {x} {k} n =
+        let q = n.number_value in
+        let g : get_or new i here ≡ with_fresh taken number here = cc left_here_lem in
+        let r : drop (i + 1) new ≡ numbered taken (reached taken number here) (map read_partition_field (drop (i + 1) fields)) = cc left_here_lem in
         record {
-          fits = s.fits;
-          sofar = omega arith;
-          small = f;
-          over = over_here ∙ rw (e, q);
+          small = n.number_fits;
+          over = over_here ∙ rw (n.fresh_small, q);
           left = r ∙ rw q;
-          made = rw (s.made, y, ← g) (overwrite laid_partition_field partition_field_room no_partition_field (new taken start p) (old p) i here (omega (arith, old_long, new_long)) (omega (arith, old_long)));
+          made = rw (s.made, n.field_value, ← g) (overwrite laid_partition_field partition_field_room no_partition_field new old i here (omega (arith, old_long, new_long)) (omega (arith, old_long)));
         }
 
-  module _ {number : ℤ} {items : List PartitionField} {i : ℕ} (b : p.count ≤ i) (s : Numbering taken start p number items i) where
-    none_left : drop i (old p) ≡ []
-    none_left = drop_of_length-le (old p) {i = i} (omega (arith, old_long))
+  module _ {number : ℤ} {items : List PartitionField} {i : ℕ} (b : length fields ≤ i) (s : Numbering taken start fields number items i) where
+    none_left : drop i fields ≡ []
+    none_left = drop_of_length-le fields {i = i} b
 
-    pub numbering_none : false ≡ any too_large (fresh_ids taken start (old p))
+    pub numbering_none : false ≡ any too_large (fresh_ids taken start old)
     unfolding fresh_ids
     numbering_none = sym (s.over ∙ rw none_left)
 
-    pub numbering_end : record { spec_id = p.spec_id; items = items; count = p.count } ≡ laid_partition_spec (record { id = p.spec_id.0; fields = (new taken start p) })
-    unfolding laid_partition_spec
-    numbering_end =
-        let a : take i (new taken start p) ++ drop i (old p) ≡ (new taken start p) = rw (none_left, take_all i (new taken start p) (omega (arith, new_long))) (append-nil (new taken start p)) in
-        let e = s.made ∙ ap (λ (l : List plain.PartitionField). pad partition_field_room no_partition_field (map laid_partition_field l)) a in
-        λ j. record { spec_id = p.spec_id; items = e j; count = sym new_long j }
+    numbering_all : items ≡ pad partition_field_room no_partition_field (map laid_partition_field new)
+    numbering_all = s.made ∙ overwritten_all laid_partition_field partition_field_room no_partition_field new old i (omega (arith, new_long)) (omega (arith, old_long))
+
+module _ {p : PartitionSpec} (h : LaidSpec p) {fields : List PartitionField} (f : map read_partition_field fields ≡ (read_partition_spec p).fields) (last : ℤ) where
+  pub numbering_start : SFits w32 last → Numbering (partition_ids (read_partition_spec p)) last fields last p.items 0
+  numbering_start s = record { small = s; over = refl; left = refl; made = rw f (tidy_partition_spec h).slots }
+
+  pub numbering_end : {number : ℤ} {items : List PartitionField} {i : ℕ} → length fields ≤ i → Numbering (partition_ids (read_partition_spec p)) last fields number items i
+      → record { spec_id = p.spec_id; items = items; count = p.count } ≡ laid_partition_spec (completed last (read_partition_spec p))
+  unfolding laid_partition_spec completed
+  numbering_end b s =
+      let n : length (numbered (partition_ids (read_partition_spec p)) last (read_partition_spec p).fields) ≡ p.count = numbered_length (partition_ids (read_partition_spec p)) last (read_partition_spec p).fields ∙ read_length (tidy_partition_spec h) in
+      let e = numbering_all (partition_ids (read_partition_spec p)) last fields b s ∙ ap (λ (l : List plain.PartitionField). pad partition_field_room no_partition_field (map laid_partition_field (numbered (partition_ids (read_partition_spec p)) last l))) f in
+      λ j. record { spec_id = p.spec_id; items = e j; count = sym n j }
 
 -- a spec that is laid out from as many fields as another has
 pub completed_laid : {p r : PartitionSpec} (last : ℤ) → LaidSpec p → r ≡ laid_partition_spec (completed last (read_partition_spec p)) → LaidSpec r

@@ -1,11 +1,11 @@
 -- The elements of a table overwritten one by one, from the front, by those of another list as long.
-use Prim.Native.Nat.{ℕ, ◌+◌, ◌-◌, ◌<◌}
+use Prim.Native.Nat.{ℕ, ◌+◌, ◌-◌, ◌≤◌, ◌<◌}
 use native.Mathlib.Omega.{arith}
 use native.Mathlib.Numerals.{add-one}
 use mathlib.Core.Path.{◌≡◌, sym, ap, ◌∙◌}
-use mathlib.Core.List.{List, [], ◌∷◌, ◌++◌, map, map-append, append_assoc}
-use lib.ListN.{length, get_or, take, drop, set, replicate, length-append, length-map}
-use lib.Seq.{take-suc, drop-cons, set_at, length-take-le}
+use mathlib.Core.List.{List, [], ◌∷◌, ◌++◌, map, map-append, append_assoc, append-nil}
+use lib.ListN.{length, get_or, take, drop, set, replicate, length-append, length-map, get_or-map, drop_of_length-le}
+use lib.Seq.{take_all, take-suc, drop-cons, set_at, length-take-le}
 use Rattle.rules.specs.Layout.{pad}
 
 -- one slot of a padded list
@@ -41,3 +41,19 @@ module _ {A B : Type 0} (lay : B → A) (room : ℕ) (b : A) where
         ap (λ (l : List A). set (pad room b l) i (lay (get_or new i d))) at_old
         ∙ set_within room b (map lay (take i new)) (lay (get_or old i d)) (lay (get_or new i d)) (map lay (drop (i + 1) old)) i n
         ∙ ap (pad room b) (sym at_new)
+
+  pub overwritten_all : (new old : List B) (i : ℕ) → length new ≤ i → length old ≤ i → overwritten new old i ≡ pad room b (map lay new)
+  overwritten_all new old i h k =
+      let e : drop i old ≡ [] = drop_of_length-le old {i = i} k in
+      let a : take i new ++ drop i old ≡ new = rw (e, take_all i new h) (append-nil new) in
+      ap (λ (l : List B). pad room b (map lay l)) a
+
+  -- each element as a function makes it of what is read of it
+  module _ (read : A → B) (g : B → B) (xs : List A) where
+    pub overwrite_by : (i : ℕ) (d : A) {items : List A} {x : A} → i < length xs → items ≡ overwritten (map g (map read xs)) (map read xs) i → x ≡ lay (g (read (get_or xs i d))) → set items i x ≡ overwritten (map g (map read xs)) (map read xs) (i + 1)
+    overwrite_by i d {items} {x} k e q =
+        let old : List B = map read xs in
+        let m : length old ≡ length xs = length-map xs read in
+        let n : length (map g old) ≡ length old = length-map old g in
+        let f : get_or (map g old) i (g (read d)) ≡ g (read (get_or xs i d)) = get_or-map g old i (read d) ∙ ap g (get_or-map read xs i d) in
+        rw (e, q, ← f) (overwrite (map g old) old i (g (read d)) n (omega (arith, m)))

@@ -1,24 +1,22 @@
 -- The smallest of numbers, joined from parts: of the ids of fields that match, of one spec and of all.
-use Prim.Native.Nat.{ℕ, ◌+◌, ◌<◌}
 use mathlib.Core.Path.{◌≡◌, refl, sym, ap, ◌∙◌}
-use mathlib.Core.Bool.{true, false, cond, true≢false}
-use mathlib.Core.List.{List, [], ◌∷◌, ◌++◌}
+use mathlib.Core.Bool.{false, cond, true≢false}
+use mathlib.Core.List.{List, [], ◌∷◌, ◌++◌, map}
 use mathlib.Core.Option.{Option, none, some}
 use borrow.Table.Steps.{cases}
+use Prim.Native.Nat.{ℕ, ◌+◌, ◌<◌}
+use native.Mathlib.Numerals.{add-one}
 use lib.IntN.{ℤ}
-use lib.ListN.{get_or, drop}
+use lib.ListN.{length, get_or, drop}
+use lib.Seq.{drop-cons}
 use lib.Signed.{lt_z}
 use Rattle.records.specs.declared.partition.PartitionField.{PartitionField}
 use Rattle.records.specs.declared.partition.PartitionSpec.{PartitionSpec}
-use Rattle.records.specs.declared.partition.PartitionSpecs.{PartitionSpecs}
+use Rattle.rules.specs.Layout.{read_partition_field, read_partition_spec}
 use Rattle.rules.specs.Words.{lesser, smallest}
 use Rattle.rules.specs.Register as plain
 use Rattle.rules.specs.SpecUpdates.{is_like, like_ids, fields_of_all}
 use Rattle.rules.proofs.Orders.{numbers_ordered}
-use Rattle.rules.specs.Layout.{read_partition_field, read_partition_spec, read_partition_specs}
-use Rattle.tables.proofs.Table.{Tidy}
-use Rattle.tables.proofs.Each.{partition_fields, partition_specs}
-use Rattle.partitions.proofs.Scans.{Joins, Scanned, scan_on}
 
 -- ---- the smaller of two
 
@@ -50,12 +48,9 @@ lesser_bracketed (some a) none c = refl
 lesser_bracketed (some a) (some b) none = refl
 lesser_bracketed (some a) (some b) (some c) = ap some (least_bracketed a b c)
 
-lesser_alone : (a : Option ℤ) → lesser a none ≡ a
+pub lesser_alone : (a : Option ℤ) → lesser a none ≡ a
 lesser_alone none = refl
 lesser_alone (some a) = refl
-
-pub numbers_join : Joins lesser none
-numbers_join = record { bracketed = lesser_bracketed; alone = lesser_alone }
 
 -- ---- the smallest of a list
 
@@ -66,13 +61,13 @@ smallest_given (some y) l = refl
 -- ---- of the fields that match
 
 module _ (f : plain.PartitionField) where
-  abbrev pub of_fields : List plain.PartitionField → Option ℤ
+  abbrev of_fields : List plain.PartitionField → Option ℤ
   of_fields l = smallest (like_ids l f)
 
-  abbrev pub of_specs : List plain.PartitionSpec → Option ℤ
+  abbrev of_specs : List plain.PartitionSpec → Option ℤ
   of_specs l = of_fields (fields_of_all l)
 
-  pub one_field : (h : plain.PartitionField) (l : List plain.PartitionField) → of_fields (h ∷ l) ≡ lesser (cond (is_like f h) h.id none) (of_fields l)
+  one_field : (h : plain.PartitionField) (l : List plain.PartitionField) → of_fields (h ∷ l) ≡ lesser (cond (is_like f h) h.id none) (of_fields l)
   one_field h l = cases (is_like f h) (λ y. rw y (smallest_given h.id (like_ids l f))) (λ n. rw n)
 
   like_append : (l r : List plain.PartitionField) → of_fields (l ++ r) ≡ lesser (of_fields l) (of_fields r)
@@ -82,20 +77,24 @@ module _ (f : plain.PartitionField) where
       ∙ ap (lesser (cond (is_like f h) h.id none)) (like_append l r)
       ∙ sym (ap (λ (o : Option ℤ). lesser o (of_fields r)) (one_field h l) ∙ lesser_bracketed (cond (is_like f h) h.id none) (of_fields l) (of_fields r))
 
-  pub one_spec : (s : plain.PartitionSpec) (l : List plain.PartitionSpec) → of_specs (s ∷ l) ≡ lesser (of_fields s.fields) (of_specs l)
+  one_spec : (s : plain.PartitionSpec) (l : List plain.PartitionSpec) → of_specs (s ∷ l) ≡ lesser (of_fields s.fields) (of_specs l)
   one_spec s l = like_append s.fields (fields_of_all l)
 
--- ---- the loops
+-- ---- the loops: one more, joined to what was found before
 
-module _ (f : plain.PartitionField) {first got z u : Option ℤ} {i : ℕ} (e : u ≡ lesser got z) where
-  pub fields_on : {s : PartitionSpec} → Tidy partition_fields s → Scanned lesser partition_fields (of_fields f) s 0 i first got → (d : PartitionField) → i < s.count
-      → (let h = read_partition_field (get_or s.items i d) in z ≡ cond (is_like f h) h.id none) → Scanned lesser partition_fields (of_fields f) s 0 (i + 1) first u
-  fields_on {s} t g d b k =
-      let l : List plain.PartitionField = drop (i + 1) (read_partition_spec s).fields in
-      scan_on numbers_join t g d z b (one_field f (read_partition_field (get_or s.items i d)) l ∙ ap (λ (o : Option ℤ). lesser o (of_fields f l)) (sym k)) e
+module _ (f : plain.PartitionField) (best : Option ℤ) {z r : Option ℤ} (i : ℕ) where
+  pub fields_on : (fields : List PartitionField) (d : PartitionField) → i < length fields → z ≡ cond (is_like f (read_partition_field (get_or fields i d))) (read_partition_field (get_or fields i d)).id none → r ≡ lesser best z
+      → lesser best (smallest (like_ids (map read_partition_field (drop i fields)) f)) ≡ lesser r (smallest (like_ids (map read_partition_field (drop (i + 1) fields)) f))
+  fields_on fields d b k e =
+      let h : plain.PartitionField = read_partition_field (get_or fields i d) in
+      let l : List plain.PartitionField = map read_partition_field (drop (i + 1) fields) in
+      let m : map read_partition_field (drop i fields) ≡ h ∷ l = rw (add-one, drop-cons fields i d b) in
+      ap (λ (k : List plain.PartitionField). lesser best (of_fields f k)) m ∙ ap (lesser best) (one_field f h l) ∙ sym (lesser_bracketed best (cond (is_like f h) h.id none) (of_fields f l)) ∙ ap (λ (o : Option ℤ). lesser o (of_fields f l)) (sym (e ∙ ap (lesser best) k))
 
-  pub specs_on : {t : PartitionSpecs} → Tidy partition_specs t → Scanned lesser partition_specs (of_specs f) t 0 i first got → (d : PartitionSpec) → i < t.count
-      → z ≡ of_fields f (read_partition_spec (get_or t.items i d)).fields → Scanned lesser partition_specs (of_specs f) t 0 (i + 1) first u
-  specs_on {t} h g d b k =
-      let l : List plain.PartitionSpec = drop (i + 1) (read_partition_specs t) in
-      scan_on numbers_join h g d z b (one_spec f (read_partition_spec (get_or t.items i d)) l ∙ ap (λ (o : Option ℤ). lesser o (of_specs f l)) (sym k)) e
+  pub specs_on : (specs : List PartitionSpec) (d : PartitionSpec) → i < length specs → z ≡ smallest (like_ids (read_partition_spec (get_or specs i d)).fields f) → r ≡ lesser best z
+      → lesser best (smallest (like_ids (fields_of_all (map read_partition_spec (drop i specs))) f)) ≡ lesser r (smallest (like_ids (fields_of_all (map read_partition_spec (drop (i + 1) specs))) f))
+  specs_on specs d b k e =
+      let s : plain.PartitionSpec = read_partition_spec (get_or specs i d) in
+      let l : List plain.PartitionSpec = map read_partition_spec (drop (i + 1) specs) in
+      let m : map read_partition_spec (drop i specs) ≡ s ∷ l = rw (add-one, drop-cons specs i d b) in
+      ap (λ (k : List plain.PartitionSpec). lesser best (of_specs f k)) m ∙ ap (lesser best) (one_spec f s l) ∙ sym (lesser_bracketed best (of_fields f s.fields) (of_specs f l)) ∙ ap (λ (o : Option ℤ). lesser o (of_specs f l)) (sym (e ∙ ap (lesser best) k))

@@ -1,40 +1,11 @@
--- No two elements of a table are the same: a loop asks of each whether one after it is. The elements may be compared by what each gives.
-use Prim.Native.Nat.{ℕ, ◌+◌, ◌≤◌, ◌<◌}
+-- No two elements of a list are the same, compared by what each gives.
 use mathlib.Core.Path.{◌≡◌, refl, sym, ap, ap₂, ◌∙◌}
-use mathlib.Core.Bool.{Bool, true, false, not, ◌&&◌, ◌||◌, not-not}
+use mathlib.Core.Bool.{Bool, false, not, ◌&&◌, ◌||◌}
 use mathlib.Core.List.{List, [], ◌∷◌, map}
 use mathlib.Core.Option.{Option, none, some}
-use lib.ListN.{get_or, drop}
 use Rattle.rules.specs.Words.{any, some_with, collect, unequal_by}
 use Rattle.rules.proofs.Tables.{any_none}
-use Rattle.tables.proofs.Table.{Kind, Tidy, listed}
 use Rattle.tables.proofs.Search.{any_map}
-use Rattle.partitions.proofs.Scans.{Scanned, scan_start, scan_on, scan_end, tests_join}
-
--- ---- the loop
-
-abbrev twice : {A : Type 0} → (A → A → Bool) → List A → Bool
-twice same l = not (unequal_by same l)
-
-not_and : (a b : Bool) → not (not a && b) ≡ (a || not b)
-not_and true b = refl
-not_and false b = refl
-
-pub record Apart (K : Kind) (same : K.Plain → K.Plain → Bool) (t : K.Whole) (i : ℕ) (got : Bool) : Type 0 where
-  pub scanned : Scanned ◌||◌ K (twice same) t 0 i false got
-
-module _ {K : Kind} {same : K.Plain → K.Plain → Bool} {t : K.Whole} (h : Tidy K t) where
-  pub apart_start : Apart K same t 0 false
-  apart_start = record { scanned = scan_start tests_join h }
-
-  module _ {i : ℕ} {got : Bool} (s : Apart K same t i got) where
-    pub apart_on : (d : K.Slot) {z : Bool} → i < K.count t → z ≡ any (same (K.read (get_or (K.items t) i d))) (drop (i + 1) (listed K t)) → Apart K same t (i + 1) (got || z)
-    apart_on d {z} b e =
-        let l : List K.Plain = drop (i + 1) (listed K t) in
-        record { scanned = scan_on tests_join h s.scanned d z b (not_and (any (same (K.read (get_or (K.items t) i d))) l) (unequal_by same l) ∙ ap (λ (y : Bool). y || twice same l) (sym e)) refl }
-
-    pub apart_end : K.count t ≤ i → not got ≡ unequal_by same (listed K t)
-    apart_end b = ap not (scan_end tests_join h s.scanned b refl) ∙ not-not (unequal_by same (listed K t))
 
 -- ---- by what each gives
 

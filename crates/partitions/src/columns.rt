@@ -2,93 +2,85 @@
 ghost use Rattle.std.specs.Prelude.{◌≡◌};
 ghost use Rattle.rules.specs.Words.{any};
 ghost use Rattle.rules.specs.SpecUpdates.{clashes_with, is_clashing, is_source, is_misfit};
-ghost use Rattle.rules.specs.Layout.{read_name, laid_name, read_schema_field, read_schema, read_partition_field, read_partition_spec};
+ghost use Rattle.rules.specs.Layout.{read_schema_field, read_schema, read_partition_field, read_partition_spec};
 ghost use Rattle.tables.specs.Laid.{LaidSchema, LaidSpec};
+ghost use Rattle.partitions.specs.Slots.{LaidColumn, LaidField};
 
+use crate::names::is_column_named;
 use crate::pairs::is_time;
-use equality::ids::same_field;
-use equality::text::same_name;
+use crate::slots::{columns_of, fields_of};
 use records::partition::{IDENTITY, PartitionField, PartitionSpec};
 use records::schema::{LONG, Schema, SchemaField};
 
 // The column has the name of the partition, unless the partition is that column as it is.
-fn clashes_with(f: PartitionField, column: SchemaField) -> bool
-    requires name_value { laid_name (read_name f.name) ≡ f.name }
-    requires name_value_2 { laid_name (read_name column.name) ≡ column.name }
-    ensures { result ≡ clashes_with (read_partition_field f) (read_schema_field column) }
+#[tactic(auto, using(crate::proofs::Named::field_name))]
+fn clashes_with(field: PartitionField, column: SchemaField) -> bool
+    requires laid_field { LaidField field }
+    requires laid_column { LaidColumn column }
+    ensures { result ≡ clashes_with (read_partition_field field) (read_schema_field column) }
 {
-    same_name(column.name, f.name)
-        & !((f.transform == IDENTITY) & same_field(column.id, f.source_id))
+    is_column_named(column, field.name)
+        && !(field.transform == IDENTITY && column.id == field.source_id)
 }
 
-fn clashes(f: PartitionField, s: Schema) -> bool
-    requires name_value { laid_name (read_name f.name) ≡ f.name }
-    requires laid_schema { LaidSchema s }
-    ensures { result ≡ any (clashes_with (read_partition_field f)) (read_schema s).fields }
+fn clashes(field: PartitionField, schema: Schema) -> bool
+    requires laid_field { LaidField field }
+    requires laid_schema { LaidSchema schema }
+    ensures { result ≡ any (clashes_with (read_partition_field field)) (read_schema schema).fields }
 {
-    let n = s.count;
-    let mut ok = false;
-    let mut i = 0;
-    while i < n {
-        let x = s.items[i];
-        ok = ok | clashes_with(f, x);
-        i += 1;
+    for column in columns_of(&schema) {
+        if clashes_with(field, *column) {
+            return true;
+        }
     }
-    ok
+    false
 }
 
 // A field has the name of a column.
+#[tactic(auto, unfolding(rules::specs::SpecUpdates::is_clashing))]
 pub fn is_clashing(p: PartitionSpec, s: Schema) -> bool
     requires laid_spec { LaidSpec p }
     requires laid_schema { LaidSchema s }
     ensures { result ≡ is_clashing (read_schema s).fields (read_partition_spec p) }
 {
-    let n = p.count;
-    let mut ok = false;
-    let mut i = 0;
-    while i < n {
-        let f = p.items[i];
-        ok = ok | clashes(f, s);
-        i += 1;
+    for field in fields_of(&p) {
+        if clashes(*field, s) {
+            return true;
+        }
     }
-    ok
+    false
 }
 
 // The column is the field's source; year, month and day want a timestamp.
-fn is_source(f: PartitionField, column: SchemaField) -> bool
-    ensures { result ≡ is_source (read_partition_field f) (read_schema_field column) }
+fn is_source(field: PartitionField, column: SchemaField) -> bool
+    ensures { result ≡ is_source (read_partition_field field) (read_schema_field column) }
 {
-    same_field(column.id, f.source_id) & !(is_time(f.transform) & (column.field_type == LONG))
+    column.id == field.source_id && !(is_time(field.transform) && column.field_type == LONG)
 }
 
-fn has_source(f: PartitionField, s: Schema) -> bool
-    requires { LaidSchema s }
-    ensures { result ≡ any (is_source (read_partition_field f)) (read_schema s).fields }
+fn has_source(field: PartitionField, schema: Schema) -> bool
+    requires { LaidSchema schema }
+    ensures { result ≡ any (is_source (read_partition_field field)) (read_schema schema).fields }
 {
-    let n = s.count;
-    let mut ok = false;
-    let mut i = 0;
-    while i < n {
-        let x = s.items[i];
-        ok = ok | is_source(f, x);
-        i += 1;
+    for column in columns_of(&schema) {
+        if is_source(field, *column) {
+            return true;
+        }
     }
-    ok
+    false
 }
 
 // A field has no source among the columns.
+#[tactic(auto, unfolding(rules::specs::SpecUpdates::is_misfit))]
 pub fn is_misfit(p: PartitionSpec, s: Schema) -> bool
     requires laid_spec { LaidSpec p }
     requires laid_schema { LaidSchema s }
     ensures { result ≡ is_misfit (read_schema s).fields (read_partition_spec p) }
 {
-    let n = p.count;
-    let mut ok = false;
-    let mut i = 0;
-    while i < n {
-        let f = p.items[i];
-        ok = ok | !has_source(f, s);
-        i += 1;
+    for field in fields_of(&p) {
+        if !has_source(*field, s) {
+            return true;
+        }
     }
-    ok
+    false
 }

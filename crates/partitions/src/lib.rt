@@ -10,3 +10,4 @@ pub mod offer;
 pub mod pairs;
 pub mod repeats;
 pub mod reuse;
+mod slots;

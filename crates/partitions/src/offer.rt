@@ -4,6 +4,7 @@ ghost use Rattle.rules.specs.SpecUpdates.{spec_offered_as};
 ghost use Rattle.rules.specs.Layout.{read_partition_spec, read_spec_offer, laid_spec_offer};
 ghost use Rattle.tables.specs.Laid.{LaidSpec};
 
+use crate::slots::fields_of;
 use records::capacities::PARTITION_FIELDS;
 use records::partition::{OfferedId, PartitionSpec, SpecOffer};
 
@@ -12,23 +13,18 @@ pub fn logged_offer(o: SpecOffer, p: PartitionSpec) -> SpecOffer
     requires { LaidSpec p }
     ensures { result ≡ laid_spec_offer (spec_offered_as (read_partition_spec p) (read_spec_offer o)) }
 {
-    let n = p.count;
-    let none = OfferedId::blank();
-    let mut ids = [none; PARTITION_FIELDS];
-    let mut i = 0;
-    while i < n {
-        let f = p.items[i];
-        let given = f.has_id;
-        let id = f.field_id;
-        ids[i] = OfferedId { given, id };
-        i += 1;
+    let fields = fields_of(&p);
+    let mut ids = [OfferedId::blank(); PARTITION_FIELDS];
+    for (i, field) in fields.iter().enumerate() {
+        ids[i] = OfferedId {
+            given: field.has_id,
+            id: field.field_id,
+        };
     }
-    let spec_id = p.spec_id;
-    let at = o.at;
     SpecOffer {
-        spec_id,
-        at,
-        count: n,
+        spec_id: p.spec_id,
+        at: o.at,
+        count: p.count,
         ids,
     }
 }

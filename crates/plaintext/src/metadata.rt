@@ -10,13 +10,13 @@ use cards::table::{
 use records::metadata::{MetadataLog, SingleFields, TableMetadata};
 use tokens::output::Output;
 
-pub fn say_files(output: &mut Output, end: &mut usize, heading: &[u8], log: MetadataLog) {
-    say_heading(output, end, heading, log.count);
-    say_elements(output, end, only_files(log), OF_FILES);
+pub fn say_files(output: &mut Output, heading: &[u8], log: MetadataLog) {
+    say_heading(output, heading, log.count);
+    say_elements(output, only_files(log), OF_FILES);
 }
 
 // What goes with the partition specs is said where they are.
-fn say_fields(output: &mut Output, end: &mut usize, fields: SingleFields, with_specs: bool) {
+fn say_fields(output: &mut Output, fields: SingleFields, with_specs: bool) {
     let first = b"  format version: #0\
         \n  uuid: ^\n";
     let others = b"  location: $\
@@ -29,14 +29,14 @@ fn say_fields(output: &mut Output, end: &mut usize, fields: SingleFields, with_s
         \n  default sort order: #6\n";
     let last = b";  default partition spec: #0\
         \n  last partition id: #1\n";
-    say_part(output, end, first, 0, 0, identity(fields));
-    say_part(output, end, others, 0, 0, single_fields(fields));
+    say_part(output, first, 0, 0, identity(fields));
+    say_part(output, others, 0, 0, single_fields(fields));
     let chosen = chosen_of(fields, OF_PARTITION_SPECS);
-    say_part(output, end, last, with_specs as usize, 0, chosen);
+    say_part(output, last, with_specs as usize, 0, chosen);
 }
 
 // A template for each table. Few tables have statistics, so an empty one is passed over.
-fn say_table(output: &mut Output, end: &mut usize, metadata: TableMetadata, table: usize) {
+fn say_table(output: &mut Output, metadata: TableMetadata, table: usize) {
     let headings = b"  snapshots: %0\n\
         ;  refs: %0\n\
         ;  snapshot log: %0\n\
@@ -47,8 +47,8 @@ fn say_table(output: &mut Output, end: &mut usize, metadata: TableMetadata, tabl
         ;?0{|  partition statistics: %0\n}\
         ;  partition specs: %0\n";
     let counts = counted(count_of(metadata, table), 0);
-    say_part(output, end, headings, table, 0, counts);
-    say_elements(output, end, metadata, table);
+    say_part(output, headings, table, 0, counts);
+    say_elements(output, metadata, table);
 }
 
 // The tables in the order of their numbers, but that refs stand before snapshots.
@@ -69,13 +69,11 @@ fn tables_told(with_specs: bool) -> usize {
     }
 }
 
-pub fn say_metadata(output: &mut Output, end: &mut usize, metadata: TableMetadata) {
+pub fn say_metadata(output: &mut Output, metadata: TableMetadata) {
     let with_specs = are_specs_told(metadata);
-    say_fields(output, end, metadata.fields, with_specs);
+    say_fields(output, metadata.fields, with_specs);
     let n = tables_told(with_specs);
-    let mut i = 0;
-    while i < n {
-        say_table(output, end, metadata, told(i));
-        i += 1;
+    for i in 0..n {
+        say_table(output, metadata, told(i));
     }
 }

@@ -59,41 +59,37 @@ fn in_uuid(byte: u8, at: usize) -> Spelled {
     }
 }
 
-fn say_spelled(output: &mut Output, end: &mut usize, spelled: Spelled) {
+fn say_spelled(output: &mut Output, spelled: Spelled) {
     let bytes = spelled.bytes;
     let slots: &[u8] = &bytes;
     let n = lent(slots, spelled.len);
-    say(output, end, &slots[..n]);
+    say(output, &slots[..n]);
 }
 
 // The counted bytes that have a slot.
-pub fn say_escaped(output: &mut Output, end: &mut usize, slots: &[u8], len: usize) {
+pub fn say_escaped(output: &mut Output, slots: &[u8], len: usize) {
     let n = with_slots(len, slots.len());
-    let mut i = 0;
-    while i < n {
-        say_spelled(output, end, in_name(slots[i]));
-        i += 1;
+    for &byte in &slots[..n] {
+        say_spelled(output, in_name(byte));
     }
 }
 
-pub fn say_name(output: &mut Output, end: &mut usize, slots: &[u8], len: usize) {
-    say(output, end, b"\"");
-    say_escaped(output, end, slots, len);
-    say(output, end, b"\"");
-    say_left_out(output, end, len, slots.len());
+pub fn say_name(output: &mut Output, slots: &[u8], len: usize) {
+    say(output, b"\"");
+    say_escaped(output, slots, len);
+    say(output, b"\"");
+    say_left_out(output, len, slots.len());
 }
 
-pub fn say_text(output: &mut Output, end: &mut usize, text: Text) {
+pub fn say_text(output: &mut Output, text: Text) {
     let bytes = text.bytes;
     let slots: &[u8] = &bytes;
     let n = lent(slots, text.slots);
-    say_name(output, end, &slots[..n], text.len);
+    say_name(output, &slots[..n], text.len);
 }
 
-pub fn say_uuid(output: &mut Output, end: &mut usize, uuid: Text) {
-    let mut i = 0;
-    while i < 16 {
-        say_spelled(output, end, in_uuid(uuid.bytes[i], i));
-        i += 1;
+pub fn say_uuid(output: &mut Output, uuid: Text) {
+    for (i, &byte) in uuid.bytes[..16].iter().enumerate() {
+        say_spelled(output, in_uuid(byte, i));
     }
 }

@@ -5,15 +5,15 @@ use records::replies::START_NOT_FORMED;
 use tokens::output::Output;
 
 // As `refused 21 at 1`.
-fn say_refused(output: &mut Output, end: &mut usize, number: u8, place: usize) {
-    say(output, end, b"refused ");
-    say_u8(output, end, number);
-    say(output, end, b" at ");
-    say_count(output, end, place);
+fn say_refused(output: &mut Output, number: u8, place: usize) {
+    say(output, b"refused ");
+    say_u8(output, number);
+    say(output, b" at ");
+    say_count(output, place);
 }
 
 // A fault of metadata or of a run's start, by its number of the crate `faults`. A line stands for each number.
-pub fn say_fault(output: &mut Output, end: &mut usize, fault: u8) {
+pub fn say_fault(output: &mut Output, fault: u8) {
     let faults = b"none\n\
         format version: not 1, 2 or 3\n\
         location: longer than 96 bytes, or an unused byte is not 0\n\
@@ -49,12 +49,12 @@ pub fn say_fault(output: &mut Output, end: &mut usize, fault: u8) {
         current snapshot: it and ref `main` disagree\n\
         current schema: not held\ndefault sort order: not held\ndefault partition spec: not held\n\
         current metadata file: its name is longer than 96 bytes\nrefs: an owner is not 1 or 2, or that of `main` is not 1\n";
-    say_line(output, end, faults, fault as usize);
+    say_line(output, faults, fault as usize);
 }
 
 // What a run is refused for: its numbers are 1 to 23, 26, 31 to 35 and 39. A line stands for each number, also for the two of a walk; those of 27 to 30 and
 // of 36 to 38, which are no answers yet, are empty.
-fn say_number(output: &mut Output, end: &mut usize, number: u8) {
+fn say_number(output: &mut Output, number: u8) {
     let reasons = b"accepted\n\
         the start is not well formed\n\
         list sum above 64\n\
@@ -88,16 +88,16 @@ fn say_number(output: &mut Output, end: &mut usize, number: u8) {
         default spec removed\n\
         not this office's to change: the other's ref, a snapshot that the other needs, or what office 1 keeps\n\n\n\n\
         office not 1 or 2\n";
-    say_line(output, end, reasons, number as usize);
+    say_line(output, reasons, number as usize);
 }
 
 // As `refused 12 at 0: ref to a snapshot not held`; of a start that is not well formed, its first fault too.
-pub fn say_refusal(output: &mut Output, end: &mut usize, number: u8, place: usize, fault: u8) {
-    say_refused(output, end, number, place);
-    say(output, end, b": ");
-    say_number(output, end, number);
+pub fn say_refusal(output: &mut Output, number: u8, place: usize, fault: u8) {
+    say_refused(output, number, place);
+    say(output, b": ");
+    say_number(output, number);
     if number == START_NOT_FORMED {
-        say(output, end, b": ");
-        say_fault(output, end, fault);
+        say(output, b": ");
+        say_fault(output, fault);
     }
 }

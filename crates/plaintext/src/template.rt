@@ -123,27 +123,20 @@ fn said(r: Reading, byte: u8, template: usize, part: usize) -> u8 {
     if mark == NO_MARK { kind_of(byte) } else { mark }
 }
 
-fn say_mark(output: &mut Output, end: &mut usize, mark: u8, byte: u8, card: Card) {
+fn say_mark(output: &mut Output, mark: u8, byte: u8, card: Card) {
     match mark {
-        ITSELF => say_byte(output, end, byte),
-        b'#' => say_i64(output, end, signed_at(card, digit(byte))),
-        b'%' => say_u64(output, end, unsigned_at(card, digit(byte))),
-        b'@' => say_date(output, end, Time(signed_at(card, digit(byte)))),
-        b'$' => say_text(output, end, card.text),
-        b'^' => say_uuid(output, end, card.text),
+        ITSELF => say_byte(output, byte),
+        b'#' => say_i64(output, signed_at(card, digit(byte))),
+        b'%' => say_u64(output, unsigned_at(card, digit(byte))),
+        b'@' => say_date(output, Time(signed_at(card, digit(byte)))),
+        b'$' => say_text(output, card.text),
+        b'^' => say_uuid(output, card.text),
         _ => {}
     }
 }
 
 // One part of one template.
-pub fn say_part(
-    output: &mut Output,
-    end: &mut usize,
-    templates: &[u8],
-    template: usize,
-    part: usize,
-    card: Card,
-) {
+pub fn say_part(output: &mut Output, templates: &[u8], template: usize, part: usize, card: Card) {
     let mut reading = Reading {
         template: 0,
         part: 0,
@@ -152,12 +145,9 @@ pub fn say_part(
         option: 0,
         is_said: true,
     };
-    let mut i = 0;
-    while i < templates.len() {
-        let byte = templates[i];
+    for &byte in templates {
         let mark = said(reading, byte, template, part);
-        say_mark(output, end, mark, byte, card);
+        say_mark(output, mark, byte, card);
         reading = after(reading, byte, card);
-        i += 1;
     }
 }

@@ -40,7 +40,7 @@ fn template_of(kind: u8) -> usize {
 }
 
 // A template for each kind, in the order of their numbers.
-fn say_card(output: &mut Output, end: &mut usize, card: Card) {
+fn say_card(output: &mut Output, card: Card) {
     let templates = b"update of unknown kind #0\
         ;assign uuid ^\
         ;upgrade to format version #0\
@@ -62,41 +62,27 @@ fn say_card(output: &mut Output, end: &mut usize, card: Card) {
         ;add partition spec \
         ;set default partition spec to #0?1{| (the last added)}\
         ;remove partition specs ";
-    say_part(output, end, templates, template_of(card.kind), 0, card);
-    say_record(output, end, record_of(card.kind), card);
+    say_part(output, templates, template_of(card.kind), 0, card);
+    say_record(output, record_of(card.kind), card);
 }
 
-pub fn say_update(output: &mut Output, end: &mut usize, u: TableUpdate, offers: &[u8]) {
-    say_card(output, end, update(u, offers));
+pub fn say_update(output: &mut Output, u: TableUpdate, offers: &[u8]) {
+    say_card(output, update(u, offers));
 }
 
 // With its place from 0.
-fn say_update_line(
-    output: &mut Output,
-    end: &mut usize,
-    list: UpdateList,
-    i: usize,
-    offers: &[u8],
-) {
-    say_part(output, end, b"    %0: ", 0, 0, counted(i, 0));
-    say_card(output, end, update_at(list, i, offers));
-    say(output, end, b"\n");
+fn say_update_line(output: &mut Output, list: UpdateList, i: usize, offers: &[u8]) {
+    say_part(output, b"    %0: ", 0, 0, counted(i, 0));
+    say_card(output, update_at(list, i, offers));
+    say(output, b"\n");
 }
 
-pub fn say_updates(
-    output: &mut Output,
-    end: &mut usize,
-    heading: &[u8],
-    list: UpdateList,
-    offers: &[u8],
-) {
+pub fn say_updates(output: &mut Output, heading: &[u8], list: UpdateList, offers: &[u8]) {
     let count = list.count;
-    say_heading(output, end, heading, count);
+    say_heading(output, heading, count);
     let n = with_slots(count, UPDATES);
-    let mut i = 0;
-    while i < n {
-        say_update_line(output, end, list, i, offers);
-        i += 1;
+    for i in 0..n {
+        say_update_line(output, list, i, offers);
     }
-    say_end(output, end, count, UPDATES);
+    say_end(output, count, UPDATES);
 }

@@ -1,18 +1,18 @@
 -- The limit that digits write, one digit after another: what is left to read, after the number so far, decides it.
 use Prim.Native.Nat.{ℕ, ◌+◌, ◌-◌, ◌*◌, ◌≤◌, ◌<◌, max}
-use mathlib.Core.Path.{◌≡◌, refl, sym, ◌∙◌}
-use mathlib.Core.Bool.{true, false, true≢false, cond, ◌&&◌}
+use mathlib.Core.Path.{◌≡◌, refl}
+use mathlib.Core.Bool.{true, false, cond, ◌&&◌}
 use mathlib.Core.List.{List, [], ◌∷◌}
 use native.Mathlib.Numerals.{add-one}
 use native.Mathlib.Omega.{arith}
-use borrow.Author.Tests.{le-leb, lt-leb, leb-true, eq-eqb, ne_eqb}
+use borrow.Author.Tests.{le-leb, lt-leb}
 use borrow.Table.Steps.{cases}
 use lib.Dec.{leb}
-use lib.ListN.{length, get_or, drop, take, drop_of_length-le}
-use lib.Seq.{drop-cons, take_all}
+use lib.ListN.{length, get_or, drop, drop_of_length-le}
+use lib.Seq.{drop-cons}
 use Rattle.rules.specs.Words.{all}
 use Rattle.rules.specs.Capacities.{largest_unsigned}
-use Rattle.rules.specs.Limit.{after_plus, is_digit, decimal, default_limit}
+use Rattle.rules.specs.Limit.{is_digit, decimal, default_limit}
 use Rattle.primitives.specs.Limit.{digits_limit}
 
 -- the limit that the number so far and the digits after it write
@@ -51,16 +51,3 @@ pub too_large_lem : (v : ℕ) (bs : List ℕ) → largest_unsigned < v → limit
 unfolding limit_from
 too_large_lem v bs h =
     rw (lt-leb (decimal v bs) largest_unsigned (omega (arith, grows v bs))) (cases (all is_digit bs) (λ t. rw t) (λ f. rw f))
-
--- a digit lies from `0` to `9`
-pub digit_from : (b : ℕ) → is_digit b ≡ true → (48 ≤ b) × (b ≤ 57)
-digit_from b e = cases (leb 48 b) (λ t. (leb-true 48 b t, leb-true b 57 (rw t at e))) (λ f. absurd (true≢false (sym e ∙ rw f)))
-
--- a text without a `+`, and with one
-pub no_plus : (text : List ℕ) → (get_or text 0 0 ≡ 43 → ⊥) → text ≡ after_plus text
-no_plus [] h = refl
-no_plus (b ∷ bs) h = rw (ne_eqb b 43 h)
-
-pub past_plus : (text : List ℕ) → (length text ≡ 0 → ⊥) → get_or text 0 0 ≡ 43 → take (length text - 1) (drop 1 text) ≡ after_plus text
-past_plus [] h e = absurd (h refl)
-past_plus (b ∷ bs) h e = take_all (length (b ∷ bs) - 1) bs (omega arith) ∙ rw (eq-eqb b 43 e)

@@ -1,8 +1,5 @@
 -- What the proofs of several functions cite.
-mod Tests
-mod Digits
+pub mod Digits
 pub mod Bytes
 mod Slashes
-mod Differences
-mod Spans
 pub mod Unique

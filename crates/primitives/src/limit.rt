@@ -1,5 +1,5 @@
 // The limit of the metadata log, from the text of its property.
-ghost use Rattle.std.specs.Prelude.{◌≡◌, ◌+◌, ◌*◌, leb};
+ghost use Rattle.std.specs.Prelude.{◌≡◌, ◌+◌, ◌*◌, ◌<◌, ◌≤◌, MatchOption};
 ghost use Rattle.rules.specs.Capacities.{largest_unsigned};
 ghost use Rattle.rules.specs.Limit.{after_plus, is_digit, limit_of};
 ghost use Rattle.primitives.specs.Limit.{digits_limit};
@@ -9,61 +9,48 @@ const DEFAULT_LIMIT: u64 = 100;
 fn is_digit(byte: u8) -> bool
     ensures { result ≡ is_digit byte }
 {
-    b'0' <= byte && byte <= b'9'
+    byte.is_ascii_digit()
 }
 
-fn wide(byte: u8) -> u64
-    ensures { result ≡ byte }
+// The number with one more digit, if it is at most 2^64 - 1.
+fn with_digit(number: u64, digit: u8) -> Option<u64>
+    requires { digit < 10 }
+    ensures { MatchOption result (largest_unsigned < number * 10 + digit) (λ more. (more ≡ number * 10 + digit) × (more ≤ largest_unsigned)) }
 {
-    byte as u64
-}
-
-// Whether the number with one more digit is at most 2^64 - 1.
-fn has_room(number: u64, digit: u64) -> bool
-    ensures { result ≡ leb (number * 10 + digit) largest_unsigned }
-{
-    if number > u64::MAX / 10 {
-        return false;
-    }
-    digit <= u64::MAX - number * 10
+    number.checked_mul(10)?.checked_add(u64::from(digit))
 }
 
 // The limit that digits write. Zeros in front leave the number at 0, however many there are.
+#[tactic(auto, using(crate::proofs::Digits::no_digits, crate::proofs::Digits::at_first, crate::proofs::Digits::at_last, crate::proofs::Digits::not_digit, crate::proofs::Digits::one_digit, crate::proofs::Digits::too_large_lem))]
 fn digits_limit(digits: &[u8]) -> u64
     ensures { result ≡ digits_limit digits.now }
 {
-    if digits.len() == 0 {
+    if digits.is_empty() {
         return DEFAULT_LIMIT;
     }
     let mut number: u64 = 0;
-    let mut i = 0;
-    while i < digits.len() {
-        let byte = digits[i];
-        if !is_digit(byte) {
+    for byte in digits {
+        if !is_digit(*byte) {
             return DEFAULT_LIMIT;
         }
-        let digit = wide(byte - b'0');
-        if !has_room(number, digit) {
-            return DEFAULT_LIMIT;
+        match with_digit(number, *byte - b'0') {
+            Some(more) => number = more,
+            None => return DEFAULT_LIMIT,
         }
-        number = number * 10 + digit;
-        i += 1;
     }
-    if number == 0 { 1 } else { number }
+    number.max(1)
 }
 
 fn after_plus(text: &[u8]) -> &[u8]
     ensures { result.now ≡ after_plus text.now }
 {
-    if text.len() == 0 {
-        return text;
+    match text {
+        [b'+', rest @ ..] => rest,
+        _ => text,
     }
-    if text[0] == b'+' {
-        return &text[1..];
-    }
-    text
 }
 
+#[tactic(auto, unfolding(crate::specs::Limit::digits_limit, rules::specs::Limit::limit_of))]
 pub fn limit(text: &[u8]) -> u64
     ensures { result ≡ limit_of text.now }
 {

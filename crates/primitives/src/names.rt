@@ -6,36 +6,20 @@ ghost use Rattle.rules.specs.Names.{is_main, name_below};
 pub fn same_bytes(a: &[u8], b: &[u8]) -> bool
     ensures { result ≡ same_bytes a.now b.now }
 {
-    if a.len() != b.len() {
-        return false;
-    }
-    let mut i = 0;
-    while i < a.len() {
-        if a[i] != b[i] {
-            return false;
-        }
-        i += 1;
-    }
-    true
+    a == b
 }
 
 // Byte order, a prefix first.
+#[tactic(auto, using(crate::proofs::Bytes::below_on, crate::proofs::Bytes::below_here, crate::proofs::Bytes::below_end, crate::proofs::Bytes::below_prefix))]
 pub fn name_below(a: &[u8], b: &[u8]) -> bool
     ensures { result ≡ name_below a.now b.now }
 {
-    let mut i = 0;
-    while i < b.len() {
-        if i == a.len() {
-            return true;
+    for (x, y) in a.iter().zip(b) {
+        if *x != *y {
+            return *x < *y;
         }
-        let x = a[i];
-        let y = b[i];
-        if x != y {
-            return x < y;
-        }
-        i += 1;
     }
-    false
+    a.len() < b.len()
 }
 
 pub fn is_main(name: &[u8]) -> bool

@@ -12,23 +12,24 @@ pub struct RowsChecked {
     pub next: RowId,
 }
 
+#[tactic(auto, unfolding(crate::specs::Answers::rows_checked, rules::specs::RowIds::row_number, rules::specs::RowIds::row_next))]
 pub fn check_rows(next: RowId, first: RowId, added: u64) -> RowsChecked
     ensures { result ≡ rows_checked next first added }
 {
-    if first.0 < next.0 {
+    if first < next {
         return RowsChecked {
             number: FIRST_ROW_BEHIND,
             next,
         };
     }
-    if added > u64::MAX - first.0 {
-        return RowsChecked {
+    match first.0.checked_add(added) {
+        Some(end) => RowsChecked {
+            number: ACCEPTED,
+            next: RowId(end),
+        },
+        None => RowsChecked {
             number: ROWS_OVERFLOW,
             next,
-        };
-    }
-    RowsChecked {
-        number: ACCEPTED,
-        next: RowId(first.0 + added),
+        },
     }
 }

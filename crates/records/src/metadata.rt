@@ -14,21 +14,21 @@ use crate::sort_order::SortOrders;
 use crate::statistics::StatisticsFiles;
 use crate::text::Text;
 
-#[derive(Clone, Copy)]
+#[derive(Clone, Copy, PartialEq, Eq)]
 pub struct MetadataLogEntry {
     pub metadata_file: Text,
     pub timestamp_ms: Time,
 }
 
 // In history order. The log starts as a blank entry repeated; counted entries are placed first.
-#[derive(Clone, Copy)]
+#[derive(Clone, Copy, PartialEq, Eq)]
 pub struct MetadataLog {
     pub items: [MetadataLogEntry; METADATA_LOG],
     pub count: usize,
 }
 
 // Last column id and last partition id are field ids. The current snapshot behind a flag that is not set is 0.
-#[derive(Clone, Copy)]
+#[derive(Clone, Copy, PartialEq, Eq)]
 pub struct SingleFields {
     pub format_version: u8,
     pub table_uuid: [u8; 16],
@@ -45,7 +45,7 @@ pub struct SingleFields {
     pub last_partition_id: FieldId,
 }
 
-#[derive(Clone, Copy)]
+#[derive(Clone, Copy, PartialEq, Eq)]
 pub struct TableMetadata {
     pub fields: SingleFields,
     pub snapshots: Snapshots,

@@ -11,47 +11,47 @@ use crate::sort_order::SortOrder;
 use crate::statistics::StatisticsFile;
 use crate::text::{Name, Text};
 
-#[derive(Clone, Copy)]
+#[derive(Clone, Copy, PartialEq, Eq)]
 pub struct FieldsPart {
     pub uuid: [u8; 16],
     pub format_version: u8,
     pub location: Text,
 }
 
-#[derive(Clone, Copy)]
+#[derive(Clone, Copy, PartialEq, Eq)]
 pub struct SnapshotsPart {
     pub added: Snapshot,
     pub removed: SnapshotIds,
 }
 
 // A ref has no owner here: the one that it gets is the office of the run.
-#[derive(Clone, Copy)]
+#[derive(Clone, Copy, PartialEq, Eq)]
 pub struct RefsPart {
     pub name: Name,
     pub reference: SnapshotReference,
 }
 
-#[derive(Clone, Copy)]
+#[derive(Clone, Copy, PartialEq, Eq)]
 pub struct SchemasPart {
     pub added: SchemaOffer,
     pub chosen: SchemaId,
     pub removed: SchemaIds,
 }
 
-#[derive(Clone, Copy)]
+#[derive(Clone, Copy, PartialEq, Eq)]
 pub struct SortOrdersPart {
     pub added: SortOrder,
     pub chosen: SortOrderId,
 }
 
 // The file that is set, or the snapshot whose file is removed.
-#[derive(Clone, Copy)]
+#[derive(Clone, Copy, PartialEq, Eq)]
 pub struct StatisticsPart {
     pub file: StatisticsFile,
     pub removed: SnapshotId,
 }
 
-#[derive(Clone, Copy)]
+#[derive(Clone, Copy, PartialEq, Eq)]
 pub struct PartitionSpecsPart {
     pub added: SpecOffer,
     pub chosen: SpecId,

@@ -18,7 +18,7 @@ pub const DAY: u8 = 4;
 pub const BUCKET: u8 = 5;
 
 // The number of buckets is 0 where the transform is no bucket. A field that is held has an id; one that is offered may leave it out, and then 0 stands there.
-#[derive(Clone, Copy)]
+#[derive(Clone, Copy, PartialEq, Eq)]
 pub struct PartitionField {
     pub source_id: FieldId,
     pub field_id: FieldId,
@@ -28,7 +28,7 @@ pub struct PartitionField {
     pub name: Name,
 }
 
-#[derive(Clone, Copy)]
+#[derive(Clone, Copy, PartialEq, Eq)]
 pub struct PartitionSpec {
     pub spec_id: SpecId,
     pub items: [PartitionField; PARTITION_FIELDS],
@@ -36,21 +36,21 @@ pub struct PartitionSpec {
 }
 
 // Ascending by id.
-#[derive(Clone, Copy)]
+#[derive(Clone, Copy, PartialEq, Eq)]
 pub struct PartitionSpecs {
     pub items: [PartitionSpec; PARTITION_SPECS],
     pub count: usize,
 }
 
 // The id of an offered field. Where it is left out, 0 stands there; a 0 that is given is told from it by the flag.
-#[derive(Clone, Copy)]
+#[derive(Clone, Copy, PartialEq, Eq)]
 pub struct OfferedId {
     pub given: bool,
     pub id: FieldId,
 }
 
 // A spec as an update offers it: where its fields stand among the bytes that are lent to the run, how many they are, and the id of each.
-#[derive(Clone, Copy)]
+#[derive(Clone, Copy, PartialEq, Eq)]
 pub struct SpecOffer {
     pub spec_id: SpecId,
     pub at: usize,
@@ -59,7 +59,7 @@ pub struct SpecOffer {
 }
 
 // The ids of a removal.
-#[derive(Clone, Copy)]
+#[derive(Clone, Copy, PartialEq, Eq)]
 pub struct SpecIds {
     pub items: [SpecId; REMOVALS],
     pub count: usize,

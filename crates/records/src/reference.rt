@@ -7,7 +7,7 @@ use crate::counters::{Age, MinSnapshots, SnapshotId};
 use crate::text::Name;
 
 // The kind is 1 for a branch and 2 for a tag. A number behind a flag that is not set is 0.
-#[derive(Clone, Copy)]
+#[derive(Clone, Copy, PartialEq, Eq)]
 pub struct SnapshotReference {
     pub snapshot_id: SnapshotId,
     pub kind: u8,
@@ -20,7 +20,7 @@ pub struct SnapshotReference {
 }
 
 // The owner is the office that made the ref, 1 or 2.
-#[derive(Clone, Copy)]
+#[derive(Clone, Copy, PartialEq, Eq)]
 pub struct NamedRef {
     pub name: Name,
     pub reference: SnapshotReference,
@@ -28,7 +28,7 @@ pub struct NamedRef {
 }
 
 // Ascending by name.
-#[derive(Clone, Copy)]
+#[derive(Clone, Copy, PartialEq, Eq)]
 pub struct Refs {
     pub items: [NamedRef; REFS],
     pub count: usize,

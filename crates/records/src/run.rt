@@ -16,7 +16,7 @@ pub const SECOND_OFFICE: u8 = 2;
 
 // The terms of a run. The office is the one whose run it is. The tolerance says how far an added snapshot's time may lie before the last entry and before the last update.
 // The text that limits the metadata log has any length, so it is lent beside this.
-#[derive(Clone, Copy)]
+#[derive(Clone, Copy, PartialEq, Eq)]
 pub struct RunTerms {
     pub clock_ms: Time,
     pub tolerance_ms: Age,
@@ -26,7 +26,7 @@ pub struct RunTerms {
 }
 
 // The number is 0 for an accepted run; a refused one gives the metadata that it was given, no changes and no expired entries.
-#[derive(Clone, Copy)]
+#[derive(Clone, Copy, PartialEq, Eq)]
 pub struct Answer {
     pub number: u8,
     pub place: usize,

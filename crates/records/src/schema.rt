@@ -11,14 +11,14 @@ pub const LONG: u8 = 1;
 
 pub const TIMESTAMP: u8 = 2;
 
-#[derive(Clone, Copy)]
+#[derive(Clone, Copy, PartialEq, Eq)]
 pub struct SchemaField {
     pub id: FieldId,
     pub field_type: u8,
     pub name: Name,
 }
 
-#[derive(Clone, Copy)]
+#[derive(Clone, Copy, PartialEq, Eq)]
 pub struct Schema {
     pub schema_id: SchemaId,
     pub items: [SchemaField; SCHEMA_FIELDS],
@@ -26,14 +26,14 @@ pub struct Schema {
 }
 
 // Ascending by id.
-#[derive(Clone, Copy)]
+#[derive(Clone, Copy, PartialEq, Eq)]
 pub struct Schemas {
     pub items: [Schema; SCHEMAS],
     pub count: usize,
 }
 
 // A schema as an update offers it: where its fields stand among the bytes that are lent to the run, and how many they are.
-#[derive(Clone, Copy)]
+#[derive(Clone, Copy, PartialEq, Eq)]
 pub struct SchemaOffer {
     pub schema_id: SchemaId,
     pub at: usize,
@@ -41,7 +41,7 @@ pub struct SchemaOffer {
 }
 
 // The ids of a removal.
-#[derive(Clone, Copy)]
+#[derive(Clone, Copy, PartialEq, Eq)]
 pub struct SchemaIds {
     pub items: [SchemaId; REMOVALS],
     pub count: usize,

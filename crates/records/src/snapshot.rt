@@ -6,7 +6,7 @@ use crate::capacities::{REMOVALS, SNAPSHOT_LOG, SNAPSHOTS};
 use crate::counters::{RowId, SequenceNumber, SnapshotId, Time};
 
 // A parent behind a flag that is not set, and a row range behind one, are 0.
-#[derive(Clone, Copy)]
+#[derive(Clone, Copy, PartialEq, Eq)]
 pub struct Snapshot {
     pub snapshot_id: SnapshotId,
     pub has_parent: bool,
@@ -19,27 +19,27 @@ pub struct Snapshot {
 }
 
 // Ascending by id.
-#[derive(Clone, Copy)]
+#[derive(Clone, Copy, PartialEq, Eq)]
 pub struct Snapshots {
     pub items: [Snapshot; SNAPSHOTS],
     pub count: usize,
 }
 
 // The ids of a removal.
-#[derive(Clone, Copy)]
+#[derive(Clone, Copy, PartialEq, Eq)]
 pub struct SnapshotIds {
     pub items: [SnapshotId; REMOVALS],
     pub count: usize,
 }
 
-#[derive(Clone, Copy)]
+#[derive(Clone, Copy, PartialEq, Eq)]
 pub struct SnapshotLogEntry {
     pub snapshot_id: SnapshotId,
     pub timestamp_ms: Time,
 }
 
 // In history order.
-#[derive(Clone, Copy)]
+#[derive(Clone, Copy, PartialEq, Eq)]
 pub struct SnapshotLog {
     pub items: [SnapshotLogEntry; SNAPSHOT_LOG],
     pub count: usize,

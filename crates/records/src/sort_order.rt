@@ -6,14 +6,14 @@ use crate::capacities::{SORT_FIELDS, SORT_ORDERS};
 use crate::counters::{FieldId, SortOrderId};
 
 // The direction is 0 for ascending and 1 for descending; nulls are 0 for first and 1 for last.
-#[derive(Clone, Copy)]
+#[derive(Clone, Copy, PartialEq, Eq)]
 pub struct SortField {
     pub source_id: FieldId,
     pub direction: u8,
     pub null_order: u8,
 }
 
-#[derive(Clone, Copy)]
+#[derive(Clone, Copy, PartialEq, Eq)]
 pub struct SortOrder {
     pub order_id: SortOrderId,
     pub items: [SortField; SORT_FIELDS],
@@ -21,7 +21,7 @@ pub struct SortOrder {
 }
 
 // Ascending by id.
-#[derive(Clone, Copy)]
+#[derive(Clone, Copy, PartialEq, Eq)]
 pub struct SortOrders {
     pub items: [SortOrder; SORT_ORDERS],
     pub count: usize,

@@ -6,7 +6,7 @@ use crate::capacities::STATISTICS;
 use crate::counters::{FileSize, SnapshotId};
 use crate::text::Text;
 
-#[derive(Clone, Copy)]
+#[derive(Clone, Copy, PartialEq, Eq)]
 pub struct StatisticsFile {
     pub snapshot_id: SnapshotId,
     pub statistics_path: Text,
@@ -14,7 +14,7 @@ pub struct StatisticsFile {
 }
 
 // Ascending by snapshot id.
-#[derive(Clone, Copy)]
+#[derive(Clone, Copy, PartialEq, Eq)]
 pub struct StatisticsFiles {
     pub items: [StatisticsFile; STATISTICS],
     pub count: usize,

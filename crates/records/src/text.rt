@@ -4,14 +4,14 @@ ghost use Rattle.records.specs.Blanks.{no_name, no_text};
 
 use crate::capacities::{NAME, TEXT};
 
-#[derive(Clone, Copy)]
+#[derive(Clone, Copy, PartialEq, Eq)]
 pub struct Name {
     pub bytes: [u8; NAME],
     pub len: usize,
 }
 
 // A location, the name of a metadata file, or the path of a statistics file.
-#[derive(Clone, Copy)]
+#[derive(Clone, Copy, PartialEq, Eq)]
 pub struct Text {
     pub bytes: [u8; TEXT],
     pub len: usize,

@@ -49,7 +49,7 @@ pub const SET_DEFAULT_PARTITION_SPEC: u8 = 19;
 
 pub const REMOVE_PARTITION_SPECS: u8 = 20;
 
-#[derive(Clone, Copy)]
+#[derive(Clone, Copy, PartialEq, Eq)]
 pub struct TableUpdate {
     pub kind: u8,
     pub fields: FieldsPart,
@@ -62,7 +62,7 @@ pub struct TableUpdate {
 }
 
 // A list of updates, and the log of those that took effect.
-#[derive(Clone, Copy)]
+#[derive(Clone, Copy, PartialEq, Eq)]
 pub struct UpdateList {
     pub items: [TableUpdate; UPDATES],
     pub count: usize,

@@ -41,16 +41,12 @@ const TAG: u8 = 2;
 fn as_main(b: TableMetadataBuilder, clock: Time, id: SnapshotId) -> TableMetadataBuilder
     ensures { (st : State) → b ≡ laid_builder st → result ≡ laid_builder (as_main clock.0 id.0 st) }
 {
-    let own = own_or(b, clock);
-    let f = b.fields;
-    let mut g = f;
-    g.has_current = true;
-    g.current_snapshot_id = id;
-    let mut c = b;
-    c.fields = g;
-    c.has_own = true;
-    c.own = own;
-    c
+    let mut after = b;
+    after.fields.has_current = true;
+    after.fields.current_snapshot_id = id;
+    after.has_own = true;
+    after.own = own_or(b, clock);
+    after
 }
 
 fn is_tag(t: Refs, name: Name) -> bool
@@ -73,21 +69,18 @@ fn is_tag(t: Refs, name: Name) -> bool
 fn wanted(u: TableUpdate, held: bool, old: NamedRef) -> SnapshotReference
     ensures { result ≡ wanted_ref u held old }
 {
-    let k = u.kind;
-    let s = u.snapshots.added;
-    let id = s.snapshot_id;
-    if k == SET_REF {
+    if u.kind == SET_REF {
         return u.refs.reference;
     }
     if held {
-        let mut r = old.reference;
-        r.snapshot_id = id;
-        return r;
+        let mut kept = old.reference;
+        kept.snapshot_id = u.snapshots.added.snapshot_id;
+        return kept;
     }
-    let mut r = SnapshotReference::blank();
-    r.kind = BRANCH;
-    r.snapshot_id = id;
-    r
+    let mut branch = SnapshotReference::blank();
+    branch.kind = BRANCH;
+    branch.snapshot_id = u.snapshots.added.snapshot_id;
+    branch
 }
 
 // 12, then 19 of the refs, then 19 of the snapshot log; an equal ref that is held already is not asked these.
@@ -105,14 +98,11 @@ fn set_ref_number(held: bool, is_named: bool, named: usize, main: bool, entries:
 fn setting(u: TableUpdate, r: SnapshotReference) -> TableUpdate
     ensures { (eqb u.kind set_branch_snapshot_kind || eqb u.kind set_ref_kind) ≡ true → is_tidy_update u ≡ true → length (read_name u.refs.name) ≤ name_room → laid_reference (read_reference r) ≡ r → result ≡ laid_update (SetRef (read_name u.refs.name) (read_reference r)) }
 {
-    let mut e = u;
-    let none = SnapshotsPart::blank();
-    let mut named = u.refs;
-    named.reference = r;
-    e.kind = SET_REF;
-    e.snapshots = none;
-    e.refs = named;
-    e
+    let mut entry = u;
+    entry.kind = SET_REF;
+    entry.snapshots = SnapshotsPart::blank();
+    entry.refs.reference = r;
+    entry
 }
 
 // What an update asks of the refs: whether the ref is held as it is to be, whether its name is, and the ref.
@@ -169,11 +159,11 @@ fn set_ref_builder(
 ) -> TableMetadataBuilder
     ensures { (st : State) (own : Option ℤ) → b ≡ laid_builder st → cond is_added (some time.0) st.own ≡ own → result ≡ laid_builder (cond main (as_main clock.0 id.0 (with_own own st)) (with_own own st)) }
 {
-    let c = with_own(b, is_added, time);
+    let after = with_own(b, is_added, time);
     if main {
-        return as_main(c, clock, id);
+        return as_main(after, clock, id);
     }
-    c
+    after
 }
 
 // ---- the updates of a list
@@ -184,12 +174,7 @@ pub fn commits_on_tag(t: Refs, u: TableUpdate) -> bool
     requires laid_name { u.kind ≡ set_branch_snapshot_kind → LaidName u.refs.name }
     ensures { result ≡ (eqb u.kind set_branch_snapshot_kind && is_tag (read_name u.refs.name) (read_refs t)) }
 {
-    let k = u.kind;
-    let name = u.refs.name;
-    if k == SET_BRANCH_SNAPSHOT {
-        return is_tag(t, name);
-    }
-    false
+    u.kind == SET_BRANCH_SNAPSHOT && is_tag(t, u.refs.name)
 }
 
 // The snapshot to which the ref of an update, or of a branch commit, is set.
@@ -260,11 +245,9 @@ pub fn refs_after(t: Refs, d: Decision, office: u8) -> Refs
 pub fn main_entry(d: Decision) -> SnapshotLogEntry
     ensures { result ≡ record { snapshot_id = d.entry.refs.reference.snapshot_id; timestamp_ms = d.builder.own } }
 {
-    let snapshot_id = d.entry.refs.reference.snapshot_id;
-    let timestamp_ms = d.builder.own;
     SnapshotLogEntry {
-        snapshot_id,
-        timestamp_ms,
+        snapshot_id: d.entry.refs.reference.snapshot_id,
+        timestamp_ms: d.builder.own,
     }
 }
 
@@ -291,12 +274,8 @@ pub fn remove_ref(b: TableMetadataBuilder, t: Refs, u: TableUpdate) -> Decision
 fn without_current(b: TableMetadataBuilder) -> TableMetadataBuilder
     ensures { (st : State) → b ≡ laid_builder st → result ≡ laid_builder (on_fields (with_current none) st) }
 {
-    let f = b.fields;
-    let none = SnapshotId(0);
-    let mut g = f;
-    g.has_current = false;
-    g.current_snapshot_id = none;
-    let mut c = b;
-    c.fields = g;
-    c
+    let mut after = b;
+    after.fields.has_current = false;
+    after.fields.current_snapshot_id = SnapshotId(0);
+    after
 }

@@ -1,5 +1,5 @@
 // The answer: accepted, with this session's metadata, changes and expired metadata files; or refused, and why.
-use crate::conditions::{REMOVES_AND_ADDS, say_condition, say_with_conditions};
+use crate::conditions::{Condition, say_condition, say_with_conditions};
 use faults::{fault, start_fault};
 use plaintext::metadata::say_files;
 use plaintext::reply::say_refusal;
@@ -21,24 +21,18 @@ pub fn fault_of(number: u8, metadata: TableMetadata, terms: RunTerms) -> u8 {
 // A refused run gives back the metadata that it started from.
 // The offers are those of the run: the change log names them.
 // Each function that gets the answer copies it, so it is not handed on: less stack is needed.
-pub fn say_answer(
-    output: &mut Output,
-    end: &mut usize,
-    terms: RunTerms,
-    answer: Answer,
-    offers: &[u8],
-) {
+pub fn say_answer(output: &mut Output, terms: RunTerms, answer: Answer, offers: &[u8]) {
     if answer.number == 0 {
-        say(output, end, b"accepted\nthis session's metadata\n");
-        say_with_conditions(output, end, answer.metadata);
-        say(output, end, b"what changed\n");
-        say_updates(output, end, b"change log", answer.changes, offers);
+        say(output, b"accepted\nthis session's metadata\n");
+        say_with_conditions(output, answer.metadata);
+        say(output, b"what changed\n");
+        say_updates(output, b"change log", answer.changes, offers);
         let both = histories::removes_and_adds(answer.changes);
-        say_condition(output, end, REMOVES_AND_ADDS, both);
-        say_files(output, end, b"expired metadata files", answer.expired);
+        say_condition(output, Condition::RemovesAndAdds, both);
+        say_files(output, b"expired metadata files", answer.expired);
     } else {
         let found = fault_of(answer.number, answer.metadata, terms);
-        say_refusal(output, end, answer.number, answer.place, found);
-        say(output, end, b"\nthe metadata stays as it was\n");
+        say_refusal(output, answer.number, answer.place, found);
+        say(output, b"\nthe metadata stays as it was\n");
     }
 }

@@ -1,6 +1,6 @@
 // What a session starts from and asks: the metadata, the terms of its run, and its updates.
 use crate::conditions::say_with_conditions;
-use cards::card::{Card, Text, counted, text_of};
+use cards::card::{Card, counted, text_of};
 use case_reader::limit_text::LimitText;
 use case_reader::run::Run;
 use plaintext::template::say_part;
@@ -11,15 +11,8 @@ use slot_bounds::lent;
 use tokens::output::Output;
 
 fn limit_of(text: LimitText) -> u64 {
-    let bytes = text.bytes;
-    let slots: &[u8] = &bytes;
-    let len = lent(slots, text.len);
-    limit(&slots[..len])
-}
-
-fn file_name(file: records::text::Text) -> Text {
-    let bytes = file.bytes;
-    text_of(&bytes, file.len)
+    let len = lent(&text.bytes, text.len);
+    limit(&text.bytes[..len])
 }
 
 // clock, tolerance, has_file, whether the office is not the first, office; limit; file name
@@ -37,24 +30,24 @@ fn terms_card(terms: RunTerms, limit: u64) -> Card {
         ],
         [limit, 0],
     );
-    numbers.with_text(file_name(terms.file))
+    numbers.with_text(text_of(&terms.file.bytes, terms.file.len))
 }
 
 // The office is said if it is not the first.
-fn say_terms(output: &mut Output, end: &mut usize, terms: Card) {
+fn say_terms(output: &mut Output, terms: Card) {
     let template = b"this session asks\
         ?3{|\n  office: #4}\
         \n  clock: #0 (@0)\
         \n  tolerance: #1 ms\
         \n  current metadata file: ?2{none|$}\
         \n  limit of the metadata log: %0\n";
-    say_part(output, end, template, 0, 0, terms);
+    say_part(output, template, 0, 0, terms);
 }
 
-pub fn say_asked(output: &mut Output, end: &mut usize, number: usize, run: Run, offers: &[u8]) {
+pub fn say_asked(output: &mut Output, number: usize, run: Run, offers: &[u8]) {
     let heading = b"run %0\nlast session's metadata\n";
-    say_part(output, end, heading, 0, 0, counted(number, 0));
-    say_with_conditions(output, end, run.metadata);
-    say_terms(output, end, terms_card(run.terms, limit_of(run.limit)));
-    say_updates(output, end, b"updates", run.updates, offers);
+    say_part(output, heading, 0, 0, counted(number, 0));
+    say_with_conditions(output, run.metadata);
+    say_terms(output, terms_card(run.terms, limit_of(run.limit)));
+    say_updates(output, b"updates", run.updates, offers);
 }

@@ -1,7 +1,7 @@
 // The runs of the examples P1 to P12 of document 01, in the case format, as the crate `rules` has them in Examples. An example is made of steps,
 // each a run or a call of a leaf.
 use case_reader::run::{RUN, Run, read_run};
-use tokens::input::{empty_input, hold_line, start};
+use tokens::input::Input;
 use tokens::source::Source;
 
 pub const EXAMPLES: usize = 12;
@@ -20,36 +20,42 @@ pub fn first_step(example: usize) -> usize {
     }
 }
 
-// What a step calls, and what is said of its answer.
-pub const SEQUENCE: usize = 0;
+// What is shown of the answer of a step's run.
+#[derive(Clone, Copy, PartialEq, Eq)]
+pub enum Shown {
+    Sequence,
+    NextRow,
+    Updated,
+    History,
+    Files,
+    Changes,
+    ChangesOfReplay,
+}
 
-pub const NEXT_ROW: usize = 1;
+// What a step calls that is no run: the limits of texts, or walks.
+#[derive(Clone, Copy)]
+pub enum Leaf {
+    Limits,
+    Walks,
+}
 
-pub const UPDATED: usize = 2;
+#[derive(Clone, Copy)]
+pub enum Form {
+    Run(Shown),
+    Leaf(Leaf),
+}
 
-pub const HISTORY: usize = 3;
-
-pub const FILES: usize = 4;
-
-pub const CHANGES: usize = 5;
-
-pub const CHANGES_OF_REPLAY: usize = 6;
-
-pub const LIMITS: usize = 7;
-
-pub const WALKS: usize = 8;
-
-pub fn form_of(step: usize) -> usize {
+pub fn form_of(step: usize) -> Form {
     match step {
-        0..=3 => SEQUENCE,
-        7..=9 => NEXT_ROW,
-        10 => LIMITS,
-        11 => FILES,
-        12 => WALKS,
-        13 => CHANGES,
-        14 => CHANGES_OF_REPLAY,
-        16 | 17 => UPDATED,
-        _ => HISTORY,
+        0..=3 => Form::Run(Shown::Sequence),
+        7..=9 => Form::Run(Shown::NextRow),
+        10 => Form::Leaf(Leaf::Limits),
+        11 => Form::Run(Shown::Files),
+        12 => Form::Leaf(Leaf::Walks),
+        13 => Form::Run(Shown::Changes),
+        14 => Form::Run(Shown::ChangesOfReplay),
+        16 | 17 => Form::Run(Shown::Updated),
+        _ => Form::Run(Shown::History),
     }
 }
 
@@ -94,11 +100,10 @@ pub fn run_of(step: usize) -> Run {
         \x20500000 0 0 2 6 1 3 4 3 1 2 6 400000 0 0 0\n\
         \x20500000 0 0 1 4 1 0 0 1 -60000 0 0 0\n\
         \x20500000 0 0 1 4 1 0 0 1 -60001 0 0 0\n";
-    let mut input = empty_input();
-    let mut place = start(Source::Nothing);
-    hold_line(&mut input, &mut place, starts, start_of(step));
-    hold_line(&mut input, &mut place, asked, step);
+    let mut input = Input::new(Source::Nothing);
+    input.hold_line(starts, start_of(step));
+    input.hold_line(asked, step);
     // No example offers anything, so there is no room for what is offered.
     let mut offers = [0u8; 1];
-    read_run(RUN, &mut input, &mut place, &mut offers)
+    read_run(RUN, &mut input, &mut offers)
 }

@@ -1,9 +1,10 @@
 // The line that a replayed log gets: whether it leads to the ending metadata, or what differs first, or the refusal.
-use cards::card::Card;
+use cards::card::{Card, counted};
 use compare::difference::Difference;
 use compare::part;
 use plaintext::reply::say_refusal;
 use plaintext::template::say_part;
+use plaintext::text::say;
 use records::capacities;
 use records::counters::Age;
 use records::run::{DEFAULT_TOLERANCE_MS, FIRST_OFFICE};
@@ -21,95 +22,91 @@ pub struct Judged {
     pub office: u8,
 }
 
-// How many records a table has room for; 0 for a single field.
-fn slots_of(part: u8) -> usize {
+// How many records a table has room for.
+fn slots_of(part: u8) -> Option<usize> {
     match part {
-        part::SNAPSHOTS => capacities::SNAPSHOTS,
-        part::REFS => capacities::REFS,
-        part::SNAPSHOT_LOG => capacities::SNAPSHOT_LOG,
-        part::METADATA_LOG => capacities::METADATA_LOG,
-        part::SCHEMAS => capacities::SCHEMAS,
-        part::SORT_ORDERS => capacities::SORT_ORDERS,
-        part::STATISTICS | part::PARTITION_STATISTICS => capacities::STATISTICS,
-        part::PARTITION_SPECS => capacities::PARTITION_SPECS,
-        _ => 0,
+        part::SNAPSHOTS => Some(capacities::SNAPSHOTS),
+        part::REFS => Some(capacities::REFS),
+        part::SNAPSHOT_LOG => Some(capacities::SNAPSHOT_LOG),
+        part::METADATA_LOG => Some(capacities::METADATA_LOG),
+        part::SCHEMAS => Some(capacities::SCHEMAS),
+        part::SORT_ORDERS => Some(capacities::SORT_ORDERS),
+        part::STATISTICS | part::PARTITION_STATISTICS => Some(capacities::STATISTICS),
+        part::PARTITION_SPECS => Some(capacities::PARTITION_SPECS),
+        _ => None,
+    }
+}
+
+// Where nothing differs the part is 0.
+fn words_of_part(part: u8) -> &'static [u8] {
+    match part {
+        0 => b"the log leads there",
+        part::FORMAT_VERSION => b"differs: version",
+        part::TABLE_UUID => b"differs: uuid",
+        part::LOCATION => b"differs: location",
+        part::LAST_UPDATED => b"differs: last update",
+        part::LAST_SEQUENCE_NUMBER => b"differs: last sequence number",
+        part::NEXT_ROW_ID => b"differs: next row id",
+        part::LAST_COLUMN_ID => b"differs: last column id",
+        part::CURRENT_SNAPSHOT => b"differs: current snapshot",
+        part::SNAPSHOTS => b"differs: snapshots",
+        part::REFS => b"differs: refs",
+        part::SNAPSHOT_LOG => b"differs: snapshot log",
+        part::METADATA_LOG => b"differs: metadata log",
+        part::SCHEMAS => b"differs: schemas",
+        part::CURRENT_SCHEMA => b"differs: current schema id",
+        part::SORT_ORDERS => b"differs: sort orders",
+        part::DEFAULT_SORT_ORDER => b"differs: default sort order id",
+        part::STATISTICS => b"differs: statistics",
+        part::PARTITION_STATISTICS => b"differs: partition statistics",
+        part::PARTITION_SPECS => b"differs: partition specs",
+        part::DEFAULT_SPEC => b"differs: default partition spec id",
+        part::LAST_PARTITION_ID => b"differs: last partition id",
+        _ => b"",
     }
 }
 
 // A single field has no place. A table has a record's position, counted from 0 as places are, or its count.
-const NO_PLACE: i64 = 0;
-
-const COUNT: i64 = 1;
-
-const RECORD: i64 = 2;
-
-fn kind_of_place(place: usize, slots: usize) -> i64 {
-    if slots == 0 {
-        return NO_PLACE;
+fn words_of_place(difference: Difference) -> &'static [u8] {
+    match slots_of(difference.part) {
+        None => b"",
+        Some(slots) if difference.place == slots => b", count",
+        Some(_) => b", record %0",
     }
-    if place == slots {
-        return COUNT;
-    }
-    RECORD
 }
 
-// the part that differs, whether its place is a count or a record's, whether the tolerance is not the usual one, the tolerance, whether the office is not
-// the first, the office; the place
-fn card_of(judged: Judged) -> Card {
-    let difference = judged.difference;
-    let place = kind_of_place(difference.place, slots_of(difference.part));
-    let tolerance = judged.tolerance_ms.0;
-    let is_unusual = tolerance != DEFAULT_TOLERANCE_MS;
+// Of a run that is accepted.
+fn say_difference(output: &mut Output, difference: Difference) {
+    say(output, words_of_part(difference.part));
+    let place = counted(difference.place, 0);
+    say_part(output, words_of_place(difference), 0, 0, place);
+}
+
+// whether the tolerance is not the usual one, the tolerance, whether the office is not the first, the office
+fn terms_card(tolerance: i64, office: u8) -> Card {
     Card::of_numbers(
         [
-            difference.part as i64,
-            place,
-            is_unusual as i64,
+            (tolerance != DEFAULT_TOLERANCE_MS) as i64,
             tolerance,
-            (judged.office != FIRST_OFFICE) as i64,
-            judged.office as i64,
+            (office != FIRST_OFFICE) as i64,
+            office as i64,
+            0,
+            0,
             0,
             0,
         ],
-        [difference.place as u64, 0],
+        [0, 0],
     )
 }
 
-// Of a run that is accepted. An alternative stands for each part, in the order of their numbers.
-fn say_difference(output: &mut Output, end: &mut usize, judged: Card) {
-    let template = b"?0{the log leads there\
-        |differs: version\
-        |differs: uuid\
-        |differs: location\
-        |differs: last update\
-        |differs: last sequence number\
-        |differs: next row id\
-        |differs: last column id\
-        |differs: current snapshot\
-        |differs: snapshots\
-        |differs: refs\
-        |differs: snapshot log\
-        |differs: metadata log\
-        |differs: schemas\
-        |differs: current schema id\
-        |differs: sort orders\
-        |differs: default sort order id\
-        |differs: statistics\
-        |differs: partition statistics\
-        |differs: partition specs\
-        |differs: default partition spec id\
-        |differs: last partition id}?1{|, count|, record %0}";
-    say_part(output, end, template, 0, 0, judged);
-}
-
 // A tolerance is said if it is not the usual one, an office if it is not the first.
-pub fn say_judged(output: &mut Output, end: &mut usize, judged: Judged) {
-    let card = card_of(judged);
+pub fn say_judged(output: &mut Output, judged: Judged) {
     if judged.number != 0 {
-        say_refusal(output, end, judged.number, judged.place, judged.fault);
+        say_refusal(output, judged.number, judged.place, judged.fault);
     } else {
-        say_difference(output, end, card);
+        say_difference(output, judged.difference);
     }
-    let terms = b"?2{| (tolerance #3 ms)}?4{| (office #5)}\n";
-    say_part(output, end, terms, 0, 0, card);
+    let terms = b"?0{| (tolerance #1 ms)}?2{| (office #3)}\n";
+    let card = terms_card(judged.tolerance_ms.0, judged.office);
+    say_part(output, terms, 0, 0, card);
 }

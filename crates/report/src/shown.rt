@@ -1,11 +1,11 @@
 // What an example shows of a run: the answer's number and place with a counter of the metadata that is given back (on refusal the one that was
 // handed in), the snapshot log as JSON, the metadata files that expire and those that stay, or what is logged.
-use crate::example::{CHANGES, FILES, HISTORY};
+use crate::example::Shown;
 use cards::card::Card;
 use cards::record::{file, log_entry};
 use plaintext::table::{say_comma, say_none};
 use plaintext::template::say_part;
-use plaintext::text::{say, say_line};
+use plaintext::text::say;
 use plaintext::update::say_update;
 use records::capacities::{METADATA_LOG, SNAPSHOT_LOG, UPDATES};
 use records::metadata::{MetadataLog, TableMetadata};
@@ -16,67 +16,63 @@ use slot_bounds::with_slots;
 use tokens::output::Output;
 
 // What stands before the answer of a step.
-pub fn say_label(output: &mut Output, end: &mut usize, step: usize) {
-    let labels = b"time 40000: \n\
-        ; time 39999: \n\
-        number 5 with parent: \n\
-        ; number 3 parentless: \n\
-        \n\n\n\
-        first 10, added 18446744073709551605: \n\
-        ; added 18446744073709551606: \n\
-        ; first 9, added 1: \n\
-        \n\n\n\
-        changes: \n\
-        ; changes of the replay: \n\
-        \n\
-        time -60000: \n\
-        ; time -60001: \n";
-    say_line(output, end, labels, step);
+fn label_of(step: usize) -> &'static [u8] {
+    match step {
+        0 => b"time 40000: ",
+        1 => b"; time 39999: ",
+        2 => b"number 5 with parent: ",
+        3 => b"; number 3 parentless: ",
+        7 => b"first 10, added 18446744073709551605: ",
+        8 => b"; added 18446744073709551606: ",
+        9 => b"; first 9, added 1: ",
+        13 => b"changes: ",
+        14 => b"; changes of the replay: ",
+        16 => b"time -60000: ",
+        17 => b"; time -60001: ",
+        _ => b"",
+    }
+}
+
+pub fn say_label(output: &mut Output, step: usize) {
+    say(output, label_of(step));
 }
 
 // The braces of JSON stand outside of the template, where they would be marks.
-fn say_entry(output: &mut Output, end: &mut usize, at: usize, entry: SnapshotLogEntry) {
-    let starts = b"{\n,{\n";
+fn say_entry(output: &mut Output, at: usize, entry: SnapshotLogEntry) {
     let template = b"\"snapshot-id\":#0,\"timestamp-ms\":#1";
-    say_line(output, end, starts, (at > 0) as usize);
-    say_part(output, end, template, 0, 0, log_entry(entry));
-    say(output, end, b"}");
+    if at > 0 {
+        say(output, b",");
+    }
+    say(output, b"{");
+    say_part(output, template, 0, 0, log_entry(entry));
+    say(output, b"}");
 }
 
-fn say_log(output: &mut Output, end: &mut usize, log: SnapshotLog) {
+fn say_log(output: &mut Output, log: SnapshotLog) {
     let n = with_slots(log.count, SNAPSHOT_LOG);
-    say(output, end, b"[");
-    let mut i = 0;
-    while i < n {
-        let entry = log.items[i];
-        say_entry(output, end, i, entry);
-        i += 1;
+    say(output, b"[");
+    for (i, &entry) in log.items[..n].iter().enumerate() {
+        say_entry(output, i, entry);
     }
-    say(output, end, b"]");
+    say(output, b"]");
 }
 
 // The time as it stands in document 01.
-fn say_files(output: &mut Output, end: &mut usize, log: MetadataLog) {
+fn say_files(output: &mut Output, log: MetadataLog) {
     let n = with_slots(log.count, METADATA_LOG);
-    let mut i = 0;
-    while i < n {
-        let entry = log.items[i];
-        say_comma(output, end, i);
-        say_part(output, end, b"$ from #0", 0, 0, file(entry));
-        i += 1;
+    for (i, &entry) in log.items[..n].iter().enumerate() {
+        say_comma(output, i);
+        say_part(output, b"$ from #0", 0, 0, file(entry));
     }
 }
 
 // No example offers anything.
-fn say_changes(output: &mut Output, end: &mut usize, changes: UpdateList) {
+fn say_changes(output: &mut Output, changes: UpdateList) {
     let n = with_slots(changes.count, UPDATES);
-    say_none(output, end, n);
-    let mut i = 0;
-    while i < n {
-        let update = changes.items[i];
-        say_comma(output, end, i);
-        say_update(output, end, update, b"");
-        i += 1;
+    say_none(output, n);
+    for (i, &update) in changes.items[..n].iter().enumerate() {
+        say_comma(output, i);
+        say_update(output, update, b"");
     }
 }
 
@@ -98,35 +94,34 @@ fn card_of(number: u8, place: usize, metadata: TableMetadata) -> Card {
     )
 }
 
-// A template for each form that shows a counter, and one for a refusal.
-fn say_counter(output: &mut Output, end: &mut usize, form: usize, card: Card) {
-    let templates = b"?0{accepted~refused #0 at %0}, last sequence number #1\
-        ;?0{accepted~refused #0 at %0}, next row id %1\
-        ;?0{accepted~refused #0 at %0}, last update #2\
-        ;refused #0 at %0";
-    say_part(output, end, templates, form, 0, card);
+// A counter of the metadata; of a refused run that shows none, the refusal alone.
+fn template_of(shown: Shown) -> &'static [u8] {
+    match shown {
+        Shown::Sequence => b"?0{accepted~refused #0 at %0}, last sequence number #1",
+        Shown::NextRow => b"?0{accepted~refused #0 at %0}, next row id %1",
+        Shown::Updated => b"?0{accepted~refused #0 at %0}, last update #2",
+        _ => b"refused #0 at %0",
+    }
 }
 
-fn say_ends(output: &mut Output, end: &mut usize, expired: MetadataLog, staying: MetadataLog) {
-    say(output, end, b"expired: ");
-    say_files(output, end, expired);
-    say(output, end, b"; staying: ");
-    say_files(output, end, staying);
+fn say_ends(output: &mut Output, expired: MetadataLog, staying: MetadataLog) {
+    say(output, b"expired: ");
+    say_files(output, expired);
+    say(output, b"; staying: ");
+    say_files(output, staying);
 }
 
-pub fn say_shown(output: &mut Output, end: &mut usize, form: usize, answer: Answer) {
-    if form >= CHANGES {
-        say_changes(output, end, answer.changes);
-    } else if form == FILES {
-        say_ends(output, end, answer.expired, answer.metadata.metadata_log);
-    } else if form == HISTORY && answer.number == 0 {
-        say_log(output, end, answer.metadata.snapshot_log);
-    } else {
-        say_counter(
+pub fn say_shown(output: &mut Output, shown: Shown, answer: Answer) {
+    match shown {
+        Shown::Changes | Shown::ChangesOfReplay => say_changes(output, answer.changes),
+        Shown::Files => say_ends(output, answer.expired, answer.metadata.metadata_log),
+        Shown::History if answer.number == 0 => say_log(output, answer.metadata.snapshot_log),
+        _ => say_part(
             output,
-            end,
-            form,
+            template_of(shown),
+            0,
+            0,
             card_of(answer.number, answer.place, answer.metadata),
-        );
+        ),
     }
 }

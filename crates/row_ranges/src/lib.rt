@@ -2,12 +2,12 @@
 // Document 02, request (xiii), speaks of the ranges that runs add. The test of those that are held is this project's own: the crate `rules` writes it in Rows.
 #![tactic(auto)]
 
-ghost use Rattle.std.specs.Prelude.{◌≡◌, ◌≤◌, leb, drop};
+ghost use Rattle.std.specs.Prelude.{◌≡◌, ◌≤◌, ◌&&◌, leb, map};
 ghost use Rattle.rules.specs.Words.{all, each_pair};
 ghost use Rattle.rules.specs.Layout.{read_snapshot, read_snapshots};
 ghost use Rattle.rules.specs.RowIds.{range_end};
 ghost use Rattle.rules.specs.Rows.{rows_disjoint, rows_end_by, is_formed_and_apart};
-ghost use Rattle.tables.specs.Laid.{LaidSnapshots};
+ghost use Rattle.rules.specs.Capacities.{snapshot_room};
 
 use records::counters::RowId;
 use records::metadata::TableMetadata;
@@ -20,7 +20,7 @@ const ROWS_FROM: u8 = 3;
 fn ends_by(first: RowId, added: u64, bound: RowId) -> bool
     ensures { result ≡ leb (range_end first added) bound.0 }
 {
-    if first.0 > bound.0 {
+    if first > bound {
         return false;
     }
     added <= bound.0 - first.0
@@ -29,81 +29,70 @@ fn ends_by(first: RowId, added: u64, bound: RowId) -> bool
 fn rows_end_by(s: Snapshot, next: RowId) -> bool
     ensures { result ≡ rows_end_by next.0 (read_snapshot s) }
 {
-    let none = !s.has_rows;
-    let first = s.first_row_id;
-    none | ends_by(first, s.added_rows, next)
+    !s.has_rows || ends_by(s.first_row_id, s.added_rows, next)
 }
 
 // No row id lies in both ranges, where both have one.
 fn rows_disjoint(a: Snapshot, b: Snapshot) -> bool
     ensures { result ≡ rows_disjoint (read_snapshot a) (read_snapshot b) }
 {
-    let none = !a.has_rows | !b.has_rows;
-    let empty = (a.added_rows == 0) | (b.added_rows == 0);
-    let x = a.first_row_id;
-    let y = b.first_row_id;
-    let before = ends_by(x, a.added_rows, y);
-    let after = ends_by(y, b.added_rows, x);
-    none | (empty | (before | after))
+    !a.has_rows
+        || !b.has_rows
+        || a.added_rows == 0
+        || b.added_rows == 0
+        || ends_by(a.first_row_id, a.added_rows, b.first_row_id)
+        || ends_by(b.first_row_id, b.added_rows, a.first_row_id)
 }
 
-// A snapshot's range is disjoint from those of the table from a place on.
-fn disjoint_from(a: Snapshot, t: Snapshots, from: usize) -> bool
-    requires laid_snapshots { LaidSnapshots t }
-    requires from_le_count { from ≤ t.count }
-    ensures { result ≡ all (rows_disjoint (read_snapshot a)) (drop from (read_snapshots t)) }
+// A snapshot's range is disjoint from those of the others.
+fn disjoint_from(a: Snapshot, others: &[Snapshot]) -> bool
+    ensures { result ≡ all (rows_disjoint (read_snapshot a)) (map read_snapshot others.now) }
 {
-    let n = t.count;
-    let mut ok = true;
-    let mut i = from;
-    while i < n {
-        let b = t.items[i];
-        ok = ok & rows_disjoint(a, b);
-        i += 1;
+    for b in others {
+        if !rows_disjoint(a, *b) {
+            return false;
+        }
     }
-    ok
+    true
 }
 
-fn all_disjoint(t: Snapshots) -> bool
-    requires { LaidSnapshots t }
-    ensures { result ≡ each_pair rows_disjoint (read_snapshots t) }
+fn all_disjoint(snapshots: &[Snapshot]) -> bool
+    ensures { result ≡ each_pair rows_disjoint (map read_snapshot snapshots.now) }
 {
-    let n = t.count;
-    let mut ok = true;
-    let mut i = 0;
-    while i < n {
-        let a = t.items[i];
-        i += 1;
-        ok = ok & disjoint_from(a, t, i);
+    for (i, a) in snapshots.iter().enumerate() {
+        if !disjoint_from(*a, &snapshots[i + 1..]) {
+            return false;
+        }
     }
-    ok
+    true
 }
 
-fn all_end_by(t: Snapshots, next: RowId) -> bool
-    requires { LaidSnapshots t }
-    ensures { result ≡ all (rows_end_by next.0) (read_snapshots t) }
+fn all_end_by(snapshots: &[Snapshot], next: RowId) -> bool
+    ensures { result ≡ all (rows_end_by next.0) (map read_snapshot snapshots.now) }
 {
-    let n = t.count;
-    let mut ok = true;
-    let mut i = 0;
-    while i < n {
-        let s = t.items[i];
-        ok = ok & rows_end_by(s, next);
-        i += 1;
+    for s in snapshots {
+        if !rows_end_by(*s, next) {
+            return false;
+        }
     }
-    ok
+    true
+}
+
+// Of a table that fits its slots.
+fn table_apart(t: Snapshots, next: RowId) -> bool
+    requires { t.count ≤ snapshot_room }
+    ensures { result ≡ (each_pair rows_disjoint (read_snapshots t) && all (rows_end_by next.0) (read_snapshots t)) }
+{
+    let held = &t.items[..t.count];
+    all_disjoint(held) && all_end_by(held, next)
 }
 
 // Well formed, version 3, each two held ranges disjoint, and each ended by the next row id.
 pub fn rows_apart(m: TableMetadata) -> bool
     ensures { result ≡ is_formed_and_apart m }
 {
-    let fields = m.fields;
-    let next = fields.next_row_id;
-    let version = fields.format_version;
-    let snapshots = m.snapshots;
     if !formed::metadata::is_formed(m) {
         return false;
     }
-    (version == ROWS_FROM) & (all_disjoint(snapshots) & all_end_by(snapshots, next))
+    m.fields.format_version == ROWS_FROM && table_apart(m.snapshots, m.fields.next_row_id)
 }

@@ -1,14 +1,15 @@
 -- The keys that count: how many they are, and that those of a table are its ids and the numbers of fields.
-use Prim.Native.Nat.{ℕ, ◌+◌, ◌≤◌, ◌<◌}
+use Prim.Native.Nat.{ℕ, ◌≤◌}
 use native.Mathlib.Omega.{arith}
-use mathlib.Core.Path.{◌≡◌, sym, ap, ◌∙◌}
-use mathlib.Core.Bool.{Bool, ◌||◌, or_assoc, or-false}
-use mathlib.Core.List.{List, ◌∷◌}
-use native.Mathlib.Numerals.{add-one}
+use mathlib.Core.Path.{◌≡◌, refl, sym, ap, ◌∙◌}
+use mathlib.Core.Bool.{Bool}
+use mathlib.Core.List.{List, [], ◌∷◌}
+use borrow.Table.Steps.{cases}
+use Rattle.std.specs.List.{list_any}
 use lib.Dec.{eqb}
 use lib.IntN.{ℤ}
-use lib.ListN.{length, get_or, take, drop, length-map, drop_of_length-le}
-use lib.Seq.{take_at, drop-cons, get_or-take, length-take-le}
+use lib.ListN.{length, take, length-map}
+use lib.Seq.{take_at, length-take-le}
 use Rattle.rules.specs.Words.{eq_z, any, is_in}
 use Rattle.rules.specs.Register as plain
 use Rattle.rules.specs.SchemaUpdates.{schema_ids, holds_schema}
@@ -41,27 +42,13 @@ sizes_lent : (l : List plain.Schema) {keys : SchemaKeys} → keys ≡ laid_keys 
 unfolding laid_keys
 sizes_lent l e = rw e (take_at (field_counts l) _ (length l) (length-map l (λ (s : plain.Schema). length s.fields)))
 
-module _ (size : ℕ) where
-  abbrev pub has : List ℕ → Bool
-  has = any (λ (k : ℕ). eqb k size)
+any_is : (p : ℕ → Bool) (l : List ℕ) → list_any p l ≡ any p l
+any_is p [] = refl
+any_is p (x ∷ l) = cases (p x) (λ t. rw t) (λ f. rw f (any_is p l))
 
-  -- what was found up to i, and what is left
-  pub record Looked (keys : SchemaKeys) (i : ℕ) (found : Bool) : Type 0 where
-    pub so : has (lent_sizes keys) ≡ (found || has (drop i (lent_sizes keys)))
-
-module _ {size : ℕ} {keys : SchemaKeys} {i : ℕ} {found : Bool} (f : KeysFit keys) (n : length keys.sizes ≡ 16) (s : Looked size keys i found) where
-  abbrev lent : List ℕ
-  lent = lent_sizes keys
-
-  lent_length : length lent ≡ keys.count
-  lent_length = length-take-le keys.count keys.sizes (omega (arith, f.within))
-
-  pub looked_on : i < keys.count → Looked size keys (i + 1) (found || eqb (get_or keys.sizes i 0) size)
-  looked_on h =
-      let e : drop i lent ≡ get_or keys.sizes i 0 ∷ drop (i + 1) lent = drop-cons lent i 0 (omega (arith, lent_length)) ∙ rw (get_or-take keys.count keys.sizes i 0 h, ← add-one i) in
-      record { so = s.so ∙ ap (λ (x : List ℕ). found || has size x) e ∙ sym (or_assoc found (eqb (get_or keys.sizes i 0) size) (has size (drop (i + 1) lent))) }
-
-  pub looked_end : keys.count ≤ i → (l : List plain.Schema) → keys ≡ laid_keys l → found ≡ any (λ (x : plain.Schema). eqb (length x.fields) size) l
-  looked_end h l e =
-      let k : length lent ≤ i = omega (arith, lent_length) in
-      sym (s.so ∙ rw (drop_of_length-le lent k) (or-false found)) ∙ ap (has size) (sizes_lent l e) ∙ any_map (λ (k : ℕ). eqb k size) (λ (x : plain.Schema). length x.fields) l
+-- one of them is the number
+pub size_found : (size : ℕ) {keys : SchemaKeys} {found : Bool} → found ≡ list_any (λ (k : ℕ). eqb k size) (lent_sizes keys)
+    → (l : List plain.Schema) → keys ≡ laid_keys l → found ≡ any (λ (x : plain.Schema). eqb (length x.fields) size) l
+size_found size {keys} a l e =
+    let has : ℕ → Bool = λ (k : ℕ). eqb k size in
+    a ∙ any_is has (lent_sizes keys) ∙ ap (any has) (sizes_lent l e) ∙ any_map has (λ (x : plain.Schema). length x.fields) l

@@ -60,15 +60,11 @@ pub fn keys_of(t: Schemas) -> SchemaKeys
     ensures keys_fit { KeysFit result }
     ensures value { result ≡ laid_keys (read_schemas t) }
 {
-    let n = t.count;
-    let mut r = no_keys();
-    let mut i = 0;
-    while i < n {
-        let s = t.items[i];
-        r = with_key(r, s.schema_id, s.count);
-        i += 1;
+    let mut keys = no_keys();
+    for schema in &t.items[..t.count] {
+        keys = with_key(keys, schema.schema_id, schema.count);
     }
-    r
+    keys
 }
 
 // Those of metadata that the start of a run accepts; none where it is refused.
@@ -100,13 +96,5 @@ pub fn has_size(keys: SchemaKeys, size: usize) -> bool
     requires { KeysFit keys }
     ensures { (l : List plain.Schema) → keys ≡ laid_keys l → result ≡ any (λ s. eqb (length s.fields) size) l }
 {
-    let n = keys.count;
-    let mut found = false;
-    let mut i = 0;
-    while i < n {
-        let k = keys.sizes[i];
-        found = found | (k == size);
-        i += 1;
-    }
-    found
+    keys.sizes[..keys.count].contains(&size)
 }

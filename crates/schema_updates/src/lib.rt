@@ -184,19 +184,14 @@ fn held(keys: SchemaKeys, named: SchemaIds) -> SchemaIds
     requires laid_schema_ids { LaidSchemaIds named }
     ensures { result ≡ laid_schema_ids (keep (is_in (read_schema_ids named)) (lent_keys keys)) }
 {
-    let n = keys.count;
-    let ids = keys.items;
-    let mut r = SchemaIds::blank();
-    let mut i = 0;
-    while i < n {
-        let x = ids[i];
-        let id = schema_id(Key(x));
-        i += 1;
+    let mut held = SchemaIds::blank();
+    for key in &keys.items[..keys.count] {
+        let id = schema_id(Key(*key));
         if has_schema(named, id) {
-            r = push_schema(r, id);
+            held = push_schema(held, id);
         }
     }
-    r
+    held
 }
 
 // ---- the updates of a list

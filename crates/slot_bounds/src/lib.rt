@@ -8,7 +8,7 @@ ghost use Rattle.slot_bounds.specs.Counted.{Counted};
 pub fn with_slots(count: usize, slots: usize) -> usize
     ensures { (result ≤ count) × (result ≤ slots) }
 {
-    if count < slots { count } else { slots }
+    count.min(slots)
 }
 
 // How many bytes of a text can be lent, of which so many count.
@@ -18,18 +18,23 @@ pub fn lent(text: &[u8], len: usize) -> usize
     with_slots(len, text.len())
 }
 
+// A value to its slot; one past the end is not kept.
+fn store<T: Copy + Drop>(slots: &mut [T], at: usize, value: T)
+    ensures { slots.new ≡ set slots.old at value }
+{
+    if at < slots.len() {
+        slots[at] = value;
+    }
+}
+
 pub fn store_byte(slots: &mut [u8], at: usize, byte: u8)
     ensures { slots.new ≡ set slots.old at byte }
 {
-    if at < slots.len() {
-        slots[at] = byte;
-    }
+    store(slots, at, byte);
 }
 
 pub fn store_id(slots: &mut [i64], at: usize, id: i64)
     ensures { slots.new ≡ set slots.old at id }
 {
-    if at < slots.len() {
-        slots[at] = id;
-    }
+    store(slots, at, id);
 }

@@ -21,7 +21,7 @@ use builder::decision::{Decision, decided};
 use primitives::row_ids::check_rows;
 use primitives::window::is_before;
 use records::capacities::SNAPSHOTS;
-use records::counters::{Age, RowId, SequenceNumber, Time};
+use records::counters::{Age, RowId, Time};
 use records::metadata::SingleFields;
 use records::part::RefsPart;
 use records::replies::{
@@ -32,100 +32,46 @@ use records::snapshot::{Snapshot, Snapshots};
 use records::update::{ADD_SNAPSHOT, TableUpdate};
 use search::position_ascending;
 
-fn at_most(a: SequenceNumber, b: SequenceNumber) -> bool
-    ensures { result ≡ le_z a.0 b.0 }
-{
-    let x = a.0;
-    let y = b.0;
-    x <= y
-}
-
 fn too_low(f: SingleFields, s: Snapshot) -> bool
     ensures { result ≡ too_low (read_snapshot s) (read_fields f) }
 {
-    let v = f.format_version;
-    let a = s.sequence_number;
-    let b = f.last_sequence_number;
-    let p = s.has_parent;
-    let low = at_most(a, b);
-    if v == 1 {
-        return false;
-    }
-    if low {
-        return p;
-    }
-    false
-}
-
-fn is_earlier(a: Time, b: Time) -> bool
-    ensures { result ≡ lt_z a.0 b.0 }
-{
-    let x = a.0;
-    let y = b.0;
-    x < y
-}
-
-fn later(a: Time, b: Time) -> Time
-    ensures { result.0 ≡ larger a.0 b.0 }
-{
-    if is_earlier(a, b) {
-        return b;
-    }
-    a
+    f.format_version != 1 && s.sequence_number <= f.last_sequence_number && s.has_parent
 }
 
 fn latest(b: TableMetadataBuilder) -> Time
     ensures { result.0 ≡ larger b.fields.last_updated_ms.0 (or_else (given b.has_own b.own.0) (pos 0)) }
 {
-    let f = b.fields;
-    let u = f.last_updated_ms;
-    let o = own_or(b, Time(0));
-    later(u, o)
+    b.fields.last_updated_ms.max(own_or(b, Time(0)))
 }
 
 // More than the tolerance before the last entry, where there is one.
 fn before_entry(has_last: bool, tolerance: Age, time: Time, entry: Time) -> bool
     ensures { result ≡ some_with (is_before tolerance.0 time.0) (given has_last entry.0) }
 {
-    let early = is_before(tolerance, time, entry);
-    if has_last {
-        return early;
-    }
-    false
+    has_last && is_before(tolerance, time, entry)
 }
 
 // The row checks at version 3: 10, then 9, then 11.
 fn rows_number(f: SingleFields, s: Snapshot) -> u8
     ensures { result ≡ first_of (row_checks (read_snapshot s) (read_fields f)) }
 {
-    let v = f.format_version;
-    let h = s.has_rows;
-    let next = f.next_row_id;
-    let first = s.first_row_id;
-    let added = s.added_rows;
-    if v != 3 {
+    if f.format_version != 3 {
         return ACCEPTED;
     }
-    if !h {
+    if !s.has_rows {
         return NO_ROW_RANGE;
     }
-    let r = check_rows(next, first, added);
-    r.number
+    check_rows(f.next_row_id, s.first_row_id, s.added_rows).number
 }
 
 // The next row id after an addition that is not refused.
 fn next_row_after(f: SingleFields, s: Snapshot) -> RowId
     ensures { first_of (row_checks (read_snapshot s) (read_fields f)) ≡ 0 → result ≡ next_row_after (read_snapshot s) (read_fields f) }
 {
-    let v = f.format_version;
-    let next = f.next_row_id;
-    let first = s.first_row_id;
-    let added = s.added_rows;
-    if v != 3 {
-        return next;
+    if f.format_version != 3 {
+        return f.next_row_id;
     }
-    let r = check_rows(next, first, added);
-    r.next
+    check_rows(f.next_row_id, s.first_row_id, s.added_rows).next
 }
 
 // The checks in document 01's order: 5; 6; 7; 8; at version 3 10, 9, 11; 19. The entry is the last of the snapshot log, where it has one.
@@ -140,40 +86,29 @@ fn add_snapshot_number(
     requires { ascending lt_z ids.now ≡ true }
     ensures { (st : State) → b ≡ laid_builder st → ids.now ≡ ids_of st.metadata.snapshots → given has_last entry.0 ≡ last_time st.metadata.snapshot_log → result ≡ first_of (add_snapshot_checks tolerance.0 (read_snapshot s) st) }
 {
-    let f = b.fields;
-    let id = s.snapshot_id;
-    let time = s.timestamp_ms;
-    let n = ids.len();
-    let at = position_ascending(ids, id.0);
-    let low = too_low(f, s);
-    let early = before_entry(has_last, tolerance, time, entry);
-    let last = latest(b);
-    let late = is_before(tolerance, time, last);
-    let rows = rows_number(f, s);
-    let n19 = choose(n >= SNAPSHOTS, TABLE_FULL, ACCEPTED);
+    let at = position_ascending(ids, s.snapshot_id.0);
+    let low = too_low(b.fields, s);
+    let early = before_entry(has_last, tolerance, s.timestamp_ms, entry);
+    let late = is_before(tolerance, s.timestamp_ms, latest(b));
+    let rows = rows_number(b.fields, s);
+    let n19 = choose(ids.len() >= SNAPSHOTS, TABLE_FULL, ACCEPTED);
     let n10 = choose(rows != ACCEPTED, rows, n19);
     let n8 = choose(late, BEFORE_LAST_UPDATE, n10);
     let n7 = choose(early, BEFORE_LAST_ENTRY, n8);
     let n6 = choose(low, SEQUENCE_TOO_LOW, n7);
-    choose(at < n, SNAPSHOT_HELD, n6)
+    choose(at < ids.len(), SNAPSHOT_HELD, n6)
 }
 
 // The builder after an addition that is not refused.
 fn add_snapshot_builder(b: TableMetadataBuilder, s: Snapshot) -> TableMetadataBuilder
     ensures { (tolerance : ℤ) (st : State) → b ≡ laid_builder st → first_of (add_snapshot_checks tolerance (read_snapshot s) st) ≡ 0 → result ≡ laid_builder (add_snapshot (read_snapshot s) st) }
 {
-    let f = b.fields;
-    let q = s.sequence_number;
-    let time = s.timestamp_ms;
-    let next = next_row_after(f, s);
-    let mut g = f;
-    g.last_sequence_number = q;
-    g.next_row_id = next;
-    let mut c = b;
-    c.fields = g;
-    c.has_own = true;
-    c.own = time;
-    c
+    let mut after = b;
+    after.fields.last_sequence_number = s.sequence_number;
+    after.fields.next_row_id = next_row_after(b.fields, s);
+    after.has_own = true;
+    after.own = s.timestamp_ms;
+    after
 }
 
 // ---- the updates of a list
@@ -182,11 +117,10 @@ fn add_snapshot_builder(b: TableMetadataBuilder, s: Snapshot) -> TableMetadataBu
 fn addition(u: TableUpdate) -> TableUpdate
     ensures { (eqb u.kind add_snapshot_kind || eqb u.kind set_branch_snapshot_kind) ≡ true → is_tidy_update u ≡ true → result ≡ laid_update (AddSnapshot (read_snapshot u.snapshots.added)) }
 {
-    let mut e = u;
-    let none = RefsPart::blank();
-    e.kind = ADD_SNAPSHOT;
-    e.refs = none;
-    e
+    let mut entry = u;
+    entry.kind = ADD_SNAPSHOT;
+    entry.refs = RefsPart::blank();
+    entry
 }
 
 // An addition, or the first half of a branch commit, which is refused with 13 on a tag.
@@ -204,17 +138,14 @@ pub fn add_snapshot(
     requires ids_value { ascending lt_z ids.now ≡ true }
     ensures { (st : State) → b ≡ laid_builder st → ids.now ≡ ids_of st.metadata.snapshots → given has_last entry.0 ≡ last_time st.metadata.snapshot_log → SnapshotDecided on_tag tolerance.0 (read_snapshot u.snapshots.added) st result }
 {
-    let s = u.snapshots.added;
-    let fails = add_snapshot_number(b, ids, has_last, entry, tolerance, s);
+    let fails = add_snapshot_number(b, ids, has_last, entry, tolerance, u.snapshots.added);
     let number = choose(on_tag, COMMIT_ON_TAG, fails);
-    let c = add_snapshot_builder(b, s);
-    let e = addition(u);
     Decision {
         number,
         logs: true,
         grows: number == ACCEPTED,
-        builder: c,
-        entry: e,
+        builder: add_snapshot_builder(b, u.snapshots.added),
+        entry: addition(u),
     }
 }
 
@@ -227,10 +158,8 @@ pub fn remove_snapshots(b: TableMetadataBuilder, t: Snapshots, u: TableUpdate) -
     requires kind_value { u.kind ≡ remove_snapshots_kind }
     ensures { (st : State) → b ≡ laid_builder st → t ≡ laid_snapshots st.metadata.snapshots → SnapshotsGone (read_snapshot_ids u.snapshots.removed) st result }
 {
-    let mut part = u.snapshots;
-    let held = tables::snapshots::held(t, part.removed);
-    part.removed = held;
-    let mut e = u;
-    e.snapshots = part;
-    decided(ACCEPTED, held.count > 0, b, e)
+    let held = tables::snapshots::held(t, u.snapshots.removed);
+    let mut entry = u;
+    entry.snapshots.removed = held;
+    decided(ACCEPTED, held.count > 0, b, entry)
 }

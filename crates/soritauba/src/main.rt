@@ -6,11 +6,8 @@ use case_reader::limit_text::LimitText;
 use case_reader::run::{Run, read_ending, read_run};
 use commands::list::read_list;
 use commands::tell::put_answer_of;
-use commands::turn::{
-    ASKED, AUDIT, CLOSED, CURRENT, END, EXPIRE, EXPIRED, EXPORT, FILED, IMPORT, JUDGED, LISTED,
-    NONE, REPLAY, RUN, SHOWN, Turn,
-};
-use commands::{advance, begin, read_tour};
+use commands::turn::{Turn, Wanted};
+use commands::{Command, advance, begin, read_tour};
 use expiries::asked::{read_asked, terms_of};
 use expiries::told::{find, say_outcome, tell};
 use expiry::expiring_updates;
@@ -20,27 +17,25 @@ use records::run::{Answer, RunTerms};
 use records::update::UpdateList;
 use report::answer::{fault_of, say_answer};
 use report::asked::say_asked;
-use report::example::{CHANGES_OF_REPLAY, form_of, run_of};
+use report::example::{Form, Shown, form_of, run_of};
 use report::judged::{Judged, say_judged};
 use report::shown::say_shown;
 use slot_bounds::lent;
 use std::num::wrapping_sub_usize;
 use std::rt::HostRuntime;
-use tokens::input::{Input, Place, empty_input, is_good, piece_of, start};
-use tokens::output::{OUTPUT, Output, empty_output, flush};
-use tokens::source::standard;
+use tokens::input::Input;
+use tokens::output::{OUTPUT, Output};
+use tokens::source::Source;
 use verdict::judge_answer;
 
 // The metadata as it is, with no changes: what is answered before the first call.
 fn unasked(metadata: TableMetadata) -> Answer {
-    let changes = UpdateList::blank();
-    let expired = MetadataLog::blank();
     Answer {
         number: 0,
         place: 0,
         metadata,
-        changes,
-        expired,
+        changes: UpdateList::blank(),
+        expired: MetadataLog::blank(),
     }
 }
 
@@ -54,10 +49,8 @@ fn run_times(
     offers: &[u8],
 ) -> Answer {
     let mut answer = unasked(m);
-    let mut left = times;
-    while left > 0 {
+    for _ in 0..times {
         answer = register::run(m, us, terms, limit, offers);
-        left -= 1;
     }
     answer
 }
@@ -88,16 +81,16 @@ fn ask_again(
     let bytes = text.bytes;
     let slots: &[u8] = &bytes;
     let len = lent(slots, text.len);
-    if turn.wanted == CLOSED {
+    if turn.wanted == Wanted::Closed {
         return close_alone::close(turn.times, m, terms, &slots[..len]);
     }
     run_times(turn.times, m, us, terms, &slots[..len], offers)
 }
 
 // A run with its own list. What the list offers goes into a slice; a list as JSON wants the array.
-fn read_own(first: u64, input: &mut Input, place: &mut Place, offers: &mut [u8; OFFERS]) -> Run {
+fn read_own(first: u64, input: &mut Input, offers: &mut [u8; OFFERS]) -> Run {
     let slots: &mut [u8] = offers;
-    read_run(first, input, place, slots)
+    read_run(first, input, slots)
 }
 
 // Nothing is said before the whole run is read, so that no part of its answer stands above `bad input`. A list that is given as JSON stands in the place of
@@ -106,65 +99,53 @@ fn run(
     rt: HostRuntime,
     turn: Turn,
     input: &mut Input,
-    place: &mut Place,
     offers: &mut [u8; OFFERS],
     output: &mut Output,
-    end: &mut usize,
 ) {
-    let mut run = read_own(turn.first, input, place, offers);
-    let mut is_asked = is_good(place);
-    if is_asked && turn.wanted == LISTED {
-        let read = read_list(rt, turn, offers, output, end);
+    let mut run = read_own(turn.first, input, offers);
+    let mut is_asked = input.is_good();
+    if is_asked && turn.wanted == Wanted::Listed {
+        let read = read_list(rt, turn, offers, output);
         is_asked = read.number == 0;
-        let list = read.list;
-        run.updates = list;
+        run.updates = read.list;
     }
     let slots: &[u8] = offers;
     if is_asked {
-        if turn.command == RUN {
-            say_asked(output, end, piece_of(place), run, slots);
+        if turn.command == Command::Run {
+            say_asked(output, input.piece(), run, slots);
             let answer = ask(run.limit, run.metadata, run.updates, run.terms, slots);
-            say_answer(output, end, run.terms, answer, slots);
-        } else if turn.times == 1 && turn.wanted == ASKED {
+            say_answer(output, run.terms, answer, slots);
+        } else if turn.times == 1 && turn.wanted == Wanted::Asked {
             let answer = ask(run.limit, run.metadata, run.updates, run.terms, slots);
-            put_answer_of(output, end, run.given, answer, slots);
+            put_answer_of(output, run.given, answer, slots);
         } else {
             let answer = ask_again(turn, run.limit, run.metadata, run.updates, run.terms, slots);
-            put_answer_of(output, end, run.given, answer, slots);
+            put_answer_of(output, run.given, answer, slots);
         }
     }
 }
 
 // What was read of a bad question is judged too, and its verdict is not said. The ending is read behind the run, so that less stack is needed.
-fn read_judged(first: u64, input: &mut Input, place: &mut Place, offers: &mut [u8]) -> Judged {
-    let run = read_run(first, input, place, offers);
+fn read_judged(first: u64, input: &mut Input, offers: &mut [u8]) -> Judged {
+    let run = read_run(first, input, offers);
     let answer = ask(run.limit, run.metadata, run.updates, run.terms, &offers[..]);
-    let ending = read_ending(run.given, input, place);
+    let ending = read_ending(run.given, input);
     let verdict = judge_answer(answer, ending);
     let fault = fault_of(verdict.number, run.metadata, run.terms);
-    let difference = verdict.difference;
-    let tolerance_ms = run.terms.tolerance_ms;
     Judged {
         number: verdict.number,
         place: verdict.place,
         fault,
-        difference,
-        tolerance_ms,
+        difference: verdict.difference,
+        tolerance_ms: run.terms.tolerance_ms,
         office: run.terms.office,
     }
 }
 
-fn replay(
-    turn: Turn,
-    input: &mut Input,
-    place: &mut Place,
-    offers: &mut [u8],
-    output: &mut Output,
-    end: &mut usize,
-) {
-    let judged = read_judged(turn.first, input, place, offers);
-    if is_good(place) {
-        say_judged(output, end, judged);
+fn replay(turn: Turn, input: &mut Input, offers: &mut [u8], output: &mut Output) {
+    let judged = read_judged(turn.first, input, offers);
+    if input.is_good() {
+        say_judged(output, judged);
     }
 }
 
@@ -183,25 +164,17 @@ fn outcome_of(m: TableMetadata, us: UpdateList, terms: RunTerms) -> Outcome {
     }
 }
 
-fn expire(turn: Turn, input: &mut Input, place: &mut Place, output: &mut Output, end: &mut usize) {
-    let asked = read_asked(input, place);
-    if is_good(place) {
+fn expire(turn: Turn, input: &mut Input, output: &mut Output) {
+    let asked = read_asked(input);
+    if input.is_good() {
         let terms = terms_of(asked.policy);
         let expiry = expiring_updates(asked.metadata, asked.policy);
         let fault = fault_of(expiry.number, asked.metadata, terms);
         let found = find(asked.metadata, asked.policy, expiry.number, fault);
-        tell(
-            output,
-            end,
-            turn.times,
-            piece_of(place),
-            asked,
-            expiry,
-            found,
-        );
+        tell(output, turn.times, input.piece(), asked, expiry, found);
         if expiry.number == 0 && turn.times > 0 {
             let run = outcome_of(asked.metadata, expiry.updates, terms);
-            say_outcome(output, end, run.number, run.place);
+            say_outcome(output, run.number, run.place);
         }
     }
 }
@@ -213,18 +186,20 @@ fn changes_of(m: TableMetadata, us: UpdateList, terms: RunTerms, limit: &[u8]) -
 }
 
 // Of P10 the changes of the run are run too. Of that run the changes alone are kept, and not its answer beside the other, so that less stack is needed.
-fn show(step: usize, output: &mut Output, end: &mut usize) {
-    let form = form_of(step);
+fn show(step: usize, output: &mut Output) {
+    let Form::Run(shown) = form_of(step) else {
+        return;
+    };
     let mut run = run_of(step);
     let text = run.limit;
     let bytes = text.bytes;
     let slots: &[u8] = &bytes;
     let len = lent(slots, text.len);
-    if form == CHANGES_OF_REPLAY {
+    if shown == Shown::ChangesOfReplay {
         run.updates = changes_of(run.metadata, run.updates, run.terms, &slots[..len]);
     }
     let answer = register::run(run.metadata, run.updates, run.terms, &slots[..len], b"");
-    say_shown(output, end, form, answer);
+    say_shown(output, shown, answer);
 }
 
 // What a step wants of the run.
@@ -232,38 +207,33 @@ fn answer(
     rt: HostRuntime,
     turn: Turn,
     input: &mut Input,
-    place: &mut Place,
     offers: &mut [u8; OFFERS],
     output: &mut Output,
-    end: &mut usize,
 ) {
-    let wanted = turn.wanted;
-    match wanted {
-        ASKED | LISTED | CLOSED => run(rt, turn, input, place, offers, output, end),
-        JUDGED => replay(turn, input, place, offers, output, end),
-        SHOWN => show(wrapping_sub_usize(turn.step, 1), output, end),
-        _ => {}
+    match turn.wanted {
+        Wanted::Asked | Wanted::Listed | Wanted::Closed => run(rt, turn, input, offers, output),
+        Wanted::Judged => replay(turn, input, offers, output),
+        Wanted::Shown => show(wrapping_sub_usize(turn.step, 1), output),
+        Wanted::GoOn | Wanted::End | Wanted::Expired | Wanted::Filed => {}
     }
 }
 
 // What asks one metadata file alone.
 fn go_by_one(
     rt: HostRuntime,
-    command: usize,
+    command: Command,
     line: &[u8],
     offers: &mut [u8; OFFERS],
     input: &mut Input,
-    place: &mut Place,
     output: &mut Output,
-    end: &mut usize,
 ) {
     match command {
-        RUN => file_runs::session::run(rt, line, offers, input, place, output, end),
-        EXPIRE => file_runs::expire::expire(rt, line, input, place, output, end),
-        CURRENT => file_commands::moments::current(rt, line, input, place, output, end),
-        IMPORT => file_commands::import::import(rt, line, input, place, output, end),
-        EXPORT => file_commands::export::export(rt, line, input, place, output, end),
-        AUDIT => file_runs::audit::end_page(rt, line, input, place, output, end),
+        Command::Run => file_runs::session::run(rt, line, offers, input, output),
+        Command::Expire => file_runs::expire::expire(rt, line, input, output),
+        Command::Current => file_commands::moments::current(rt, line, input, output),
+        Command::Import => file_commands::import::import(rt, line, input, output),
+        Command::Export => file_commands::export::export(rt, line, input, output),
+        Command::Audit => file_runs::audit::end_page(rt, line, input, output),
         _ => {}
     }
 }
@@ -271,36 +241,28 @@ fn go_by_one(
 // A command that goes by files, by the words of its line.
 fn go_by_files(
     rt: HostRuntime,
-    command: usize,
+    command: Command,
     line: &[u8],
     offers: &mut [u8; OFFERS],
     input: &mut Input,
-    place: &mut Place,
     output: &mut Output,
-    end: &mut usize,
 ) {
-    if command == REPLAY {
-        file_runs::replay::replay(rt, line, offers, input, place, output, end);
-    } else if command == AUDIT {
-        if file_runs::audit::begin(rt, line, offers, input, place, output, end) {
-            go_by_one(rt, command, line, offers, input, place, output, end);
-            write_out(output, end);
+    match command {
+        Command::Replay => file_runs::replay::replay(rt, line, offers, input, output),
+        Command::Audit => {
+            if file_runs::audit::begin(rt, line, offers, input, output) {
+                go_by_one(rt, command, line, offers, input, output);
+                output.flush();
+            }
         }
-    } else {
-        go_by_one(rt, command, line, offers, input, place, output, end);
+        _ => go_by_one(rt, command, line, offers, input, output),
     }
 }
 
-// What waits is written out.
-fn write_out(output: &Output, end: &mut usize) {
-    flush(output, *end);
-    *end = 0;
-}
-
 // What waits is written out where it is much.
-fn write_half(output: &Output, end: &mut usize) {
-    if *end > OUTPUT / 2 {
-        write_out(output, end);
+fn write_half(output: &mut Output) {
+    if output.len() > OUTPUT / 2 {
+        output.flush();
     }
 }
 
@@ -310,26 +272,18 @@ fn answer_files(
     turn: Turn,
     offers: &mut [u8; OFFERS],
     input: &mut Input,
-    place: &mut Place,
     output: &mut Output,
-    end: &mut usize,
 ) {
     let mut line = io::buffer();
-    if turn.line < NONE {
-        let len = read_tour(turn.line, &mut line);
-        go_by_files(
-            rt,
-            turn.command,
-            &line[..len],
-            offers,
-            input,
-            place,
-            output,
-            end,
-        );
-    } else {
-        go_by_files(rt, turn.command, b"", offers, input, place, output, end);
-        write_out(output, end);
+    match turn.line {
+        Some(at) => {
+            let len = read_tour(at, &mut line);
+            go_by_files(rt, turn.command, &line[..len], offers, input, output);
+        }
+        None => {
+            go_by_files(rt, turn.command, b"", offers, input, output);
+            output.flush();
+        }
     }
 }
 
@@ -338,56 +292,31 @@ fn answer_files(
 // from one alone is compiled as a part of its caller, and its stack lies below all that the caller calls.
 fn main(rt: HostRuntime) {
     let mut turn = begin(rt);
-    let mut input = empty_input();
-    let mut place = start(standard(rt));
+    let mut input = Input::new(Source::standard(rt));
     let mut offers = [0u8; OFFERS];
-    let mut output = empty_output();
-    let mut end: usize = 0;
-    let mut left = u64::MAX;
-    while left > 0 && turn.wanted != END {
-        if turn.line < NONE {
-            write_out(&output, &mut end);
-            answer(
-                rt,
-                turn,
-                &mut input,
-                &mut place,
-                &mut offers,
-                &mut output,
-                &mut end,
-            );
+    let mut output = Output::empty();
+    for _ in 0..u64::MAX {
+        if turn.wanted == Wanted::End {
+            break;
+        }
+        if turn.line.is_some() {
+            output.flush();
+            answer(rt, turn, &mut input, &mut offers, &mut output);
         } else {
-            answer(
-                rt,
-                turn,
-                &mut input,
-                &mut place,
-                &mut offers,
-                &mut output,
-                &mut end,
-            );
-            write_half(&output, &mut end);
+            answer(rt, turn, &mut input, &mut offers, &mut output);
+            write_half(&mut output);
         }
-        if turn.wanted == EXPIRED && turn.line < NONE {
-            write_out(&output, &mut end);
-            expire(turn, &mut input, &mut place, &mut output, &mut end);
-        } else if turn.wanted == EXPIRED {
-            expire(turn, &mut input, &mut place, &mut output, &mut end);
-            write_half(&output, &mut end);
+        if turn.wanted == Wanted::Expired && turn.line.is_some() {
+            output.flush();
+            expire(turn, &mut input, &mut output);
+        } else if turn.wanted == Wanted::Expired {
+            expire(turn, &mut input, &mut output);
+            write_half(&mut output);
         }
-        if turn.wanted == FILED {
-            answer_files(
-                rt,
-                turn,
-                &mut offers,
-                &mut input,
-                &mut place,
-                &mut output,
-                &mut end,
-            );
+        if turn.wanted == Wanted::Filed {
+            answer_files(rt, turn, &mut offers, &mut input, &mut output);
         }
-        turn = advance(rt, turn, &mut input, &mut place, &mut output, &mut end);
-        left -= 1;
+        turn = advance(rt, turn, &mut input, &mut output);
     }
-    flush(&output, end);
+    output.flush();
 }

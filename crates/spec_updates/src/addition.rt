@@ -77,10 +77,13 @@ fn choose_misfit(p: PartitionSpec, s: Schema, rest: u8) -> u8
     requires laid_schema { LaidSchema s }
     ensures { result ≡ cond (is_clashing (read_schema s).fields (read_partition_spec p) || is_repeating (read_partition_spec p)) name_clash (cond (is_misfit (read_schema s).fields (read_partition_spec p)) source_misfit rest) }
 {
-    let clash = is_clashing(p, s) | is_repeating(p);
-    let misfit = is_misfit(p, s);
-    let later = choose(misfit, SOURCE_MISFIT, rest);
-    choose(clash, NAME_CLASH, later)
+    if is_clashing(p, s) || is_repeating(p) {
+        return NAME_CLASH;
+    }
+    if is_misfit(p, s) {
+        return SOURCE_MISFIT;
+    }
+    rest
 }
 
 // The checks of a new spec, and the spec with an id for each field, with the last partition id that it leads to.
@@ -178,14 +181,13 @@ fn specs_after(t: PartitionSpecs, grows: bool, p: PartitionSpec) -> PartitionSpe
     requires laid_spec { grows ≡ true → LaidSpec p × (t.count < spec_room) }
     ensures { result ≡ cond grows (laid_partition_specs (read_partition_specs t ++ (read_partition_spec p ∷ []))) t }
 {
-    if grows {
-        let n = t.count;
-        let mut r = t;
-        r.items[n] = p;
-        r.count = n + 1;
-        return r;
+    if !grows {
+        return t;
     }
-    t
+    let mut table = t;
+    table.items[t.count] = p;
+    table.count = t.count + 1;
+    table
 }
 
 // An offer that is not well formed is 3. The entry has the offer under the id of the spec, with the ids of its fields that are not fresh. The schema is the current

@@ -30,11 +30,7 @@ fn is_held_misfit(t: PartitionSpecs, s: Schema, id: SpecId) -> bool
     requires laid_schema { LaidSchema s }
     ensures { result ≡ some_with (is_misfit (read_schema s).fields) (first (has_spec id.0) (read_partition_specs t)) }
 {
-    if !holds(t, id) {
-        return false;
-    }
-    let p = get(t, id);
-    is_misfit(p, s)
+    holds(t, id) && is_misfit(get(t, id), s)
 }
 
 // The id is the one to log.

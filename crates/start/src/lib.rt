@@ -3,7 +3,7 @@
 // Document 01 decides, as the crate `rules` writes it in Run and Answer.
 #![tactic(auto)]
 
-ghost use Rattle.std.specs.Prelude.{◌≡◌, ◌&&◌, ◌≤◌};
+ghost use Rattle.std.specs.Prelude.{◌≡◌, ◌&&◌, ◌||◌, ◌≤◌, ltb};
 ghost use Rattle.records.specs.declared.metadata.TableMetadata as tables;
 ghost use Rattle.records.specs.declared.update.UpdateList as lists;
 ghost use Rattle.rules.specs.Capacities.{list_room};
@@ -27,17 +27,16 @@ use records::replies::{
 use records::run::{Answer, FIRST_OFFICE, LONGEST_TOLERANCE_MS, RunTerms, SECOND_OFFICE};
 use records::update::{SET_BRANCH_SNAPSHOT, UpdateList};
 
+#[tactic(auto, unfolding(rules::specs::Answer::laid_outcome))]
 pub fn refused(m: TableMetadata, number: u8, place: usize) -> Answer
     ensures { result ≡ laid_outcome m (Refused number place) }
 {
-    let changes = UpdateList::blank();
-    let expired = MetadataLog::blank();
     Answer {
         number,
         place,
         metadata: m,
-        changes,
-        expired,
+        changes: UpdateList::blank(),
+        expired: MetadataLog::blank(),
     }
 }
 
@@ -45,24 +44,34 @@ pub fn refused(m: TableMetadata, number: u8, place: usize) -> Answer
 pub fn weight(kind: u8) -> usize
     ensures { result ≡ kind_weight kind }
 {
-    if kind == SET_BRANCH_SNAPSHOT {
-        return 2;
-    }
-    1
+    if kind == SET_BRANCH_SNAPSHOT { 2 } else { 1 }
 }
 
 // Below 0, or above an hour.
 fn is_outside(tolerance: Age) -> bool
     ensures { result ≡ is_outside tolerance.0 }
 {
-    let span = tolerance.0;
-    (span < 0) | (span > LONGEST_TOLERANCE_MS)
+    tolerance.0 < 0 || tolerance.0 > LONGEST_TOLERANCE_MS
 }
 
 fn is_office(office: u8) -> bool
     ensures { result ≡ is_office office }
 {
-    (office == FIRST_OFFICE) | (office == SECOND_OFFICE)
+    office == FIRST_OFFICE || office == SECOND_OFFICE
+}
+
+// A file is given whose name has more bytes than there is room for.
+fn is_long(has_file: bool, length: usize) -> bool
+    ensures { result ≡ (has_file && ltb 96 length) }
+{
+    has_file && length > TEXT
+}
+
+// More updates, or more by their weights, than a list has room for.
+fn is_above(count: usize, sum: usize) -> bool
+    ensures { result ≡ (ltb 64 count || ltb 64 sum) }
+{
+    count > UPDATES || sum > UPDATES
 }
 
 // 1, then 2, then 26, then 39. Whether the metadata is well formed is handed over, and not the metadata, which would be copied. The sum is that of
@@ -70,24 +79,19 @@ fn is_office(office: u8) -> bool
 pub fn start_number(is_formed: bool, terms: RunTerms, count: usize, sum: usize) -> u8
     ensures { (m : tables.TableMetadata) (us : lists.UpdateList) → is_formed ≡ (is_tidy_metadata m && metadata_formed (read_metadata m)) → us.count ≡ count → (count ≤ list_room → sum ≡ list_sum (read_updates us)) → result ≡ start_number m us terms }
 {
-    let has_file = terms.has_file;
-    let file = terms.file;
-    let length = file.len;
-    let outside = is_outside(terms.tolerance_ms);
-    let known = is_office(terms.office);
     if !is_formed {
         return START_NOT_FORMED;
     }
-    if has_file & (length > TEXT) {
+    if is_long(terms.has_file, terms.file.len) {
         return START_NOT_FORMED;
     }
-    if (count > UPDATES) | (sum > UPDATES) {
+    if is_above(count, sum) {
         return LIST_TOO_LONG;
     }
-    if outside {
+    if is_outside(terms.tolerance_ms) {
         return TOLERANCE_OUTSIDE;
     }
-    if !known {
+    if !is_office(terms.office) {
         return OFFICE_UNKNOWN;
     }
     ACCEPTED

@@ -20,8 +20,7 @@ pub fn decide(b: TableMetadataBuilder, t: StatisticsFiles, u: TableUpdate) -> De
     requires u_value_2 { update_formed (read_kind u) ≡ true }
     ensures { FilesDecided b t u result }
 {
-    let kind = u.kind;
-    if (kind == SET_STATISTICS) | (kind == SET_PARTITION_STATISTICS) {
+    if (u.kind == SET_STATISTICS) | (u.kind == SET_PARTITION_STATISTICS) {
         return set_statistics(b, t, u);
     }
     remove_statistics(b, t, u)
@@ -34,8 +33,7 @@ pub fn after(t: StatisticsFiles, u: TableUpdate, d: Decision) -> StatisticsFiles
     requires new_file { is_setting u ≡ true → d.grows ≡ true → NewFile t d.entry.statistics.file }
     ensures { result ≡ files_after t u d }
 {
-    let kind = u.kind;
-    if (kind == SET_STATISTICS) | (kind == SET_PARTITION_STATISTICS) {
+    if (u.kind == SET_STATISTICS) | (u.kind == SET_PARTITION_STATISTICS) {
         return statistics_after(t, d);
     }
     tables::statistics::without(t, u.statistics.removed)

@@ -32,10 +32,8 @@ pub fn set_statistics(b: TableMetadataBuilder, t: StatisticsFiles, u: TableUpdat
     requires set_partition_statistics_kind_value { (eqb u.kind set_statistics_kind || eqb u.kind set_partition_statistics_kind) ≡ true }
     ensures { FileDecided b t u result }
 {
-    let n = t.count;
-    let f = u.statistics.file;
-    let held = has_file_of(t, f.snapshot_id);
-    let full = is_full(!held, n, STATISTICS);
+    let held = has_file_of(t, u.statistics.file.snapshot_id);
+    let full = is_full(!held, t.count, STATISTICS);
     let number = choose(full, TABLE_FULL, ACCEPTED);
     Decision {
         number,

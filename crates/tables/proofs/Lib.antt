@@ -9,3 +9,4 @@ pub mod Put
 pub mod Keyed
 pub mod Each
 mod Name
+pub mod Spans

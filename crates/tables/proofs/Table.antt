@@ -62,6 +62,10 @@ module _ {K : Kind} {t : K.Whole} (h : Tidy K t) where
       let m : length (pad K.room K.blank l) ≡ K.room = simp (length-append, length-replicate) (omega (arith, within)) in
       ap length h.slots ∙ m
 
+  -- what is read is that of the slots in use
+  pub listed_slots : listed K t ≡ map K.read (take (K.count t) (K.items t))
+  listed_slots = ap (map K.read) (counted_take K.blank (K.items t) (K.count t) (omega (arith, within, long)))
+
   module _ (i : ℕ) (d : K.Slot) (b : i < K.count t) where
     pub at : get_or (listed K t) i (K.read d) ≡ K.read (get_or (K.items t) i d)
     at =

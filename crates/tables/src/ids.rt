@@ -5,7 +5,8 @@ ghost use Rattle.rules.specs.Words.{ascending, is_in};
 ghost use Rattle.rules.specs.Layout.{read_snapshot_ids, laid_snapshot_ids, read_schema_ids, laid_schema_ids, read_spec_ids, laid_spec_ids};
 ghost use Rattle.tables.specs.Laid.{LaidSnapshotIds, LaidSchemaIds, LaidSpecIds};
 
-use equality::ids::{same_schema, same_snapshot, same_spec};
+use crate::keys::{schema_key, snapshot_key, spec_key};
+use crate::runs::holds_key;
 use records::counters::{SchemaId, SnapshotId, SpecId};
 use records::partition::SpecIds;
 use records::schema::SchemaIds;
@@ -15,9 +16,7 @@ use search::position_ascending;
 pub fn snapshot_below(a: SnapshotId, b: SnapshotId) -> bool
     ensures { result ≡ lt_z a.0 b.0 }
 {
-    let x = a.0;
-    let y = b.0;
-    x < y
+    a < b
 }
 
 // Among the ids of the table of snapshots, which ascend.
@@ -25,56 +24,28 @@ pub fn is_held(ids: &[i64], id: SnapshotId) -> bool
     requires { ascending lt_z ids.now ≡ true }
     ensures { result ≡ is_in ids.now id.0 }
 {
-    let x = id.0;
-    position_ascending(ids, x) < ids.len()
+    position_ascending(ids, id.0) < ids.len()
 }
 
 pub fn has_snapshot(ids: SnapshotIds, id: SnapshotId) -> bool
     requires { LaidSnapshotIds ids }
     ensures { result ≡ is_in (read_snapshot_ids ids) id.0 }
 {
-    let n = ids.count;
-    let mut i = 0;
-    while i < n {
-        let x = ids.items[i];
-        if same_snapshot(id, x) {
-            return true;
-        }
-        i += 1;
-    }
-    false
+    holds_key(&ids.items[..ids.count], snapshot_key(id))
 }
 
 pub fn has_schema(ids: SchemaIds, id: SchemaId) -> bool
     requires { LaidSchemaIds ids }
     ensures { result ≡ is_in (read_schema_ids ids) id.0 }
 {
-    let n = ids.count;
-    let mut i = 0;
-    while i < n {
-        let x = ids.items[i];
-        if same_schema(id, x) {
-            return true;
-        }
-        i += 1;
-    }
-    false
+    holds_key(&ids.items[..ids.count], schema_key(id))
 }
 
 pub fn has_spec(ids: SpecIds, id: SpecId) -> bool
     requires { LaidSpecIds ids }
     ensures { result ≡ is_in (read_spec_ids ids) id.0 }
 {
-    let n = ids.count;
-    let mut i = 0;
-    while i < n {
-        let x = ids.items[i];
-        if same_spec(id, x) {
-            return true;
-        }
-        i += 1;
-    }
-    false
+    holds_key(&ids.items[..ids.count], spec_key(id))
 }
 
 // One id more.
@@ -83,11 +54,10 @@ pub fn push_snapshot(ids: SnapshotIds, id: SnapshotId) -> SnapshotIds
     requires count_bound { ids.count < 16 }
     ensures { result ≡ laid_snapshot_ids (read_snapshot_ids ids ++ (id.0 ∷ [])) }
 {
-    let mut r = ids;
-    let n = r.count;
-    r.items[n] = id;
-    r.count = n + 1;
-    r
+    let mut longer = ids;
+    longer.items[ids.count] = id;
+    longer.count += 1;
+    longer
 }
 
 pub fn push_schema(ids: SchemaIds, id: SchemaId) -> SchemaIds
@@ -95,11 +65,10 @@ pub fn push_schema(ids: SchemaIds, id: SchemaId) -> SchemaIds
     requires count_bound { ids.count < 16 }
     ensures { result ≡ laid_schema_ids (read_schema_ids ids ++ (id.0 ∷ [])) }
 {
-    let mut r = ids;
-    let n = r.count;
-    r.items[n] = id;
-    r.count = n + 1;
-    r
+    let mut longer = ids;
+    longer.items[ids.count] = id;
+    longer.count += 1;
+    longer
 }
 
 pub fn push_spec(ids: SpecIds, id: SpecId) -> SpecIds
@@ -107,9 +76,8 @@ pub fn push_spec(ids: SpecIds, id: SpecId) -> SpecIds
     requires count_bound { ids.count < 16 }
     ensures { result ≡ laid_spec_ids (read_spec_ids ids ++ (id.0 ∷ [])) }
 {
-    let mut r = ids;
-    let n = r.count;
-    r.items[n] = id;
-    r.count = n + 1;
-    r
+    let mut longer = ids;
+    longer.items[ids.count] = id;
+    longer.count += 1;
+    longer
 }

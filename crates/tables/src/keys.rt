@@ -12,8 +12,7 @@ use search::Key;
 pub fn snapshot_key(id: SnapshotId) -> Key
     ensures { result.0 ≡ id.0 }
 {
-    let x = id.0;
-    Key(x)
+    Key(id.0)
 }
 
 // -1 where there is no parent.
@@ -29,61 +28,53 @@ pub fn parent_key(s: Snapshot) -> Key
 pub fn order_key(id: SortOrderId) -> Key
     ensures { result.0 ≡ id.0 }
 {
-    let x = id.0;
-    Key(x)
+    Key(id.0)
 }
 
 pub fn order_id(key: Key) -> SortOrderId
     ensures { result.0 ≡ key.0 }
 {
-    let x = key.0;
-    SortOrderId(x)
+    SortOrderId(key.0)
 }
 
 pub fn schema_key(id: SchemaId) -> Key
     ensures result_value { result.0 ≡ id.0 }
     ensures sfits { SFits w32 result.0 }
 {
-    let x = id.0;
-    Key(x as i64)
+    Key(i64::from(id.0))
 }
 
 pub fn schema_id(key: Key) -> SchemaId
     requires { SFits w32 key.0 }
     ensures { result.0 ≡ key.0 }
 {
-    let x = key.0;
-    SchemaId(x as i32)
+    SchemaId(key.0 as i32)
 }
 
 pub fn spec_key(id: SpecId) -> Key
     ensures result_value { result.0 ≡ id.0 }
     ensures sfits { SFits w32 result.0 }
 {
-    let x = id.0;
-    Key(x as i64)
+    Key(i64::from(id.0))
 }
 
 pub fn spec_id(key: Key) -> SpecId
     requires { SFits w32 key.0 }
     ensures { result.0 ≡ key.0 }
 {
-    let x = key.0;
-    SpecId(x as i32)
+    SpecId(key.0 as i32)
 }
 
 pub fn field_key(id: FieldId) -> Key
     ensures result_value { result.0 ≡ id.0 }
     ensures sfits { SFits w32 result.0 }
 {
-    let x = id.0;
-    Key(x as i64)
+    Key(i64::from(id.0))
 }
 
 pub fn field_id(key: Key) -> FieldId
     requires { SFits w32 key.0 }
     ensures { result.0 ≡ key.0 }
 {
-    let x = key.0;
-    FieldId(x as i32)
+    FieldId(key.0 as i32)
 }

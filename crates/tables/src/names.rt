@@ -12,18 +12,12 @@ pub fn name_is_below(a: Name, b: Name) -> bool
     requires laid_name_2 { LaidName b }
     ensures { result ≡ name_below (read_name a) (read_name b) }
 {
-    let m = a.len;
-    let n = b.len;
-    let x = a.bytes;
-    let y = b.bytes;
-    name_below(&x[..m], &y[..n])
+    name_below(&a.bytes[..a.len], &b.bytes[..b.len])
 }
 
 pub fn is_main_name(a: Name) -> bool
     requires { LaidName a }
     ensures { result ≡ is_main (read_name a) }
 {
-    let m = a.len;
-    let x = a.bytes;
-    is_main(&x[..m])
+    is_main(&a.bytes[..a.len])
 }

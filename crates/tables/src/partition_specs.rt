@@ -14,11 +14,11 @@ ghost use Rattle.tables.specs.Laid.{LaidSpec, LaidSpecs, LaidSpecIds};
 
 use crate::ids::{has_spec, push_spec};
 use crate::keys::spec_key;
+use crate::runs::{holds_key, keep_into, keys_of, position_of};
 use equality::read::same_partition_fields;
 use records::capacities::PARTITION_SPECS;
 use records::counters::SpecId;
 use records::partition::{PartitionSpec, PartitionSpecs, SpecIds};
-use search::{is_in, position};
 
 // The ids, in table order, and zeros after them.
 pub fn ids_of(t: PartitionSpecs) -> [i64; PARTITION_SPECS]
@@ -26,28 +26,14 @@ pub fn ids_of(t: PartitionSpecs) -> [i64; PARTITION_SPECS]
     ensures value { result ≡ pad spec_room (pos 0) (spec_ids (read_partition_specs t)) }
     ensures by_index { (k : ℕ) → SFits w32 (get_or result k (pos 0)) }
 {
-    let n = t.count;
-    let mut r = [0i64; PARTITION_SPECS];
-    let mut i = 0;
-    while i < n {
-        let s = t.items[i];
-        let x = s.spec_id;
-        let k = spec_key(x);
-        let z = k.0;
-        r[i] = z;
-        i += 1;
-    }
-    r
+    keys_of(&t.items[..t.count])
 }
 
 pub fn holds(t: PartitionSpecs, id: SpecId) -> bool
     requires { LaidSpecs t }
     ensures { result ≡ holds_spec (read_partition_specs t) id.0 }
 {
-    let n = t.count;
-    let ids = ids_of(t);
-    let k = spec_key(id);
-    is_in(&ids[..n], k)
+    holds_key(&t.items[..t.count], spec_key(id))
 }
 
 // The spec of an id that is held.
@@ -57,11 +43,7 @@ pub fn get(t: PartitionSpecs, id: SpecId) -> PartitionSpec
     ensures t_value { first (has_spec id.0) (read_partition_specs t) ≡ some (read_partition_spec result) }
     ensures laid_spec { LaidSpec result }
 {
-    let n = t.count;
-    let ids = ids_of(t);
-    let k = spec_key(id);
-    let i = position(&ids[..n], k.0);
-    t.items[i]
+    t.items[position_of(&t.items[..t.count], spec_key(id))]
 }
 
 // Where the first with equal fields stands, their ids apart; the count where there is none.
@@ -70,16 +52,12 @@ pub fn find_equal(t: PartitionSpecs, s: PartitionSpec) -> usize
     requires laid_spec { LaidSpec s }
     ensures { result ≡ index_of (λ x. same_list same_partition x.fields (read_partition_spec s).fields) (read_partition_specs t) }
 {
-    let n = t.count;
-    let mut i = 0;
-    while i < n {
-        let x = t.items[i];
-        if same_partition_fields(x, s) {
+    for (i, held) in t.items[..t.count].iter().enumerate() {
+        if same_partition_fields(*held, s) {
             return i;
         }
-        i += 1;
     }
-    n
+    t.count
 }
 
 pub fn without(t: PartitionSpecs, ids: SpecIds) -> PartitionSpecs
@@ -87,20 +65,11 @@ pub fn without(t: PartitionSpecs, ids: SpecIds) -> PartitionSpecs
     requires laid_spec_ids { LaidSpecIds ids }
     ensures { result ≡ laid_partition_specs (keep (λ s. not (is_in (read_spec_ids ids) s.id)) (read_partition_specs t)) }
 {
-    let n = t.count;
-    let mut r = PartitionSpecs::blank();
-    let mut i = 0;
-    while i < n {
-        let s = t.items[i];
-        let x = s.spec_id;
-        i += 1;
-        if !has_spec(ids, x) {
-            let k = r.count;
-            r.items[k] = s;
-            r.count = k + 1;
-        }
-    }
-    r
+    let mut rest = PartitionSpecs::blank();
+    rest.count = keep_into(&t.items[..t.count], &mut rest.items, |s| {
+        !has_spec(ids, s.spec_id)
+    });
+    rest
 }
 
 pub fn held(t: PartitionSpecs, ids: SpecIds) -> SpecIds
@@ -109,16 +78,11 @@ pub fn held(t: PartitionSpecs, ids: SpecIds) -> SpecIds
     requires t_value { ascending spec_below (read_partition_specs t) ≡ true }
     ensures { result ≡ laid_spec_ids (held_specs (read_spec_ids ids) (read_partition_specs t)) }
 {
-    let n = t.count;
-    let mut r = SpecIds::blank();
-    let mut i = 0;
-    while i < n {
-        let s = t.items[i];
-        let x = s.spec_id;
-        i += 1;
-        if has_spec(ids, x) {
-            r = push_spec(r, x);
+    let mut held = SpecIds::blank();
+    for s in &t.items[..t.count] {
+        if has_spec(ids, s.spec_id) {
+            held = push_spec(held, s.spec_id);
         }
     }
-    r
+    held
 }

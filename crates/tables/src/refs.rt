@@ -11,6 +11,7 @@ ghost use Rattle.tables.specs.Laid.{LaidName, LaidRef, LaidRefsPart, LaidRefs, o
 
 use crate::ids::is_held;
 use crate::names::name_is_below;
+use crate::runs::{insert, keep_into};
 use equality::text::same_name;
 use records::part::RefsPart;
 use records::reference::{NamedRef, Refs};
@@ -22,17 +23,12 @@ pub fn find(t: Refs, name: Name) -> usize
     requires laid_name { LaidName name }
     ensures { result ≡ index_of (has_name (read_name name)) (read_refs t) }
 {
-    let n = t.count;
-    let mut i = 0;
-    while i < n {
-        let r = t.items[i];
-        let x = r.name;
-        if same_name(x, name) {
+    for (i, held) in t.items[..t.count].iter().enumerate() {
+        if same_name(held.name, name) {
             return i;
         }
-        i += 1;
     }
-    n
+    t.count
 }
 
 fn place(t: Refs, name: Name) -> usize
@@ -40,38 +36,12 @@ fn place(t: Refs, name: Name) -> usize
     requires laid_name { LaidName name }
     ensures { result ≡ index_of (λ x. not (name_below x.name (read_name name))) (read_refs t) }
 {
-    let n = t.count;
-    let mut i = 0;
-    while i < n {
-        let r = t.items[i];
-        let x = r.name;
-        if !name_is_below(x, name) {
+    for (i, held) in t.items[..t.count].iter().enumerate() {
+        if !name_is_below(held.name, name) {
             return i;
         }
-        i += 1;
     }
-    n
-}
-
-fn insert_at(t: Refs, at: usize, x: NamedRef) -> Refs
-    requires laid_refs { LaidRefs t }
-    requires laid_ref { LaidRef x }
-    requires count_bound { t.count < 16 }
-    requires at_le_count { at ≤ t.count }
-    ensures { result ≡ laid_refs (take at (read_refs t) ++ (read_ref x ∷ drop at (read_refs t))) }
-{
-    let n = t.count;
-    let mut r = t;
-    let mut carried = x;
-    let mut i = at;
-    while i <= n {
-        let next = r.items[i];
-        r.items[i] = carried;
-        carried = next;
-        i += 1;
-    }
-    r.count = n + 1;
-    r
+    t.count
 }
 
 // The ref in its place. It takes the place of one with its name, and has that one's owner; another one is the office's.
@@ -82,30 +52,24 @@ pub fn put(t: Refs, x: RefsPart, office: u8) -> Refs
     requires t_value { ascending ref_below (read_refs t) ≡ true }
     ensures { result ≡ laid_refs (putBy ref_below (owned_ref office x (read_refs t)) (read_refs t)) }
 {
-    let n = t.count;
-    let name = x.name;
-    let reference = x.reference;
-    let at = place(t, name);
-    if at < n {
-        let y = t.items[at];
-        let other = y.name;
-        if same_name(other, name) {
-            let mut r = t;
-            let kept = NamedRef {
-                name,
-                reference,
-                owner: y.owner,
-            };
-            r.items[at] = kept;
-            return r;
-        }
+    let at = place(t, x.name);
+    let mut changed = t;
+    if at < t.count && same_name(t.items[at].name, x.name) {
+        changed.items[at] = NamedRef {
+            name: x.name,
+            reference: x.reference,
+            owner: t.items[at].owner,
+        };
+        return changed;
     }
     let made = NamedRef {
-        name,
-        reference,
+        name: x.name,
+        reference: x.reference,
         owner: office,
     };
-    insert_at(t, at, made)
+    insert(&mut changed.items, t.count, at, made);
+    changed.count += 1;
+    changed
 }
 
 pub fn without(t: Refs, name: Name) -> Refs
@@ -113,20 +77,13 @@ pub fn without(t: Refs, name: Name) -> Refs
     requires laid_name { LaidName name }
     ensures { result ≡ laid_refs (keep (λ x. not (has_name (read_name name) x)) (read_refs t)) }
 {
-    let n = t.count;
-    let mut r = Refs::blank();
-    let mut i = 0;
-    while i < n {
-        let x = t.items[i];
-        let y = x.name;
-        i += 1;
-        if !same_name(y, name) {
-            let k = r.count;
-            r.items[k] = x;
-            r.count = k + 1;
-        }
-    }
-    r
+    let mut rest = Refs::blank();
+    rest.count = keep_into(
+        &t.items[..t.count],
+        &mut rest.items,
+        |x| !same_name(x.name, name),
+    );
+    rest
 }
 
 // The refs to held snapshots, whose ids are lent in table order.
@@ -135,19 +92,9 @@ pub fn pointing(t: Refs, ids: &[i64]) -> Refs
     requires ids_value { ascending lt_z ids.now ≡ true }
     ensures { result ≡ laid_refs (keep (λ x. is_in ids.now x.reference.snapshot) (read_refs t)) }
 {
-    let n = t.count;
-    let mut r = Refs::blank();
-    let mut i = 0;
-    while i < n {
-        let x = t.items[i];
-        let y = x.reference;
-        let id = y.snapshot_id;
-        i += 1;
-        if is_held(ids, id) {
-            let k = r.count;
-            r.items[k] = x;
-            r.count = k + 1;
-        }
-    }
-    r
+    let mut kept = Refs::blank();
+    kept.count = keep_into(&t.items[..t.count], &mut kept.items, |x| {
+        is_held(ids, x.reference.snapshot_id)
+    });
+    kept
 }

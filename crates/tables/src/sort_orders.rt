@@ -12,40 +12,26 @@ ghost use Rattle.search.specs.Places.{index_of};
 ghost use Rattle.tables.specs.Laid.{LaidSchema, LaidOrder, LaidOrders};
 
 use crate::keys::{field_key, order_key};
-use crate::schemas::field_ids_of;
+use crate::runs::{holds_key, insert, keys_of, place_of, position_of};
 use equality::read::same_sort_fields;
 use records::capacities::SORT_ORDERS;
 use records::counters::SortOrderId;
 use records::schema::Schema;
 use records::sort_order::{SortOrder, SortOrders};
-use search::{is_in, place, position};
 
 pub fn ids_of(t: SortOrders) -> [i64; SORT_ORDERS]
     requires { LaidOrders t }
     ensures value { result ≡ pad sort_order_room (pos 0) (order_ids (read_sort_orders t)) }
     ensures by_index { (k : ℕ) → SFits w64 (get_or result k (pos 0)) }
 {
-    let n = t.count;
-    let mut r = [0i64; SORT_ORDERS];
-    let mut i = 0;
-    while i < n {
-        let o = t.items[i];
-        let x = o.order_id;
-        let z = x.0;
-        r[i] = z;
-        i += 1;
-    }
-    r
+    keys_of(&t.items[..t.count])
 }
 
 pub fn holds(t: SortOrders, id: SortOrderId) -> bool
     requires { LaidOrders t }
     ensures { result ≡ holds_order (read_sort_orders t) id.0 }
 {
-    let n = t.count;
-    let ids = ids_of(t);
-    let k = order_key(id);
-    is_in(&ids[..n], k)
+    holds_key(&t.items[..t.count], order_key(id))
 }
 
 pub fn get(t: SortOrders, id: SortOrderId) -> SortOrder
@@ -54,10 +40,7 @@ pub fn get(t: SortOrders, id: SortOrderId) -> SortOrder
     ensures t_value { first (has_order id.0) (read_sort_orders t) ≡ some (read_sort_order result) }
     ensures laid_order { LaidOrder result }
 {
-    let n = t.count;
-    let ids = ids_of(t);
-    let i = position(&ids[..n], id.0);
-    t.items[i]
+    t.items[position_of(&t.items[..t.count], order_key(id))]
 }
 
 pub fn find_equal(t: SortOrders, o: SortOrder) -> usize
@@ -65,16 +48,12 @@ pub fn find_equal(t: SortOrders, o: SortOrder) -> usize
     requires laid_order { LaidOrder o }
     ensures { result ≡ index_of (λ x. same_list same_sort_field x.fields (read_sort_order o).fields) (read_sort_orders t) }
 {
-    let n = t.count;
-    let mut i = 0;
-    while i < n {
-        let x = t.items[i];
-        if same_sort_fields(x, o) {
+    for (i, held) in t.items[..t.count].iter().enumerate() {
+        if same_sort_fields(*held, o) {
             return i;
         }
-        i += 1;
     }
-    n
+    t.count
 }
 
 // The order names a field that is not the schema's.
@@ -83,41 +62,12 @@ pub fn is_unfit(o: SortOrder, s: Schema) -> bool
     requires laid_schema { LaidSchema s }
     ensures { result ≡ any (λ f. not (is_in (field_ids (read_schema s)) f.source)) (read_sort_order o).fields }
 {
-    let n = o.count;
-    let m = s.count;
-    let ids = field_ids_of(s);
-    let mut i = 0;
-    while i < n {
-        let f = o.items[i];
-        let x = f.source_id;
-        let k = field_key(x);
-        if !is_in(&ids[..m], k) {
+    for f in &o.items[..o.count] {
+        if !holds_key(&s.items[..s.count], field_key(f.source_id)) {
             return true;
         }
-        i += 1;
     }
     false
-}
-
-fn insert_at(t: SortOrders, at: usize, x: SortOrder) -> SortOrders
-    requires laid_orders { LaidOrders t }
-    requires laid_order { LaidOrder x }
-    requires count_bound { t.count < 16 }
-    requires at_le_count { at ≤ t.count }
-    ensures { result ≡ laid_sort_orders (take at (read_sort_orders t) ++ (read_sort_order x ∷ drop at (read_sort_orders t))) }
-{
-    let n = t.count;
-    let mut r = t;
-    let mut carried = x;
-    let mut i = at;
-    while i <= n {
-        let next = r.items[i];
-        r.items[i] = carried;
-        carried = next;
-        i += 1;
-    }
-    r.count = n + 1;
-    r
 }
 
 pub fn put(t: SortOrders, o: SortOrder) -> SortOrders
@@ -127,10 +77,9 @@ pub fn put(t: SortOrders, o: SortOrder) -> SortOrders
     requires order_id_value { holds_order (read_sort_orders t) o.order_id.0 ≡ false }
     ensures { result ≡ laid_sort_orders (putBy order_below (read_sort_order o) (read_sort_orders t)) }
 {
-    let n = t.count;
-    let id = o.order_id;
-    let ids = ids_of(t);
-    let k = order_key(id);
-    let at = place(&ids[..n], k);
-    insert_at(t, at, o)
+    let at = place_of(&t.items[..t.count], order_key(o.order_id));
+    let mut longer = t;
+    insert(&mut longer.items, t.count, at, o);
+    longer.count += 1;
+    longer
 }

@@ -1,60 +1,55 @@
 // Numbers of the fields, each of its width. A token that is no number of the field spoils the input, and is read as 0.
-ghost use Rattle.std.specs.Prelude.{◌≡◌, ◌^◌, ◌<◌, ◌≤◌};
+ghost use Rattle.std.specs.Prelude.{◌≡◌, ◌^◌, ◌<◌, ◌≤◌, IfSome};
 ghost use Rattle.std.specs.Int.Signed.{mag};
-ghost use Rattle.tokens.specs.Widths.{is_signed, is_unsigned, is_whole, number_of, signed_of};
+ghost use Rattle.tokens.specs.Widths.{number_of, signed_below, signed_of, unsigned_of};
 
-use crate::input::{Input, Place, spoil};
+use crate::input::Input;
 use crate::token::{Token, read_token};
-use crate::wanted::{SIGNED, UP_TO};
+use crate::wanted::Wanted;
 
-fn is_whole(token: Token) -> bool
-    ensures { result ≡ is_whole token }
+// The number from 0 to `most` that a token is; `-0` is 0.
+#[tactic(auto, unfolding(crate::specs::Widths::unsigned_of))]
+pub fn unsigned_of(token: Token, most: u64) -> Option<u64>
+    ensures number { result ≡ unsigned_of token most }
+    ensures within { IfSome result (λ n. n ≤ most) }
 {
-    if token.is_number {
-        token.has_digits
-    } else {
-        false
+    match token {
+        Token::Number {
+            is_negative: false,
+            magnitude,
+        } if magnitude <= most => Some(magnitude),
+        Token::Number {
+            is_negative: true,
+            magnitude: 0,
+        } => Some(0),
+        _ => None,
     }
 }
 
-// 0 to `most`; `-0` is 0.
-pub fn is_unsigned(token: Token, most: u64) -> bool
-    ensures { result ≡ is_unsigned token most }
-{
-    if is_whole(token) {
-        if token.is_negative {
-            return token.magnitude == 0;
-        }
-        return token.magnitude <= most;
-    }
-    false
-}
-
-pub fn read_up_to(input: &mut Input, place: &mut Place, most: u64) -> u64
+pub fn read_up_to(input: &mut Input, most: u64) -> u64
     ensures { result ≤ most }
 {
-    let token = read_token(input, place);
-    if is_unsigned(token, most) {
-        return token.magnitude;
+    if let Some(number) = unsigned_of(read_token(input), most) {
+        return number;
     }
-    spoil(place, UP_TO, most);
+    input.spoil(Wanted::UpTo(most));
     0
 }
 
-pub fn read_u64(input: &mut Input, place: &mut Place) -> u64 {
-    read_up_to(input, place, u64::MAX)
+pub fn read_u64(input: &mut Input) -> u64 {
+    read_up_to(input, u64::MAX)
 }
 
-pub fn read_count(input: &mut Input, place: &mut Place) -> usize {
-    read_up_to(input, place, u64::MAX) as usize
+pub fn read_count(input: &mut Input) -> usize {
+    read_up_to(input, u64::MAX) as usize
 }
 
-pub fn read_u8(input: &mut Input, place: &mut Place) -> u8 {
-    read_up_to(input, place, 255) as u8
+pub fn read_u8(input: &mut Input) -> u8 {
+    read_up_to(input, 255) as u8
 }
 
-pub fn read_flag(input: &mut Input, place: &mut Place) -> bool {
-    read_up_to(input, place, 1) == 1
+pub fn read_flag(input: &mut Input) -> bool {
+    read_up_to(input, 1) == 1
 }
 
 // How far the number lies from 0, or from -1 if it is below 0: a signed field holds it exactly if that is less than half of what the
@@ -62,76 +57,60 @@ pub fn read_flag(input: &mut Input, place: &mut Place) -> bool {
 fn span(is_negative: bool, magnitude: u64) -> u64
     ensures { result ≡ mag (number_of is_negative magnitude) }
 {
-    if is_negative {
-        if magnitude > 0 {
-            return magnitude - 1;
-        }
+    if is_negative && magnitude > 0 {
+        return magnitude - 1;
     }
     magnitude
-}
-
-// -half to half - 1.
-fn is_signed(token: Token, half: u64) -> bool
-    ensures { result ≡ is_signed token half }
-{
-    if is_whole(token) {
-        return span(token.is_negative, token.magnitude) < half;
-    }
-    false
 }
 
 fn to_i64(is_negative: bool, magnitude: u64) -> i64
     requires { mag (number_of is_negative magnitude) < 2 ^ 63 }
     ensures { result ≡ number_of is_negative magnitude }
 {
-    if is_negative {
-        if magnitude > 0 {
-            return -1 - (magnitude - 1) as i64;
-        }
-        return 0;
+    if is_negative && magnitude > 0 {
+        return -1 - (magnitude - 1) as i64;
     }
     magnitude as i64
 }
 
-fn read_signed(input: &mut Input, place: &mut Place, half: u64) -> i64
+// The number from -half to half - 1 that a token is.
+#[tactic(auto, unfolding(crate::specs::Widths::signed_below))]
+fn signed_below(token: Token, half: u64) -> Option<i64>
+    requires { half ≤ 2 ^ 63 }
+    ensures number { result ≡ signed_below token half }
+    ensures within { IfSome result (λ z. mag z < half) }
+{
+    match token {
+        Token::Number {
+            is_negative,
+            magnitude,
+        } if span(is_negative, magnitude) < half => Some(to_i64(is_negative, magnitude)),
+        _ => None,
+    }
+}
+
+fn read_signed(input: &mut Input, half: u64) -> i64
     requires { (0 < half) × (half ≤ 2 ^ 63) }
     ensures { mag result < half }
 {
-    let token = read_token(input, place);
-    if is_signed(token, half) {
-        return to_i64(token.is_negative, token.magnitude);
+    if let Some(number) = signed_below(read_token(input), half) {
+        return number;
     }
-    spoil(place, SIGNED, half);
+    input.spoil(Wanted::Signed(half));
     0
 }
 
-// The number of an i64 field that a token is; 0 if it is none.
-#[derive(Clone, Copy)]
-pub struct Signed {
-    pub is_number: bool,
-    pub number: i64,
-}
-
-pub fn signed_of(token: Token) -> Signed
+// The number of an i64 field that a token is.
+pub fn signed_of(token: Token) -> Option<i64>
     ensures { result ≡ signed_of token }
 {
-    if is_signed(token, 1 << 63) {
-        let number = to_i64(token.is_negative, token.magnitude);
-        return Signed {
-            is_number: true,
-            number,
-        };
-    }
-    Signed {
-        is_number: false,
-        number: 0,
-    }
+    signed_below(token, 1 << 63)
 }
 
-pub fn read_i64(input: &mut Input, place: &mut Place) -> i64 {
-    read_signed(input, place, 1 << 63)
+pub fn read_i64(input: &mut Input) -> i64 {
+    read_signed(input, 1 << 63)
 }
 
-pub fn read_i32(input: &mut Input, place: &mut Place) -> i32 {
-    read_signed(input, place, 1 << 31) as i32
+pub fn read_i32(input: &mut Input) -> i32 {
+    read_signed(input, 1 << 31) as i32
 }

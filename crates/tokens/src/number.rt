@@ -1,62 +1,55 @@
 // Numbers as they are written: each is followed by a space.
-ghost use Rattle.std.specs.Prelude.{◌≡◌, ◌+◌, ◌≤◌, false, length, unsigned_abs};
-ghost use Rattle.std.proofs.lemmas.List.Edits.{sets};
+ghost use Rattle.std.specs.Prelude.{◌≡◌, ◌+◌, ◌≤◌, ◌++◌, false, length, unsigned_abs};
 ghost use Rattle.tokens.specs.Writer.{Written, is_below_zero, sign};
 
-use crate::output::{Output, append, make_room};
+use crate::output::Output;
 
-fn append_sign(output: &mut Output, end: usize, is_negative: bool) -> usize
-    requires { end ≤ 16360 }
-    ensures { (result ≡ end + length (sign is_negative)) × (output.new ≡ sets output.old end (sign is_negative)) }
+fn put_sign(output: &mut Output, is_negative: bool)
+    requires { length output.old ≤ 16360 }
+    ensures { output.new ≡ output.old ++ sign is_negative }
 {
     if is_negative {
-        return append(output, end, b"-");
+        output.push(b'-');
     }
-    end
 }
 
-fn put_number(output: &mut Output, end: &mut usize, is_negative: bool, magnitude: u64)
-    ensures { Written is_negative magnitude output.old end.old output.new end.new }
+fn put_number(output: &mut Output, is_negative: bool, magnitude: u64)
+    ensures { Written is_negative magnitude output.old output.new }
 {
-    let start = make_room(output, *end);
+    output.make_room();
+    put_sign(output, is_negative);
     let mut digits = [0u8; 20];
     let n = io::decimal(magnitude, &mut digits);
-    let signed = append_sign(output, start, is_negative);
-    let spelled = append(output, signed, &digits[..n]);
-    *end = append(output, spelled, b" ");
+    output.append(&digits[..n]);
+    output.push(b' ');
 }
 
 pub fn absolute(number: i64) -> u64
     ensures { result ≡ unsigned_abs number }
 {
-    if number < 0 {
-        (-1 - number) as u64 + 1
-    } else {
-        number as u64
-    }
+    number.unsigned_abs()
 }
 
-pub fn put_u64(output: &mut Output, end: &mut usize, number: u64)
-    ensures { Written false number output.old end.old output.new end.new }
+pub fn put_u64(output: &mut Output, number: u64)
+    ensures { Written false number output.old output.new }
 {
-    put_number(output, end, false, number);
+    put_number(output, false, number);
 }
 
-pub fn put_i64(output: &mut Output, end: &mut usize, number: i64)
-    ensures { Written (is_below_zero number) (unsigned_abs number) output.old end.old output.new end.new }
+pub fn put_i64(output: &mut Output, number: i64)
+    ensures { Written (is_below_zero number) (unsigned_abs number) output.old output.new }
 {
-    let is_negative = number < 0;
-    put_number(output, end, is_negative, absolute(number));
+    put_number(output, number < 0, absolute(number));
 }
 
-pub fn put_count(output: &mut Output, end: &mut usize, count: usize) {
-    put_u64(output, end, count as u64);
+pub fn put_count(output: &mut Output, count: usize) {
+    put_u64(output, count as u64);
 }
 
-pub fn put_u8(output: &mut Output, end: &mut usize, number: u8) {
-    put_u64(output, end, number as u64);
+pub fn put_u8(output: &mut Output, number: u8) {
+    put_u64(output, number as u64);
 }
 
-pub fn put_flag(output: &mut Output, end: &mut usize, flag: bool) {
-    put_u64(output, end, flag as u64);
+pub fn put_flag(output: &mut Output, flag: bool) {
+    put_u64(output, flag as u64);
 }

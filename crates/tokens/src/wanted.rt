@@ -1,28 +1,43 @@
-// What a reader wants where it meets a fault, each with a bound. 0 is nothing: the input could not be read there.
+// What a reader wants, and what it meets in the place of it.
 
-// A number from 0 to the bound.
-pub const UP_TO: usize = 1;
+#[derive(Clone, Copy, PartialEq, Eq, Debug)]
+pub enum Wanted {
+    // A number from 0 to the bound.
+    UpTo(u64),
+    // A number from -bound to bound - 1.
+    Signed(u64),
+    // The kind of a case, from 1 to the bound.
+    Case(u64),
+    // The kind of a run: 1 or the bound.
+    Run(u64),
+    // A tag of what a run is given more, above the bound.
+    Tag(u64),
+    // A kind of case that is answered many times: 0 to 3 or the bound.
+    Repeated(u64),
+    // The count of the owners: the bound.
+    Owners(u64),
+    // The end of the input.
+    End,
+    // The kind of an expiry.
+    Expiry,
+}
 
-// A number from -bound to bound - 1.
-pub const SIGNED: usize = 2;
+#[derive(Clone, Copy, PartialEq, Eq, Debug)]
+pub enum Found {
+    Number,
+    End,
+    // A byte that stands in no number.
+    Byte(u8),
+    // The input could not be read.
+    Nothing,
+}
 
-// The kind of a case, from 1 to the bound.
-pub const CASE: usize = 3;
-
-// The kind of a run: 1 or the bound.
-pub const RUN: usize = 4;
-
-// A tag of what a run is given more, above the bound.
-pub const TAG: usize = 5;
-
-// A kind of case that is answered many times: 0 to 3 or the bound.
-pub const REPEATED: usize = 6;
-
-// The count of the owners: the bound.
-pub const OWNERS: usize = 7;
-
-// The end of the input.
-pub const END: usize = 8;
-
-// The kind of an expiry.
-pub const EXPIRY: usize = 9;
+// The first fault of an input: where it is, what was wanted there, and what is there instead. Nothing was wanted of an input that could not be read.
+#[derive(Clone, Copy, PartialEq, Eq, Debug)]
+pub struct Fault {
+    pub piece: usize,
+    pub number: usize,
+    pub byte: usize,
+    pub wanted: Option<Wanted>,
+    pub found: Found,
+}

@@ -5,47 +5,46 @@ use calendar::text::{text_of, time_of_text};
 use records::counters::Time;
 use slot_bounds::lent;
 use tokens::field::signed_of;
-use tokens::input::{Input, Place, is_first, is_good, spoil};
+use tokens::input::Input;
 use tokens::number::put_i64;
-use tokens::output::{Output, append, make_room, put_line_end};
-use tokens::token::read_token;
-use tokens::wanted::SIGNED;
+use tokens::output::Output;
+use tokens::token::{Token, read_token};
+use tokens::wanted::Wanted;
 
-fn put_text(output: &mut Output, end: &mut usize, text: &[u8]) {
+fn put_text(output: &mut Output, text: &[u8]) {
     if text.len() < 24 {
-        let at = make_room(output, *end);
-        let spelled = append(output, at, text);
-        *end = append(output, spelled, b" ");
+        output.make_room();
+        output.append(text);
+        output.push(b' ');
     }
 }
 
-fn put_answer(output: &mut Output, end: &mut usize, time: i64) {
+fn put_answer(output: &mut Output, time: i64) {
     let dated = date_of(Time(time));
     if dated.is_dated {
         let text = text_of(dated.date);
         let bytes = text.bytes;
         let slots: &[u8] = &bytes;
         let len = lent(slots, text.len);
-        put_text(output, end, &slots[..len]);
+        put_text(output, &slots[..len]);
         let timed = time_of_text(&slots[..len]);
-        put_i64(output, end, timed.time.0);
+        put_i64(output, timed.time.0);
     } else {
-        put_text(output, end, b"none");
+        put_text(output, b"none");
     }
-    put_line_end(output, *end);
+    output.end_line();
 }
 
 // One time; whether there may be another. An input has a time.
-pub fn next(input: &mut Input, place: &mut Place, output: &mut Output, end: &mut usize) -> bool {
-    let token = read_token(input, place);
-    if is_good(place) && !token.is_begun && !is_first(place) {
+pub fn next(input: &mut Input, output: &mut Output) -> bool {
+    let token = read_token(input);
+    if input.is_good() && token == Token::Blank && !input.is_first() {
         return false;
     }
-    let signed = signed_of(token);
-    if signed.is_number {
-        put_answer(output, end, signed.number);
-    } else {
-        spoil(place, SIGNED, 1 << 63);
-    }
-    signed.is_number
+    let Some(time) = signed_of(token) else {
+        input.spoil(Wanted::Signed(1 << 63));
+        return false;
+    };
+    put_answer(output, time);
+    true
 }

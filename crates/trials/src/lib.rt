@@ -7,9 +7,9 @@
 use expiries::asked::EXPIRY;
 use file_cases::export::EXPORT;
 use file_cases::import::IMPORT;
-use tokens::input::{Input, Place, spoil};
+use tokens::input::Input;
 use tokens::output::Output;
-use tokens::wanted::CASE;
+use tokens::wanted::Wanted;
 use update_lists::case::LIST;
 
 pub mod dates;
@@ -27,28 +27,21 @@ pub const WALK_OVER_IDS: u64 = 2;
 pub const WALK_OVER_RECORDS: u64 = 3;
 
 // Reads the rest of a case of this kind, and answers it if it is good: a walk so many times, anything else once.
-pub fn answer(
-    kind: u64,
-    times: u64,
-    input: &mut Input,
-    place: &mut Place,
-    output: &mut Output,
-    end: &mut usize,
-) {
+pub fn answer(kind: u64, times: u64, input: &mut Input, output: &mut Output) {
     match kind {
-        WALK_OVER_IDS => walks::ids(times, input, place, output, end),
-        WALK_OVER_RECORDS => walks::records(times, input, place, output, end),
-        4 => leaf::limit(input, place, output, end),
-        5 => leaf::window(false, input, place, output, end),
-        6 => leaf::row_ids(input, place, output, end),
-        7 => leaf::trim(input, place, output, end),
-        8 => moments::current_at(input, place, output, end),
-        10 => leaf::window(true, input, place, output, end),
-        11 => rows::rows_apart(input, place, output, end),
-        EXPIRY => expiries::list::answer(input, place, output, end),
-        LIST => update_lists::case::answer(input, place, output, end),
-        IMPORT => file_cases::import::answer(input, place, output, end),
-        EXPORT => file_cases::export::answer(input, place, output, end),
-        _ => spoil(place, CASE, KINDS),
+        WALK_OVER_IDS => walks::ids(times, input, output),
+        WALK_OVER_RECORDS => walks::records(times, input, output),
+        4 => leaf::limit(input, output),
+        5 => leaf::window(false, input, output),
+        6 => leaf::row_ids(input, output),
+        7 => leaf::trim(input, output),
+        8 => moments::current_at(input, output),
+        10 => leaf::window(true, input, output),
+        11 => rows::rows_apart(input, output),
+        EXPIRY => expiries::list::answer(input, output),
+        LIST => update_lists::case::answer(input, output),
+        IMPORT => file_cases::import::answer(input, output),
+        EXPORT => file_cases::export::answer(input, output),
+        _ => input.spoil(Wanted::Case(KINDS)),
     }
 }

@@ -4,21 +4,21 @@ use case_writer::snapshot::put_log_entry;
 use moment::Moment;
 use records::counters::Time;
 use tokens::field::read_i64;
-use tokens::input::{Input, Place, is_good};
+use tokens::input::Input;
 use tokens::number::{put_count, put_flag, put_u8};
 use tokens::output::Output;
 
-fn put_moment(output: &mut Output, end: &mut usize, moment: Moment) {
-    put_u8(output, end, moment.number);
-    put_flag(output, end, moment.found);
-    put_log_entry(output, end, moment.entry);
-    put_count(output, end, moment.read);
+fn put_moment(output: &mut Output, moment: Moment) {
+    put_u8(output, moment.number);
+    put_flag(output, moment.found);
+    put_log_entry(output, moment.entry);
+    put_count(output, moment.read);
 }
 
-pub fn current_at(input: &mut Input, place: &mut Place, output: &mut Output, end: &mut usize) {
-    let log = read_snapshot_log(input, place);
-    let time = Time(read_i64(input, place));
-    if is_good(place) {
-        put_moment(output, end, moment::current_at(log, time));
+pub fn current_at(input: &mut Input, output: &mut Output) {
+    let log = read_snapshot_log(input);
+    let time = Time(read_i64(input));
+    if input.is_good() {
+        put_moment(output, moment::current_at(log, time));
     }
 }

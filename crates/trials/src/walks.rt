@@ -7,7 +7,7 @@ use case_reader::walk_terms::{WalkTerms, read_walk_terms};
 use case_writer::ids::put_ids;
 use catalogue::table_ancestors;
 use records::snapshot::Snapshots;
-use tokens::input::{Input, Place, is_good};
+use tokens::input::Input;
 use tokens::number::{put_count, put_u8};
 use tokens::output::Output;
 use walk::{Walked, ancestors};
@@ -29,10 +29,10 @@ fn unwalked() -> Walked {
     }
 }
 
-fn put_walked(output: &mut Output, end: &mut usize, walked: Walked, buffer: &[i64]) {
-    put_u8(output, end, walked.number);
-    put_count(output, end, walked.count);
-    put_ids(output, end, buffer);
+fn put_walked(output: &mut Output, walked: Walked, buffer: &[i64]) {
+    put_u8(output, walked.number);
+    put_count(output, walked.count);
+    put_ids(output, buffer);
 }
 
 fn walk_ids(
@@ -43,8 +43,7 @@ fn walk_ids(
     buffer: &mut [i64],
 ) -> Walked {
     let mut last = unwalked();
-    let mut left = times;
-    while left > 0 {
+    for _ in 0..times {
         last = ancestors(
             ids,
             parents,
@@ -53,15 +52,13 @@ fn walk_ids(
             terms.excluded,
             buffer,
         );
-        left -= 1;
     }
     last
 }
 
 fn walk_records(times: u64, snapshots: Snapshots, terms: WalkTerms, buffer: &mut [i64]) -> Walked {
     let mut last = unwalked();
-    let mut left = times;
-    while left > 0 {
+    for _ in 0..times {
         last = table_ancestors(
             snapshots,
             terms.start,
@@ -69,7 +66,6 @@ fn walk_records(times: u64, snapshots: Snapshots, terms: WalkTerms, buffer: &mut
             terms.excluded,
             buffer,
         );
-        left -= 1;
     }
     last
 }
@@ -81,10 +77,9 @@ fn answer_ids(
     terms: WalkTerms,
     buffer: &mut [i64],
     output: &mut Output,
-    end: &mut usize,
 ) {
     let walked = walk_ids(times, ids, parents, terms, buffer);
-    put_walked(output, end, walked, buffer);
+    put_walked(output, walked, buffer);
 }
 
 fn answer_records(
@@ -93,19 +88,18 @@ fn answer_records(
     terms: WalkTerms,
     buffer: &mut [i64],
     output: &mut Output,
-    end: &mut usize,
 ) {
     let walked = walk_records(times, snapshots, terms, buffer);
-    put_walked(output, end, walked, buffer);
+    put_walked(output, walked, buffer);
 }
 
-pub fn ids(times: u64, input: &mut Input, place: &mut Place, output: &mut Output, end: &mut usize) {
+pub fn ids(times: u64, input: &mut Input, output: &mut Output) {
     let mut ids = [0i64; IDS];
     let mut parents = [0i64; IDS];
-    let n = read_ids(input, place, &mut ids);
-    let m = read_ids(input, place, &mut parents);
-    let terms = read_walk_terms(input, place);
-    if is_good(place) {
+    let n = read_ids(input, &mut ids);
+    let m = read_ids(input, &mut parents);
+    let terms = read_walk_terms(input);
+    if input.is_good() {
         let mut buffer = untouched();
         let len = terms.buffer_length;
         answer_ids(
@@ -115,23 +109,16 @@ pub fn ids(times: u64, input: &mut Input, place: &mut Place, output: &mut Output
             terms,
             &mut buffer[..len],
             output,
-            end,
         );
     }
 }
 
-pub fn records(
-    times: u64,
-    input: &mut Input,
-    place: &mut Place,
-    output: &mut Output,
-    end: &mut usize,
-) {
-    let snapshots = read_snapshots(input, place);
-    let terms = read_walk_terms(input, place);
-    if is_good(place) {
+pub fn records(times: u64, input: &mut Input, output: &mut Output) {
+    let snapshots = read_snapshots(input);
+    let terms = read_walk_terms(input);
+    if input.is_good() {
         let mut buffer = untouched();
         let len = terms.buffer_length;
-        answer_records(times, snapshots, terms, &mut buffer[..len], output, end);
+        answer_records(times, snapshots, terms, &mut buffer[..len], output);
     }
 }

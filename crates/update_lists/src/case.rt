@@ -5,7 +5,7 @@ use json_list::{Answer, Reader, end as end_of_list, feed, start};
 use records::capacities::OFFERS;
 use slot_bounds::lent;
 use tokens::field::{read_count, read_up_to};
-use tokens::input::{Input, Place, is_good};
+use tokens::input::Input;
 use tokens::number::{put_count, put_u8};
 use tokens::output::Output;
 
@@ -27,41 +27,37 @@ fn feed_part(reader: Reader, slots: &[u8], len: usize, offers: &mut [u8; OFFERS]
     feed(reader, &slots[..n], offers)
 }
 
-fn read_part(
-    reader: Reader,
-    input: &mut Input,
-    place: &mut Place,
-    offers: &mut [u8; OFFERS],
-) -> Reader {
+fn read_part(reader: Reader, input: &mut Input, offers: &mut [u8; OFFERS]) -> Reader {
     let mut part = io::large_buffer();
-    let len = read_up_to(input, place, PART) as usize;
-    read_slots(input, place, &mut part, len);
+    let len = read_up_to(input, PART) as usize;
+    read_slots(input, &mut part, len);
     feed_part(reader, &part, len, offers)
 }
 
-fn read_parts(input: &mut Input, place: &mut Place, offers: &mut [u8; OFFERS]) -> Answer {
-    let count = read_count(input, place);
+fn read_parts(input: &mut Input, offers: &mut [u8; OFFERS]) -> Answer {
+    let count = read_count(input);
     let mut reader = start(offers);
-    let mut i = 0;
-    while i < count && is_good(place) {
-        reader = read_part(reader, input, place, offers);
-        i += 1;
+    for _ in 0..count {
+        if !input.is_good() {
+            break;
+        }
+        reader = read_part(reader, input, offers);
     }
     end_of_list(reader, offers)
 }
 
 // The number, the place, the updates; an added schema with its names.
-fn put_read(output: &mut Output, end: &mut usize, answer: Answer, offers: &[u8; OFFERS]) {
+fn put_read(output: &mut Output, answer: Answer, offers: &[u8; OFFERS]) {
     let slots: &[u8] = offers;
-    put_u8(output, end, answer.number);
-    put_count(output, end, answer.place);
-    put_updates(output, end, answer.list, slots, true);
+    put_u8(output, answer.number);
+    put_count(output, answer.place);
+    put_updates(output, answer.list, slots, true);
 }
 
-pub fn answer(input: &mut Input, place: &mut Place, output: &mut Output, end: &mut usize) {
+pub fn answer(input: &mut Input, output: &mut Output) {
     let mut offers = [0u8; OFFERS];
-    let answer = read_parts(input, place, &mut offers);
-    if is_good(place) {
-        put_read(output, end, answer, &offers);
+    let answer = read_parts(input, &mut offers);
+    if input.is_good() {
+        put_read(output, answer, &offers);
     }
 }

@@ -7,87 +7,66 @@ use plaintext::text::say;
 use records::capacities::OFFERS;
 use slot_bounds::{lent, with_slots};
 use tokens::output::Output;
-use tokens::source::{Source, read as read_next};
+use tokens::source::{Source, Unread};
 
 // How many bytes are held, and the room for them and for a part behind them.
 const HELD: usize = 131072;
 
 const ROOM: usize = HELD + 16384;
 
-// The length of what could not be read. No list is as long: it is not read on behind half of that.
-const UNREAD: usize = 1 << 63;
-
+// No list is read on behind so many bytes.
 const LONGEST: usize = 1 << 62;
 
-// The number of a list that could not be read: no refusal has it.
+// Kept: the number of a list that could not be read, which no refusal has: an Option of an answer would be copied once more, with its list, where it is
+// taken out.
 const NO_LIST: u8 = 255;
 
-// One more part: an empty one at the end of the file, and where it can not be read.
-fn read_part(
-    source: &mut Source,
-    part: &mut [u8],
-    length: &mut usize,
-    reader: Reader,
-    offers: &mut [u8; OFFERS],
-) -> Reader {
-    let before = reader.before;
-    let got = read_next(source, part);
-    let count = got.count;
-    *length = before;
-    if got.is_failed {
-        *length = UNREAD;
-        return reader;
-    }
-    if before > LONGEST || part.len() > LONGEST {
-        return reader;
-    }
-    *length = before + count;
-    feed(reader, &part[..count], offers)
-}
-
-// The parts are counted since nothing says that a file ends.
+// Part after part, up to an empty one at the end of the file. They are counted since nothing says that a file ends.
 fn read_parts(
     source: &mut Source,
     text: &mut [u8],
-    length: &mut usize,
+    reader: &mut Reader,
     offers: &mut [u8; OFFERS],
-) -> Answer {
-    let mut reader = start(offers);
-    let mut left = u64::MAX;
-    while left > 0 {
+) -> Result<(), Unread> {
+    for _ in 0..u64::MAX {
         let before = reader.before;
         let from = with_slots(with_slots(before, HELD), text.len());
-        left -= 1;
-        reader = read_part(source, &mut text[from..], length, reader, offers);
-        if *length == before || *length == UNREAD {
-            left = 0;
+        let part = &mut text[from..];
+        let count = source.read(part)?;
+        if count == 0 || before > LONGEST {
+            break;
         }
+        *reader = feed(*reader, &part[..count], offers);
     }
-    end_of_list(reader, offers)
+    Ok(())
 }
 
-// The list, or its refusal, which is told: where it is, and why.
+// A refused list is told by its beginning: where it is refused, and why.
+fn say_refused(output: &mut Output, name: &[u8], text: &[u8], length: usize, answer: &Answer) {
+    let held = lent(text, with_slots(length, HELD));
+    let is_whole = length <= HELD;
+    let number = answer.number as usize;
+    say_bad_list(output, name, &text[..held], is_whole, number, answer.place);
+    say(output, b"the list is refused, and nothing is run\n");
+}
+
+// The list, or its refusal, which is told.
 pub fn read(
     source: &mut Source,
     name: &[u8],
     offers: &mut [u8; OFFERS],
     output: &mut Output,
-    end: &mut usize,
 ) -> Answer {
     let mut text = [0u8; ROOM];
-    let mut length = 0;
-    let mut answer = read_parts(source, &mut text, &mut length, offers);
-    let number = answer.number as usize;
-    if length == UNREAD {
+    let mut reader = start(offers);
+    let outcome = read_parts(source, &mut text, &mut reader, offers);
+    let length = reader.before;
+    let mut answer = end_of_list(reader, offers);
+    if outcome.is_err() {
         answer.number = NO_LIST;
-        say_unopened(output, end, name);
-    } else if number > 0 {
-        let slots: &[u8] = &text;
-        let held = lent(slots, with_slots(length, HELD));
-        let is_whole = length <= HELD;
-        let place = answer.place;
-        say_bad_list(output, end, name, &slots[..held], is_whole, number, place);
-        say(output, end, b"the list is refused, and nothing is run\n");
+        say_unopened(output, name);
+    } else if answer.number > 0 {
+        say_refused(output, name, &text, length, &answer);
     }
     answer
 }

@@ -8,6 +8,7 @@ ghost use Rattle.verdict.specs.Judged.{judged, leads_there, verdict};
 use compare::difference::Difference;
 use compare::first_difference;
 use records::metadata::TableMetadata;
+use records::replies::ACCEPTED;
 use records::run::{Answer, RunTerms};
 use records::update::UpdateList;
 
@@ -19,6 +20,7 @@ pub struct Verdict {
     pub difference: Difference,
 }
 
+#[tactic(auto, unfolding(crate::specs::Judged::verdict))]
 pub fn judge(
     m: TableMetadata,
     us: UpdateList,
@@ -29,43 +31,22 @@ pub fn judge(
 ) -> Verdict
     ensures { result ≡ verdict m us terms (record { text = limit.now; offers = offers.now }) ending }
 {
-    let answer = register::run(m, us, terms, limit, offers);
-    let number = answer.number;
-    let place = answer.place;
-    if number != 0 {
-        let difference = Difference { part: 0, place: 0 };
-        return Verdict {
-            number,
-            place,
-            difference,
-        };
-    }
-    let difference = first_difference(answer.metadata, ending);
-    Verdict {
-        number,
-        place,
-        difference,
-    }
+    judge_answer(register::run(m, us, terms, limit, offers), ending)
 }
 
 // The same of an answer that is there already.
+#[tactic(auto, unfolding(crate::specs::Judged::judged))]
 pub fn judge_answer(a: Answer, ending: TableMetadata) -> Verdict
     ensures { result ≡ judged a ending }
 {
-    let number = a.number;
-    let place = a.place;
-    if number != 0 {
-        let difference = Difference { part: 0, place: 0 };
-        return Verdict {
-            number,
-            place,
-            difference,
-        };
-    }
-    let difference = first_difference(a.metadata, ending);
+    let difference = if a.number == ACCEPTED {
+        first_difference(a.metadata, ending)
+    } else {
+        Difference { part: 0, place: 0 }
+    };
     Verdict {
-        number,
-        place,
+        number: a.number,
+        place: a.place,
         difference,
     }
 }
@@ -73,5 +54,5 @@ pub fn judge_answer(a: Answer, ending: TableMetadata) -> Verdict
 pub fn leads(v: Verdict) -> bool
     ensures { result ≡ leads_there v }
 {
-    (v.number == 0) & (v.difference.part == 0)
+    v.number == ACCEPTED && v.difference.part == 0
 }

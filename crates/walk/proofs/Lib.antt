@@ -1,10 +1,9 @@
 -- What the proofs of several functions cite.
-mod Bits
-mod Scans
-mod Rising
-mod Buffers
-mod Follow
-mod Places
-mod Least
+pub mod Bits
+pub mod Scans
+pub mod Rising
+pub mod Follow
+pub mod Places
+pub mod Least
 pub mod Enough
 pub mod Unique

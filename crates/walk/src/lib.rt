@@ -5,13 +5,15 @@
 
 ghost use Rattle.std.specs.Prelude.{◌≡◌, length};
 ghost use Rattle.rules.specs.Layout.{given};
+ghost use Rattle.rules.specs.Words.{is_in};
 ghost use Rattle.rules.specs.Walk.{Listed, ancestors, walk_buffer};
 ghost use Rattle.walk.specs.Answers.{refusal, walked};
+ghost use Rattle.walk.specs.Lists.{NoneBelow};
 
 use lists::{ascend, lists_formed};
 use records::capacities::SNAPSHOTS;
 use records::replies::{ACCEPTED, BUFFER_TOO_SHORT, LISTS_NOT_FORMED, MET_TWICE};
-use step::{lesser, step};
+use step::{given, step};
 
 mod lists;
 mod step;
@@ -30,6 +32,7 @@ fn refused(number: u8) -> Walked
 }
 
 // The answer of a walk that listed these ids: they go to the front of the buffer, if it has room for all.
+#[tactic(auto, unfolding(crate::specs::Answers::walked))]
 fn listed(path: &[i64], out: &mut [i64]) -> Walked
     ensures answer { result ≡ walked (length out.old) (Listed path.now) }
     ensures buffer { out.new ≡ walk_buffer out.old (Listed path.now) }
@@ -37,19 +40,27 @@ fn listed(path: &[i64], out: &mut [i64]) -> Walked
     if path.len() > out.len() {
         return refused(BUFFER_TOO_SHORT);
     }
-    let mut i = 0;
-    while i < path.len() {
-        out[i] = path[i];
-        i += 1;
-    }
+    out[..path.len()].copy_from_slice(path);
     Walked {
         number: ACCEPTED,
         count: path.len(),
     }
 }
 
+// Whether the id is listed. No listed id is below `least`, so one that is below it is not listed, and there is no scan: in most tables
+// parents have lower ids.
+#[tactic(auto, using(crate::proofs::Least::below_all))]
+fn is_listed(path: &[i64], least: i64, id: i64) -> bool
+    requires { NoneBelow least path.now }
+    ensures { result ≡ is_in path.now id }
+{
+    if id < least {
+        return false;
+    }
+    path.contains(&id)
+}
+
 // From `start`, itself first, parent by parent, to the excluded id if one is given. Serves `ancestors_of` and `ancestors_between`.
-// No listed id is below `least`, so one that is below it is not listed, and the scan ends at once: in most tables parents have lower ids.
 pub fn ancestors(
     ids: &[i64],
     parents: &[i64],
@@ -65,27 +76,23 @@ pub fn ancestors(
     if !lists_formed(ids, parents, ascends) {
         return refused(LISTS_NOT_FORMED);
     }
+    let end = given(has_excluded, excluded);
     let mut path = [0i64; SNAPSHOTS];
     let mut n: usize = 0;
     let mut id = start;
     let mut place: usize = 0;
     let mut least = start;
     'walk: loop {
-        place = step(ids, ascends, place, id, has_excluded, excluded);
+        place = step(ids, ascends, place, id, end);
         if place == ids.len() {
             return listed(&path[..n], out);
         }
-        let mut j = 0;
-        while (j < n) & (least <= id) {
-            if path[j] == id {
-                break 'walk;
-            }
-            j += 1;
+        if is_listed(&path[..n], least, id) {
+            return refused(MET_TWICE);
         }
         path[n] = id;
         n += 1;
-        least = lesser(least, id);
+        least = least.min(id);
         id = parents[place];
     }
-    refused(MET_TWICE)
 }

@@ -5,62 +5,49 @@ ghost use Rattle.rules.specs.Walk.{lists_formed};
 ghost use Rattle.walk.specs.Lists.{ids_formed, rising};
 
 use records::capacities::SNAPSHOTS;
-use search::position;
 
-fn is_in(ids: &[i64], id: i64) -> bool
-    ensures { result ≡ is_in ids.now id }
+fn is_in(ids: &[i64], id: &i64) -> bool
+    ensures { result ≡ is_in ids.now id.now }
 {
-    position(ids, id) < ids.len()
+    ids.contains(id)
 }
 
 // No id below 0, none twice.
+#[tactic(auto, using(crate::proofs::Scans::formed_under, crate::proofs::Scans::formed_twice, crate::proofs::Scans::formed_rest, crate::proofs::Scans::formed_end, crate::proofs::Bits::not_negative))]
 fn ids_formed(ids: &[i64]) -> bool
     ensures { result ≡ ids_formed ids.now }
 {
-    let mut i = 0;
-    while i < ids.len() {
-        let id = ids[i];
-        if id < 0 {
+    for (i, id) in ids.iter().enumerate() {
+        if *id < 0 {
             return false;
         }
         if is_in(&ids[i + 1..], id) {
             return false;
         }
-        i += 1;
     }
     true
 }
 
 // No id below 0, each above the one before it.
+#[tactic(auto, using(crate::proofs::Rising::rises_not, crate::proofs::Rising::rises_on, crate::proofs::Rising::rises_end), unfolding(crate::specs::Lists::rising))]
 pub fn ascend(ids: &[i64]) -> bool
     ensures { result ≡ rising ids.now }
 {
     let mut last: i64 = -1;
-    let mut i = 0;
-    while i < ids.len() {
-        let id = ids[i];
-        if id <= last {
+    for id in ids {
+        if *id <= last {
             return false;
         }
-        last = id;
-        i += 1;
+        last = *id;
     }
     true
 }
 
 // As many parents as ids, at most 64, no id below 0, none twice. Ids that ascend are not compared pair by pair.
+#[tactic(auto, using(crate::proofs::Scans::formed_ids, crate::proofs::Rising::rising_formed))]
 pub fn lists_formed(ids: &[i64], parents: &[i64], ascends: bool) -> bool
     requires { ascends ≡ rising ids.now }
     ensures { result ≡ lists_formed ids.now parents.now }
 {
-    if ids.len() != parents.len() {
-        return false;
-    }
-    if ids.len() > SNAPSHOTS {
-        return false;
-    }
-    if ascends {
-        return true;
-    }
-    ids_formed(ids)
+    ids.len() == parents.len() && ids.len() <= SNAPSHOTS && (ascends || ids_formed(ids))
 }

@@ -55,4 +55,4 @@ ends_elsewhere_spec =
     (λ c. omega (arith, within (tidy_snapshot_log c.requires)))
     (λ c κs. search rules)
     (λ c. let k = c.before.before.before in
-    ap not c.same_snapshot.ensures ∙ sym (by_last k.args.h k.args.f k.if-not-rebuilt.false-raw _ k.if-not-set.false-raw (last_read (tidy_snapshot_log k.requires) _ (omega arith)))))
+    ap not c.is_same.ensures ∙ sym (by_last k.args.h k.args.f k.if-not-rebuilt.false-raw _ k.if-not-set.false-raw (last_read (tidy_snapshot_log k.requires) _ (omega arith)))))

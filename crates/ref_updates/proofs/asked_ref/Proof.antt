@@ -9,7 +9,6 @@ use borrow.Table.Steps.{cases}
 use lib.Dec.{ltb}
 use Rattle.records.specs.Blanks.{no_ref}
 use Rattle.records.specs.declared.reference.NamedRef.{NamedRef}
-use Rattle.rules.specs.Register as plain
 use Rattle.rules.specs.RefUpdates.{ref_named, same_reference}
 use Rattle.rules.specs.Layout.{given, read_name, read_reference, laid_reference, read_ref, laid_ref, read_refs}
 use Rattle.tables.proofs.Each.{ref_at_lem}

@@ -2,6 +2,6 @@
 use Rattle.catalogue.specs.Links.{gathered}
 use Rattle.catalogue.proofs.links.gather.Goals as goal
 
-pub loop-i-init : goal.loop-i-init
+pub loop-snapshot-init : goal.loop-snapshot-init
 unfolding gathered
-loop-i-init c = rw c.none-links.ensures
+loop-snapshot-init c = rw c.none-links.ensures

@@ -1,10 +1,6 @@
 -- The kept bytes stay within the slots.
-use Rattle.std.proofs.Common.{◌≤◌}
-use Rattle.std.proofs.Common.{length, ◌-◌, ◌≡◌, ◌≤◌}
+use Rattle.std.proofs.Common.{◌≤◌, length}
 use Rattle.file_words.proofs.terms.keep_bytes.Given as goal
 
-abbrev pub invariant-loop-i : goal.invariant-loop-i
-invariant-loop-i l = (length l.text ≡ length l.initial.text) × (l.len ≤ length l.text)
-
-abbrev pub decreases-loop-i : goal.decreases-loop-i
-decreases-loop-i l = length l.word - l.i
+abbrev pub invariant-loop-byte : goal.invariant-loop-byte
+invariant-loop-byte l = l.len ≤ length l.text

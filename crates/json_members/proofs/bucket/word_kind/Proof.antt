@@ -1,5 +1,5 @@
 -- Each word in its turn.
-use mathlib.Core.Path.{◌≡◌, refl}
+use mathlib.Core.Path.{refl}
 use borrow.Author.Rules.{rules}
 use Rattle.json_members.proofs.Words.{answered_first, done, ask}
 use Rattle.json_members.proofs.bucket.word_kind.Statement.{statement}

@@ -1,5 +1,5 @@
 -- Each word in its turn, and then the later ones.
-use mathlib.Core.Path.{◌≡◌, refl}
+use mathlib.Core.Path.{refl}
 use borrow.Author.Rules.{rules}
 use Rattle.json_members.proofs.Words.{answered_first, others, ask}
 use Rattle.json_members.proofs.kind.action_kind.Statement.{statement}

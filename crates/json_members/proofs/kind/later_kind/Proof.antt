@@ -1,5 +1,5 @@
 -- Each word in its turn, behind what was found before.
-use mathlib.Core.Path.{◌≡◌, refl}
+use mathlib.Core.Path.{refl}
 use borrow.Author.Rules.{rules}
 use Rattle.json_members.proofs.Words.{answered, done, ask}
 use Rattle.json_members.proofs.kind.later_kind.Statement.{statement}

@@ -1,6 +1,5 @@
 -- Each object has its names, and no other spot has any.
 use Prim.Native.Nat.{ℕ}
-use mathlib.Core.Path.{refl}
 use mathlib.Core.List.{List, [], ◌∷◌}
 use borrow.Author.Rules.{rules}
 use Rattle.json_members.specs.Spots.{row_at, member_named}

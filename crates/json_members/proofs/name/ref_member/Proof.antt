@@ -1,5 +1,5 @@
 -- Each name in its turn, behind what was found before, and then the later ones.
-use mathlib.Core.Path.{◌≡◌, refl}
+use mathlib.Core.Path.{refl}
 use borrow.Author.Rules.{rules}
 use Rattle.json_members.specs.Spots.{row_at}
 use Rattle.json_members.proofs.Words.{answered, others, ask}

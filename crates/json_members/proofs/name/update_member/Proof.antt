@@ -1,5 +1,5 @@
 -- Each name in its turn, and then the others. The name of a ref stands in the rule twice, with the same spot.
-use mathlib.Core.Path.{◌≡◌, refl, ◌∙◌}
+use mathlib.Core.Path.{refl, ◌∙◌}
 use borrow.Author.Rules.{rules}
 use Rattle.json_members.specs.Spots.{row_at}
 use Rattle.json_members.proofs.Words.{answered_first, others, ask}

@@ -1,7 +1,5 @@
 -- Three members are passed over.
-use mathlib.Core.Path.{refl}
 use mathlib.Core.List.{[], ◌∷◌}
-use Rattle.json_rule.specs.Defects.{is_anything}
 use Rattle.json_members.specs.Spots.{row_at, value_at}
 use Rattle.json_members.proofs.Cases.{no_arm}
 use Rattle.json_members.proofs.Tables.{value_here}

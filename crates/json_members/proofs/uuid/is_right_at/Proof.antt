@@ -1,5 +1,4 @@
 -- A hyphen at four places, and a digit at every other.
-use Prim.Native.Nat.{ℕ}
 use mathlib.Core.Path.{refl}
 use mathlib.Core.List.{[], ◌∷◌}
 use borrow.Author.Rules.{rules}

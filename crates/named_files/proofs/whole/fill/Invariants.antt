@@ -1,5 +1,5 @@
 -- No more is read than there are slots.
-use Rattle.std.proofs.Common.{length, ◌-◌, ◌≤◌, ◌≡◌, ℕ, ◌+◌, ◌*◌, ◌<◌}
+use Rattle.std.proofs.Common.{length, ◌-◌, ◌≤◌}
 use Rattle.named_files.proofs.whole.fill.Given as goal
 
 abbrev pub invariant-loop-done : goal.invariant-loop-done

@@ -1,7 +1,6 @@
 -- The place among the ids is that in the table.
 use mir.Syntax.{w64}
 use mathlib.Core.Path.{◌≡◌, ap, ◌∙◌}
-use mathlib.Core.List.{List}
 use borrow.Author.Rules.{rules, sfits_of}
 use lib.IntN.{ℤ}
 use lib.ListN.{length}

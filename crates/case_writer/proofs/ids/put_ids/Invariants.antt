@@ -1,9 +1,0 @@
--- The ids are counted.
-use Rattle.std.proofs.Common.{length, ◌-◌}
-use Rattle.case_writer.proofs.ids.put_ids.Given as goal
-
-abbrev pub invariant-loop-i : goal.invariant-loop-i
-invariant-loop-i l = Unit {0}
-
-abbrev pub decreases-loop-i : goal.decreases-loop-i
-decreases-loop-i l = length l.ids - l.i

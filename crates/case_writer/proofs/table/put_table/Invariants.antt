@@ -1,9 +1,0 @@
--- No more elements are written than there are slots.
-use Rattle.std.proofs.Common.{◌-◌}
-use Rattle.case_writer.proofs.table.put_table.Given as goal
-
-abbrev pub invariant-loop-i : goal.invariant-loop-i
-invariant-loop-i l = Unit {0}
-
-abbrev pub decreases-loop-i : goal.decreases-loop-i
-decreases-loop-i l = l.n - l.i

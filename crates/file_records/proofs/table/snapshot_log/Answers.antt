@@ -1,0 +1,17 @@
+-- Each in its slot.
+use Rattle.std.proofs.Common.{ℕ, refl, ap, ◌∙◌, arith, rules}
+use Rattle.records.specs.Blanks.{no_snapshot_log}
+use Rattle.records.specs.declared.snapshot.SnapshotLog.{SnapshotLog}
+use Rattle.rules.specs.Layout.{laid_snapshot_log}
+use Rattle.tables.proofs.Each.{made_snapshot_log}
+use Rattle.json_store.specs.Made.{each}
+use Rattle.file_records.specs.Decoded.{item_at, log_entry_at, snapshot_log_in}
+use Rattle.file_records.proofs.Arranged.{table_laid}
+use Rattle.file_records.proofs.Filling.{filled}
+use Rattle.file_records.proofs.table.snapshot_log.Goals as goal
+
+pub returns : goal.returns
+unfolding no_snapshot_log snapshot_log_in
+returns c =
+    table_laid made_snapshot_log (filled c.count_of-count.ensures.within (ap (λ (t : SnapshotLog). t.items) c.blank-log.ensures) c.fill.ensures (λ i x b p. search rules)) (omega arith) refl
+    ∙ ap (λ (k : ℕ). laid_snapshot_log (each (λ j. log_entry_at c.args.bytes.now c.args.cells.now (item_at 4 6365 j)) k)) c.count_of-count.ensures.count

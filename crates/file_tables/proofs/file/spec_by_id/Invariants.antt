@@ -1,0 +1,6 @@
+use Rattle.rules.specs.Words.{eq_z}
+use Rattle.file_tables.proofs.file.spec_by_id.Given as goal
+
+-- it has the id
+abbrev pub ghost-find_item : goal.ghost-find_item
+ghost-find_item a = λ s. eq_z s.spec_id.0 a.is_wanted.0.now.0

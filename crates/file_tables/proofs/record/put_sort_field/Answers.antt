@@ -1,0 +1,8 @@
+-- The members one behind the other.
+use Rattle.file_text.proofs.Pieces.{then, is}
+use Rattle.file_tables.proofs.Texts.{sort_field_is}
+use Rattle.file_tables.proofs.record.put_sort_field.Goals as goal
+
+pub returns : goal.returns
+returns c =
+    is (then (then c.put_number-at.ensures c.put_either-at.ensures) c.put_either.ensures) (sort_field_is c.args.f c.of_field.ensures)

@@ -1,0 +1,6 @@
+-- One piece behind the other.
+use Rattle.file_text.proofs.Pieces.{then}
+use Rattle.file_text.proofs.texts.put_name.Goals as goal
+
+pub returns : goal.returns
+returns c = then c.put-at.ensures c.put_quoted.ensures

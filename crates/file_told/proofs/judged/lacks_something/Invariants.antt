@@ -1,9 +1,0 @@
--- The members are gone through once.
-use Rattle.std.proofs.Common.{◌-◌}
-use Rattle.file_told.proofs.judged.lacks_something.Given as goal
-
-abbrev pub invariant-loop-i : goal.invariant-loop-i
-invariant-loop-i l = Unit {0}
-
-abbrev pub decreases-loop-i : goal.decreases-loop-i
-decreases-loop-i l = 23 - l.i

@@ -1,9 +1,0 @@
--- The loop ends with the text.
-use Rattle.std.proofs.Common.{length, ◌-◌}
-use Rattle.json_told.proofs.path.path_to.Given as goal
-
-abbrev pub invariant-loop-i : goal.invariant-loop-i
-invariant-loop-i l = Unit {0}
-
-abbrev pub decreases-loop-i : goal.decreases-loop-i
-decreases-loop-i l = length l.text - l.i

@@ -1,0 +1,8 @@
+use Rattle.std.proofs.Common.{refl}
+use Rattle.records.specs.declared.counters.SchemaId.{SchemaId}
+use Rattle.file_rule.specs.Written.{number_text}
+use Rattle.file_text.proofs.Lists.{table}
+use Rattle.log_writer.proofs.ids.put_schema_ids.Goals as goal
+
+pub returns : goal.returns
+returns c = table number_text (λ (i : SchemaId). i.0) c.args.t.items c.args.t.count c.put_items.ensures refl

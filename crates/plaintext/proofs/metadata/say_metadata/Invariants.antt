@@ -1,9 +1,0 @@
--- The tables that are told are counted.
-use Rattle.std.proofs.Common.{◌-◌}
-use Rattle.plaintext.proofs.metadata.say_metadata.Given as goal
-
-abbrev pub invariant-loop-i : goal.invariant-loop-i
-invariant-loop-i l = Unit {0}
-
-abbrev pub decreases-loop-i : goal.decreases-loop-i
-decreases-loop-i l = l.n - l.i

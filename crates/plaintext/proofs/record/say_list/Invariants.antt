@@ -1,9 +1,0 @@
--- The loop ends with the elements that have slots.
-use Rattle.std.proofs.Common.{◌-◌}
-use Rattle.plaintext.proofs.record.say_list.Given as goal
-
-abbrev pub invariant-loop-i : goal.invariant-loop-i
-invariant-loop-i l = Unit {0}
-
-abbrev pub decreases-loop-i : goal.decreases-loop-i
-decreases-loop-i l = l.n - l.i

@@ -1,0 +1,8 @@
+use Rattle.std.proofs.Common.{ap, ◌∙◌}
+use Rattle.rules.specs.Words.{is_in}
+use Rattle.tables.proofs.Spans.{run_holds, map_same}
+use Rattle.tables.proofs.Each.{tidy_snapshot_ids}
+use Rattle.tables.proofs.ids.has_snapshot.Goals as goal
+
+pub returns : goal.returns
+returns c = (rw c.snapshot_key.ensures at c.holds_key.ensures) ∙ run_holds (tidy_snapshot_ids c.requires) (λ z. z) c.args.id.0 ∙ ap (λ l. is_in l c.args.id.0) (map_same _)

@@ -1,0 +1,28 @@
+-- The id is held, so the search finds it.
+use Rattle.std.proofs.Common.{arith}
+use Rattle.rules.specs.WellFormed.{has_order}
+use Rattle.tables.proofs.Table.{within}
+use Rattle.tables.proofs.Search.{found_within, found_first}
+use Rattle.tables.proofs.Spans.{run_place}
+use Rattle.tables.proofs.Each.{tidy_sort_orders, order_at_lem}
+use Rattle.tables.proofs.sort_orders.get.Goals as goal
+
+pub offset_bounds-t-position_of : goal.offset_bounds-t-position_of
+offset_bounds-t-position_of c =
+    let h = tidy_sort_orders c.requires.laid_orders in
+    omega (arith, found_within h (has_order c.args.id.0) c.requires.id_value (run_place h (has_order c.args.id.0) (rw c.order_key.ensures at c.position_of.ensures)), within h)
+
+pub bounds-t-position_of : goal.bounds-t-position_of
+bounds-t-position_of c =
+    let h = tidy_sort_orders c.requires.laid_orders in
+    omega (arith, found_within h (has_order c.args.id.0) c.requires.id_value (run_place h (has_order c.args.id.0) (rw c.order_key.ensures at c.position_of.ensures)), within h)
+
+pub returns-clause-t_value : goal.returns-clause-t_value
+returns-clause-t_value c =
+    let h = tidy_sort_orders c.requires.laid_orders in
+    found_first h (has_order c.args.id.0) c.requires.id_value (run_place h (has_order c.args.id.0) (rw c.order_key.ensures at c.position_of.ensures)) _
+
+pub returns-clause-laid_order : goal.returns-clause-laid_order
+returns-clause-laid_order c =
+    let h = tidy_sort_orders c.requires.laid_orders in
+    order_at_lem c.requires.laid_orders _ _ (found_within h (has_order c.args.id.0) c.requires.id_value (run_place h (has_order c.args.id.0) (rw c.order_key.ensures at c.position_of.ensures)))

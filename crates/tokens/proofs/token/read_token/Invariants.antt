@@ -1,8 +1,0 @@
--- The loop ends since its turns are counted; nothing has to hold from turn to turn.
-use Rattle.tokens.proofs.token.read_token.Given as goal
-
-abbrev pub invariant-loop-turns : goal.invariant-loop-turns
-invariant-loop-turns l = Unit {0}
-
-abbrev pub decreases-loop-turns : goal.decreases-loop-turns
-decreases-loop-turns l = l.turns
