@@ -117,7 +117,7 @@ struct Offset {
 }
 
 fn utc(at: usize) -> Offset
-    ensures { result.at ≡ at }
+    ensures { (result.at ≡ at) × (result.milliseconds ≡ 0) }
 {
     Offset {
         is_ahead: false,

@@ -94,8 +94,11 @@ fn say_tables(output: &mut Output, m: TableMetadata) {
     say_elements(output, m, OF_REFS);
 }
 
-// What was left out of a JSON file.
-fn say_skipped(output: &mut Output, skipped: usize) {
+// What was left out is said of a JSON file.
+pub fn say_skipped(output: &mut Output, is_json: bool, skipped: usize) {
+    if !is_json {
+        return;
+    }
     let template = b"?0{the file has nothing more at its outermost level\
         |the file has more at its outermost level, which is not held: members: %0}\
         \nwhat its snapshots and statistics files have more is passed over, and not counted\n";
@@ -118,9 +121,7 @@ fn say_file(rt: HostRuntime, output: &mut Output, line: &[u8], held: Held) {
     let len = read_file_name(rt, line, 0, &mut name);
     if held.number == 0 {
         say_held(output, &name[..len], held.metadata);
-        if held.is_json {
-            say_skipped(output, held.skipped);
-        }
+        say_skipped(output, held.is_json, held.skipped);
     }
 }
 

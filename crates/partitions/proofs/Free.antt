@@ -5,6 +5,7 @@ use mathlib.Core.Bool.{true, false, cond}
 use mathlib.Core.List.{List, [], ◌∷◌}
 use native.Mathlib.Omega.{arith}
 use borrow.Author.Tests.{ltb-false, lt-ltb}
+use lib.Dec.{ltb}
 use lib.IntN.{ℤ, pos, negsuc, suc_ℤ, ◌+ℤ◌, +ℤ-suc_ℤ, suc_ℤ-+ℤ}
 use lib.ListN.{length, get_or}
 use lib.Pow.{pow_pos}
@@ -25,8 +26,16 @@ below_top : (z : ℤ) (m : ℕ) → SFits w64 (z +ℤ pos (suc m)) → lt_z z to
 below_top (pos n) m f = lt-ltb n 9223372036854775807 (omega (arith, f.sfits))
 below_top (negsuc n) m f = refl
 
-after_fits : (z : ℤ) (m : ℕ) → SFits w64 (z +ℤ pos (suc m)) → SFits w64 (suc_ℤ z +ℤ pos m)
+pub after_fits : (z : ℤ) (m : ℕ) → SFits w64 (z +ℤ pos (suc m)) → SFits w64 (suc_ℤ z +ℤ pos m)
 after_fits z m f = subst (SFits w64) (+ℤ-suc_ℤ z (pos m) ∙ sym (suc_ℤ-+ℤ z (pos m))) f
+
+-- a field id and as many numbers after it as a spec has fields fit
+pub room_left : (z : ℤ) (m : ℕ) → SFits w32 z → m ≤ 8 → SFits w64 (z +ℤ pos (suc m))
+room_left (pos n) m f h = record { sfits = omega (arith, f.sfits) }
+room_left (negsuc n) m f h =
+    by_test (SFits w64) (ltb (suc m) (suc n))
+    (λ t. record { sfits = omega (arith, f.sfits) })
+    (λ e. record { sfits = omega (arith, f.sfits) })
 
 -- what the search for the next key answers
 pub goes_on_lem : (z : ℤ) (m : ℕ) {k : ℤ} → SFits w64 (z +ℤ pos (suc m)) → k ≡ cond (lt_z z top) (suc_ℤ z) z → k ≡ suc_ℤ z

@@ -2,10 +2,11 @@
 mod Lent
 mod Twice
 mod Smallest
-mod Named
+pub mod Named
 pub mod Reused
+mod Gathered
 mod Overwritten
 mod Numbered
 mod Offered
-mod Free
+pub mod Free
 pub mod Taken

@@ -61,13 +61,13 @@ smallest_given (some y) l = refl
 -- ---- of the fields that match
 
 module _ (f : plain.PartitionField) where
-  abbrev of_fields : List plain.PartitionField → Option ℤ
+  abbrev pub of_fields : List plain.PartitionField → Option ℤ
   of_fields l = smallest (like_ids l f)
 
-  abbrev of_specs : List plain.PartitionSpec → Option ℤ
+  abbrev pub of_specs : List plain.PartitionSpec → Option ℤ
   of_specs l = of_fields (fields_of_all l)
 
-  one_field : (h : plain.PartitionField) (l : List plain.PartitionField) → of_fields (h ∷ l) ≡ lesser (cond (is_like f h) h.id none) (of_fields l)
+  pub one_field : (h : plain.PartitionField) (l : List plain.PartitionField) → of_fields (h ∷ l) ≡ lesser (cond (is_like f h) h.id none) (of_fields l)
   one_field h l = cases (is_like f h) (λ y. rw y (smallest_given h.id (like_ids l f))) (λ n. rw n)
 
   like_append : (l r : List plain.PartitionField) → of_fields (l ++ r) ≡ lesser (of_fields l) (of_fields r)
@@ -77,7 +77,7 @@ module _ (f : plain.PartitionField) where
       ∙ ap (lesser (cond (is_like f h) h.id none)) (like_append l r)
       ∙ sym (ap (λ (o : Option ℤ). lesser o (of_fields r)) (one_field h l) ∙ lesser_bracketed (cond (is_like f h) h.id none) (of_fields l) (of_fields r))
 
-  one_spec : (s : plain.PartitionSpec) (l : List plain.PartitionSpec) → of_specs (s ∷ l) ≡ lesser (of_fields s.fields) (of_specs l)
+  pub one_spec : (s : plain.PartitionSpec) (l : List plain.PartitionSpec) → of_specs (s ∷ l) ≡ lesser (of_fields s.fields) (of_specs l)
   one_spec s l = like_append s.fields (fields_of_all l)
 
 -- ---- the loops: one more, joined to what was found before

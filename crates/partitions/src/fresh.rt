@@ -1,5 +1,5 @@
 // Fresh ids: a field that neither gives nor reuses an id takes the next number that no field of its spec has, from the last partition id on.
-ghost use Rattle.std.specs.Prelude.{◌≡◌, ℕ, suc, ◌<◌, ◌≤◌, true, false, List, [], ◌∷◌, ◌++◌, ℤ, pos, ◌+ℤ◌, length, get_or, take, MatchOption};
+ghost use Rattle.std.specs.Prelude.{◌≡◌, ℕ, suc, ◌+◌, ◌<◌, ◌≤◌, true, false, [], ◌∷◌, pos, ◌+ℤ◌, length, get_or, take, slice_set, MatchOption};
 ghost use Rattle.std.specs.Int.Signed.{lt_z};
 ghost use Rattle.std.specs.Int.{w32, w64};
 ghost use Rattle.std.proofs.Common.{SFits};
@@ -7,8 +7,9 @@ ghost use Rattle.rules.specs.Words.{any, larger as largerOf};
 ghost use Rattle.rules.specs.Capacities.{partition_field_room, largest_field_id};
 ghost use Rattle.rules.specs.Partitions.{partition_ids};
 ghost use Rattle.rules.specs.SpecUpdates.{next_free, fresh_ids, fresh_of, completed, is_sequential, first_partition_id, reaches};
-ghost use Rattle.rules.specs.Layout.{read_partition_field, read_partition_spec, laid_partition_spec};
+ghost use Rattle.rules.specs.Layout.{pad, read_partition_field, read_partition_spec, laid_partition_spec};
 ghost use Rattle.tables.specs.Laid.{LaidSpec};
+ghost use Rattle.partitions.specs.Gathered.{laid_ids};
 ghost use Rattle.partitions.specs.Numbering.{IsNumbered};
 ghost use Rattle.partitions.specs.Slots.{LaidField};
 
@@ -17,7 +18,6 @@ use records::capacities::PARTITION_FIELDS;
 use records::counters::FieldId;
 use records::partition::{PartitionField, PartitionSpec};
 use search::{Key, highest, is_below, is_in, larger, next};
-use std::marker::Model;
 use tables::keys::{field_id, field_key};
 
 const LARGEST_FIELD_ID: i64 = i32::MAX as i64;
@@ -28,24 +28,16 @@ const FIRST_PARTITION_ID: i64 = 1000;
 // The last partition id of a table that has none yet.
 const NO_PARTITION_ID: i64 = 999;
 
-// The ids of the fields that have one, in their order.
-#[derive(Drop)]
+// The ids of the fields that have one, in their order, and zeros after them.
+#[derive(Clone, Copy)]
 pub struct GivenIds {
-    ids: [i64; PARTITION_FIELDS],
-    count: usize,
-}
-
-impl Model for GivenIds {
-    ghost Value = { List ℤ };
-
-    ghost view = { λ given. take given.count given.ids };
-
-    ghost invariant = { λ given. given.count ≤ partition_field_room };
+    pub ids: [i64; PARTITION_FIELDS],
+    pub count: usize,
 }
 
 impl GivenIds {
     fn new() -> Self
-        ensures { result ≡ [] }
+        ensures { result ≡ laid_ids [] }
     {
         GivenIds {
             ids: [0; PARTITION_FIELDS],
@@ -54,25 +46,29 @@ impl GivenIds {
     }
 
     fn push(&mut self, id: i64)
-        requires { length self.old < partition_field_room }
-        ensures { self.new ≡ self.old ++ id ∷ [] }
+        requires { self.old.count < partition_field_room }
+        ensures ids { self.new.ids ≡ slice_set self.old.ids self.old.count id }
+        ensures count { self.new.count ≡ self.old.count + 1 }
     {
         self.ids[self.count] = id;
         self.count += 1;
     }
 
     pub fn as_slice(&self) -> &[i64]
-        ensures { result.now ≡ self.now }
+        ensures { result.now ≡ take self.now.count self.now.ids }
     {
-        &self.ids[..self.count]
+        &self.ids[..self.count.min(PARTITION_FIELDS)]
     }
 }
 
 pub fn given_ids(p: PartitionSpec) -> GivenIds
     requires { LaidSpec p }
-    ensures value { result ≡ partition_ids (read_partition_spec p) }
-    ensures short { length result ≤ partition_field_room }
-    ensures fits { (k : ℕ) → SFits w32 (get_or result k (pos 0)) }
+    ensures ids_value { result.ids ≡ pad partition_field_room (pos 0) (partition_ids (read_partition_spec p)) }
+    ensures count_value { result.count ≡ length (partition_ids (read_partition_spec p)) }
+    ensures by_index { (k : ℕ) → SFits w32 (get_or result.ids k (pos 0)) }
+    ensures value { take result.count result.ids ≡ partition_ids (read_partition_spec p) }
+    ensures short { result.count ≤ partition_field_room }
+    ensures fits { (k : ℕ) → SFits w32 (get_or (take result.count result.ids) k (pos 0)) }
 {
     let mut given = GivenIds::new();
     for field in fields_of(&p) {

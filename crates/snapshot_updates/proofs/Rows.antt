@@ -3,7 +3,7 @@ use Prim.Native.Nat.{ℕ}
 use mathlib.Core.Path.{◌≡◌, sym, ◌∙◌}
 use mathlib.Core.Bool.{true, false}
 use native.Mathlib.Omega.{arith}
-use borrow.Author.Tests.{eq-eqb}
+use borrow.Author.Tests.{eq-eqb, ne_eqb}
 use borrow.Table.Steps.{cases}
 use Rattle.records.specs.declared.metadata.SingleFields.{SingleFields}
 use Rattle.records.specs.declared.snapshot.Snapshot.{Snapshot}
@@ -16,6 +16,14 @@ use Rattle.snapshot_updates.specs.Snapshots.{row_checks}
 module _ (f : SingleFields) (s : Snapshot) where
   abbrev number : ℕ
   number = first_of (row_checks (read_snapshot s) (read_fields f))
+
+  -- below version 3
+  module _ (v : f.format_version ≡ 3 → ⊥) where
+    pub no_check : number ≡ 0
+    no_check = rw (ne_eqb f.format_version 3 v)
+
+    pub row_stays : f.next_row_id ≡ next_row_after (read_snapshot s) (read_fields f)
+    row_stays = cases s.has_rows (λ t. rw (t, ne_eqb f.format_version 3 v)) (λ n. rw n)
 
   module _ (v : f.format_version ≡ 3) where
     pub no_rows : s.has_rows ≡ false → number ≡ 10
