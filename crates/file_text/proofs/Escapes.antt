@@ -1,5 +1,6 @@
 -- Texts and uuids a byte at a time.
-use Rattle.std.proofs.Common.{◌≡◌, ℕ, ◌+◌, ◌≤◌, ◌<◌, List, [], ◌∷◌, ◌++◌, cond, length, get_or, drop, sym, ap, arith, add-one, one-add, drop-cons}
+use Rattle.std.proofs.Common.{◌≡◌, ℕ, ◌+◌, ◌≤◌, ◌<◌, List, [], ◌∷◌, ◌++◌, cond, length, get_or, drop, sym, ap, ◌∙◌, arith, add-one, one-add, drop-cons}
+use mathlib.Core.List.{append-nil, append_assoc}
 use lib.Dec.{eqb}
 use lib.ListN.{drop_of_length-le}
 use Rattle.rules.specs.Layout.{counted}
@@ -14,6 +15,11 @@ module _ (l : List ℕ) (n i : ℕ) where
 
   pub text_end : n ≤ i → [] ≡ escaped_bytes (drop i (counted 0 l n))
   text_end h = sym (ap escaped_bytes (drop_of_length-le (counted 0 l n) {i = i} (omega (arith, length_counted 0 l n))))
+
+-- one byte more at the end
+pub escaped_on : (l : List ℕ) (b : ℕ) → escaped_bytes (l ++ (b ∷ [])) ≡ escaped_bytes l ++ escaped_byte b
+escaped_on [] b = append-nil (escaped_byte b)
+escaped_on (x ∷ l) b = ap (λ (m : List ℕ). escaped_byte x ++ m) (escaped_on l b) ∙ sym (append_assoc (escaped_byte x) (escaped_bytes l) (escaped_byte b))
 
 -- the hyphen in front of a byte
 abbrev pub hyphen : ℕ → List ℕ

@@ -1,5 +1,5 @@
 -- A text with zeros behind it, byte by byte.
-use Prim.Native.Nat.{ℕ, zero, suc, ◌+◌, ◌-◌, ◌%◌, ◌≤◌, ◌<◌}
+use Prim.Native.Nat.{ℕ, zero, suc, ◌+◌, ◌%◌, ◌≤◌, ◌<◌}
 use mathlib.Core.Path.{◌≡◌, refl, sym, ap, ◌∙◌}
 use mathlib.Core.Bool.{cond}
 use mathlib.Core.List.{List, [], ◌∷◌, ◌++◌}
@@ -8,14 +8,12 @@ use native.Mathlib.Omega.{arith}
 use borrow.Author.Tests.{ltb-true, ltb-false}
 use borrow.Table.Steps.{cases}
 use lib.Dec.{ltb}
-use borrow.Rule.Slice.PartMut.{put_mid, mid_of, mid_len}
-use Rattle.std.proofs.Common.{min}
-use lib.ListN.{length, get_or, take, set, replicate, length-set, length-append, length-replicate, get_or-append}
-use lib.Seq.{sets, length-sets, length-take-le, get_or-take, ext_get_or}
+use lib.ListN.{length, get_or, drop, set, replicate, length-append, length-replicate, get_or-append}
+use lib.Seq.{sets, length-take-le, get_or-take}
 use Rattle.json_members.specs.Kept.{front}
 use Rattle.json_members.proofs.Fronts.{front_length, front_at}
 use Rattle.json_store.specs.Puts.{filled, put_text}
-use Rattle.json_store.proofs.Stores.{sets_append, put_stored}
+use Rattle.json_store.proofs.Stores.{sets_more, sets_done}
 
 pub filled_length : (room : ℕ) (bs : List ℕ) → length (filled room bs) ≡ room
 filled_length room bs = length-take-le room (bs ++ replicate room 0) (omega (arith, length-append bs (replicate room 0), length-replicate {A = ℕ} room 0))
@@ -37,44 +35,15 @@ filled_at room len kept i h =
     (λ t. rw t (get_or-append (front len kept) (replicate room 0) 0 i (omega (arith, front_length len kept, ltb-true i len t)) ∙ front_at len kept i (ltb-true i len t)))
     (λ f. rw f (behind_text (front len kept) room i (omega (arith, front_length len kept, ltb-false i len f))))
 
--- the bytes that are there, and zeros behind them
-pub filled_cut : (room len n : ℕ) (kept : List ℕ) → n ≡ min len room → n ≤ length kept → take n kept ++ replicate (room - n) 0 ≡ filled room (front len kept)
-filled_cut room len n kept e g =
-    let bytes = take n kept in
-    let zeros_behind = replicate {A = ℕ} (room - n) 0 in
-    let long : length bytes ≡ n = length-take-le n kept g in
-    let all : length (bytes ++ zeros_behind) ≡ room = omega (arith, length-append bytes zeros_behind, length-replicate {A = ℕ} (room - n) 0) in
-    ext_get_or 0 (bytes ++ zeros_behind) (filled room (front len kept)) (all ∙ sym (filled_length room (front len kept)))
-    (λ i h.
-    sym
-    (filled_at room len kept i (omega arith)
-    ∙ cases (ltb i len)
-    (λ t. let below = ltb-true i len t in rw t (sym (get_or-append bytes zeros_behind 0 i (omega arith) ∙ get_or-take n kept i 0 (omega arith))))
-    (λ f. let above = ltb-false i len f in rw f (sym (behind_text bytes (room - n) i (omega arith))))))
+module _ (room len : ℕ) (kept : List ℕ) where
+  pub text_more : (texts : List ℕ) (at i byte : ℕ) → i < room → byte ≡ cond (ltb i len) (get_or kept i 0) 0 → sets texts (at + 1 + i) (drop i (filled room (front len kept))) ≡ sets (set texts (at + 1 + i) byte) (at + 1 + (i + 1)) (drop (i + 1) (filled room (front len kept)))
+  text_more texts at i byte h e =
+      sets_more texts (at + 1) i (filled room (front len kept)) 0 byte (omega (arith, filled_length room (front len kept))) (e ∙ sym (filled_at room len kept i h))
 
-module _ (room len : ℕ) (kept texts : List ℕ) (at n : ℕ) (ys zs : List ℕ) (e : n ≡ min len room) (g : n ≤ length kept) (h : at + 1 + room ≤ length texts) where
-  abbrev copied : List ℕ
-  copied = put_mid (at + 1) (at + 1 + n - (at + 1)) (set texts at (len % 256)) ys
-
-  pub text_stored : ys ≡ take n kept → zs ≡ replicate (length (mid_of (at + 1 + n) (at + 1 + room - (at + 1 + n)) copied)) 0
-      → put_mid (at + 1 + n) (at + 1 + room - (at + 1 + n)) copied zs ≡ put_text at room kept len texts
+  pub text_end : (before texts : List ℕ) (at i : ℕ) → room ≤ i → sets (set before at (len % 256)) (at + 1) (filled room (front len kept)) ≡ sets texts (at + 1 + i) (drop i (filled room (front len kept))) → texts ≡ put_text at room kept len before
   unfolding put_text
-  text_stored ey ez =
-      let m : at + 1 + n - (at + 1) ≡ n = omega arith in
-      let k : at + 1 + room - (at + 1 + n) ≡ room - n = omega arith in
-      let long : length (take n kept) ≡ n = length-take-le n kept g in
-      let start = set texts at (len % 256) in
-      let zeros_behind = replicate {A = ℕ} (room - n) 0 in
-      let stored = sets start (at + 1) (take n kept) in
-      let there : copied ≡ stored = rw (ey, m) (put_stored (at + 1) n start (take n kept) long (omega (arith, length-set texts at (len % 256)))) in
-      let fits : at + 1 + room ≤ length stored = omega (arith, length-sets start (at + 1) (take n kept), length-set texts at (len % 256)) in
-      let cut : zs ≡ zeros_behind = ez ∙ ap (λ (j : ℕ). replicate {A = ℕ} j 0) (mid_len (at + 1 + n) (at + 1 + room) copied (omega (arith, ap length there)) ∙ k) in
-      let behind = put_stored (at + 1 + n) (room - n) stored zeros_behind (length-replicate {A = ℕ} (room - n) 0) (omega arith) in
-      let both = ap (λ (j : ℕ). sets stored (at + 1 + j) zeros_behind) (sym long) ∙ sym (sets_append start (at + 1) (take n kept) zeros_behind) in
-      ap (λ (l : List ℕ). put_mid (at + 1 + n) (at + 1 + room - (at + 1 + n)) l zs) there
-      ∙ ap (λ (l : List ℕ). put_mid (at + 1 + n) (at + 1 + room - (at + 1 + n)) stored l) cut
-      ∙ ap (λ (j : ℕ). put_mid (at + 1 + n) j stored zeros_behind) k
-      ∙ behind
-      ∙ both
-      ∙ ap (λ (l : List ℕ). sets start (at + 1) l) (filled_cut room len n kept e g)
-      ∙ ap (λ (p : ℕ). sets start p (filled room (front len kept))) (add-one at)
+  text_end before texts at i h e =
+      sym
+      (ap (λ (p : ℕ). sets (set before at (len % 256)) p (filled room (front len kept))) (sym (add-one at))
+      ∙ e
+      ∙ sets_done texts (at + 1 + i) i (filled room (front len kept)) (omega (arith, filled_length room (front len kept))))

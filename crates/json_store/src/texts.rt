@@ -27,14 +27,16 @@ pub const TEXTS: usize = 1731;
 pub type Texts = [u8; TEXTS];
 
 // Its length, its bytes, and zeros up to its room.
+// Kept: byte by byte. Slices that are copied here are compiled to `memmove`, which a caller of the archive for C would have to bring (docs/LOOK-BACK.md).
 pub(crate) fn put_text(texts: &mut Texts, at: usize, room: usize, kept: &Kept, len: usize)
     requires { (at ≤ 146) × (room ≤ 96) }
     ensures { texts.new ≡ put_text at room kept.now len texts.old }
 {
     texts[at] = (len % 256) as u8;
-    let held = len.min(room);
-    texts[at + 1..at + 1 + held].copy_from_slice(&kept[..held]);
-    texts[at + 1 + held..at + 1 + room].fill(0);
+    for i in 0..room {
+        let byte = if i < len { kept[i] } else { 0 };
+        texts[at + 1 + i] = byte;
+    }
 }
 
 pub(crate) fn put_uuid(texts: &mut Texts, kept: &Kept)
