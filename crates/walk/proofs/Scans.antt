@@ -16,6 +16,17 @@ use Rattle.rules.specs.Walk.{lists_formed}
 use Rattle.rules.proofs.Orders.{numbers_told}
 use Rattle.rules.proofs.Tables.{all_head, all_tail}
 use Rattle.walk.specs.Lists.{ids_formed}
+use Rattle.walk.proofs.Bits.{eq_z_same, eq_z_other}
+
+module _ (l : List ℤ) (i : ℕ) (x : ℤ) where
+  pub in_here : i < length l → get_or l i (pos 0) ≡ x → is_in (drop i l) x ≡ true
+  in_here h e = rw (drop-cons l i (pos 0) h, eq_z_same x (get_or l i (pos 0)) (sym e))
+
+  pub in_rest : i < length l → (get_or l i (pos 0) ≡ x → ⊥) → is_in (drop i l) x ≡ is_in (drop (i + 1) l) x
+  in_rest h e = rw (drop-cons l i (pos 0) h, eq_z_other x (get_or l i (pos 0)) (λ q. e (sym q)), add-one)
+
+  pub in_none : length l ≤ i → is_in (drop i l) x ≡ false
+  in_none h = rw (drop_of_length-le l h)
 
 -- one for which a test fails is none of those for which it holds
 pub not_in : (p : ℤ → Bool) (x : ℤ) (l : List ℤ) → p x ≡ false → all p l ≡ true → is_in l x ≡ false

@@ -10,7 +10,7 @@ ghost use Rattle.rules.specs.Walk.{Listed, ancestors, walk_buffer};
 ghost use Rattle.walk.specs.Answers.{refusal, walked};
 ghost use Rattle.walk.specs.Lists.{NoneBelow};
 
-use lists::{ascend, lists_formed};
+use lists::{ascend, is_in, lists_formed};
 use records::capacities::SNAPSHOTS;
 use records::replies::{ACCEPTED, BUFFER_TOO_SHORT, LISTS_NOT_FORMED, MET_TWICE};
 use step::{given, step};
@@ -57,7 +57,7 @@ fn is_listed(path: &[i64], least: i64, id: i64) -> bool
     if id < least {
         return false;
     }
-    path.contains(&id)
+    is_in(path, id)
 }
 
 // From `start`, itself first, parent by parent, to the excluded id if one is given. Serves `ancestors_of` and `ancestors_between`.

@@ -15,13 +15,13 @@ pub returns-then-is_in : goal.returns-then-is_in
 returns-then-is_in c =
     let ids = c.args.ids.now in
     let i = c.loop-i.i in
-    let found : is_in (drop (i + 1) ids) (get_or ids i (pos 0)) ≡ true = rw (after ids i) at (sym c.is_in.ensures ∙ c.if-is_in.true) in
-    sym (c.loop-i.invariant ∙ formed_twice ids i (omega arith) found)
+    let found : is_in (take (length ids - (i + 1)) (drop (i + 1) ids)) (get_or ids i (pos 0)) ≡ true = search rules in
+    sym (c.loop-i.invariant ∙ formed_twice ids i (omega arith) (rw (after ids i) at found))
 
 pub loop-i-preserved : goal.loop-i-preserved
 loop-i-preserved c =
     let ids = c.args.ids.now in
     let i = c.loop-i.i in
-    let found : is_in (drop (i + 1) ids) (get_or ids i (pos 0)) ≡ false = rw (after ids i) at (sym c.is_in.ensures ∙ c.if-is_in.false) in
+    let found : is_in (take (length ids - (i + 1)) (drop (i + 1) ids)) (get_or ids i (pos 0)) ≡ false = search rules in
     let sign : non_neg (get_or ids i (pos 0)) ≡ true = search (rules, not_negative) in
-    c.loop-i.invariant ∙ formed_rest ids i (omega arith) sign found
+    c.loop-i.invariant ∙ formed_rest ids i (omega arith) sign (rw (after ids i) at found)
