@@ -6,8 +6,8 @@ ghost use Rattle.walk.specs.Lists.{ids_formed, rising};
 
 use records::capacities::SNAPSHOTS;
 
-// Whether the id is one of them. Not by `contains`, which compares four ids at a time and then the rest: over lists as short as these
-// cachegrind counts two thirds more branches that are guessed wrong, and walks over ids in no order took longer.
+// Whether the id is one of them, as `search::is_in`, but not by `contains`. That compares four ids at a time and then the rest: over lists as
+// short as these cachegrind counts two thirds more branches that are guessed wrong, and walks over ids in no order took longer.
 #[tactic(auto, using(crate::proofs::Scans::in_here, crate::proofs::Scans::in_rest, crate::proofs::Scans::in_none))]
 pub fn is_in(ids: &[i64], id: i64) -> bool
     ensures { result ≡ is_in ids.now id }
